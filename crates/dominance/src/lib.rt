@@ -1,0 +1,1 @@
+// Dominance of one quote over another (01: beats).

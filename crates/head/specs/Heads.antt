@@ -1,0 +1,24 @@
+-- The head of a book: fresh, judged, and after an accepted quote.
+use Prim.Native.Nat.{ℕ, _+_, _/_, _^_}
+use mathlib.Core.Bool.{Bool, _&&_, cond}
+use lib.Dec.{leb, ltb, eqb}
+use Rattle.head.specs.declared.Head.{Head}
+
+-- the largest position a book takes
+abbrev pub lastPosition : ℕ
+lastPosition = 16777215
+
+-- the head of a book that was opened with these settings and has taken no quote
+abbrev pub freshHead : ℕ → ℕ → ℕ → Head
+freshHead d N directions = record { dimensions = d; capacity = N; directions = directions; newest = 0; rows = 0 }
+
+-- d from 1 to 6, N from 1 to 1,024, and no bit of the directions at d or above
+unfoldable pub settingsHold : ℕ → ℕ → ℕ → Bool
+settingsHold d N directions = (leb 1 d && leb d 6) && (leb 1 N && leb N 1024) && eqb (directions / 2 ^ d) 0
+
+-- the head after an accepted quote that leaves this many rows; a head at the last position stays
+unfoldable pub afterQuote : Head → ℕ → Head
+afterQuote h rows =
+    cond (ltb (h .newest) lastPosition)
+    (record { dimensions = h .dimensions; capacity = h .capacity; directions = h .directions; newest = h .newest + 1; rows = rows })
+    h

@@ -1,0 +1,34 @@
+-- The refusals' numbers, and the answer of a call that tests its conditions in order.
+use Prim.Native.Nat.{ℕ}
+use mathlib.Core.Bool.{Bool, true, false, cond}
+use mathlib.Core.List.{List, [], _∷_}
+use Rattle.head.specs.declared.Refusal.{Refusal}
+use Rattle.head.specs.declared.Refusal.the-variants.{UnknownKind, CutFrame, Settings, ColumnCount, WindowSize, TapeFull, OutOfPlace, AlreadyWatched, NoFreeRecord, NotWatched, ShortLoan, Torn, ShortOutput}
+use Rattle.head.specs.declared.Answer.{Answer}
+use Rattle.head.specs.declared.Answer.the-variants.{Accepted, Refused}
+
+-- 01's number of a refusal
+abbrev pub number : Refusal → ℕ
+number UnknownKind = 1
+number CutFrame = 2
+number Settings = 3
+number ColumnCount = 4
+number WindowSize = 5
+number TapeFull = 6
+number OutOfPlace = 7
+number AlreadyWatched = 8
+number NoFreeRecord = 9
+number NotWatched = 10
+number ShortLoan = 11
+number Torn = 12
+number ShortOutput = 13
+
+-- the first refusal whose condition holds, or Accepted where none does
+unfoldable pub first : List (Bool × Refusal) → Answer
+first [] = Accepted
+first (c ∷ cs) = cond (c .0) (Refused (c .1)) (first cs)
+
+-- a where the call is accepted, r where it is refused
+unfoldable pub settled : {A : Type 0} → Answer → A → A → A
+settled Accepted a r = a
+settled (Refused k) a r = r

@@ -1,0 +1,152 @@
+// The head of a book with its limits, the refusals with their numbers, and the replies of the calls.
+ghost use mathlib.Core.Path.{_≡_};
+ghost use Rattle.skyline.specs.Skyline.{windowStart};
+ghost use Rattle.head.specs.Refusals.{number};
+ghost use Rattle.head.specs.Heads.{freshHead, settingsHold, afterQuote};
+
+// Why a call is refused (01: a no). The numbers are 01's.
+pub enum Refusal {
+    UnknownKind,
+    CutFrame,
+    Settings,
+    ColumnCount,
+    WindowSize,
+    TapeFull,
+    OutOfPlace,
+    AlreadyWatched,
+    NoFreeRecord,
+    NotWatched,
+    ShortLoan,
+    Torn,
+    ShortOutput,
+}
+
+impl Refusal {
+    // The number of the refusal.
+    pub fn number(self) -> u32
+        ensures { λ r. ⌜ r ≡ number self ⌝ }
+    {
+        match self {
+            Refusal::UnknownKind => 1,
+            Refusal::CutFrame => 2,
+            Refusal::Settings => 3,
+            Refusal::ColumnCount => 4,
+            Refusal::WindowSize => 5,
+            Refusal::TapeFull => 6,
+            Refusal::OutOfPlace => 7,
+            Refusal::AlreadyWatched => 8,
+            Refusal::NoFreeRecord => 9,
+            Refusal::NotWatched => 10,
+            Refusal::ShortLoan => 11,
+            Refusal::Torn => 12,
+            Refusal::ShortOutput => 13,
+        }
+    }
+}
+
+// Whether a call did what it was asked, or why not.
+pub enum Answer {
+    Accepted,
+    Refused(Refusal),
+}
+
+// What the audit says of a saved book.
+pub enum Verdict {
+    Yes,
+    No,
+    Refused(Refusal),
+}
+
+// What a call hands back: its answer, the head for the next call, and how many bytes or positions it wrote.
+pub struct Reply {
+    pub answer: Answer,
+    pub head: Head,
+    pub count: usize,
+}
+
+// The head of a book: its settings (01: d, N, directions), the newest position (01: M) and the number of rows.
+pub struct Head {
+    pub dimensions: u32,
+    pub capacity: u32,
+    pub directions: u32,
+    pub newest: u32,
+    pub rows: u32,
+}
+
+impl Head {
+    pub const MAX_DIMENSIONS: u32 = 6;
+
+    pub const MAX_CAPACITY: u32 = 1024;
+
+    pub const MAX_POSITION: u32 = 16777215;
+
+    // The head of a book that has just been opened with these settings.
+    pub fn fresh(dimensions: u32, capacity: u32, directions: u32) -> Head
+        ensures { λ r. ⌜ r ≡ freshHead dimensions capacity directions ⌝ }
+    {
+        Head {
+            dimensions,
+            capacity,
+            directions,
+            newest: 0,
+            rows: 0,
+        }
+    }
+
+    // Whether the settings are within the limits.
+    pub fn settings_hold(self) -> bool
+        ensures { λ r. ⌜ r ≡ settingsHold (self .dimensions) (self .capacity) (self .directions) ⌝ }
+    {
+        let d = self.dimensions;
+        let n = self.capacity;
+        if d < 1 {
+            return false;
+        }
+        if Head::MAX_DIMENSIONS < d {
+            return false;
+        }
+        if n < 1 {
+            return false;
+        }
+        if Head::MAX_CAPACITY < n {
+            return false;
+        }
+        self.directions >> d == 0
+    }
+
+    // The first position of the window of n.
+    pub fn window_start(self, n: u32) -> u64
+        ensures { λ r. ⌜ r ≡ windowStart (self .newest) n ⌝ }
+    {
+        let newest = self.newest as u64;
+        let size = n as u64;
+        if newest < size {
+            return 1;
+        }
+        newest - size + 1
+    }
+
+    // The head after an accepted quote that leaves this many rows; at the last position no quote is taken.
+    pub fn after_quote(self, rows: u32) -> Head
+        ensures { λ r. ⌜ r ≡ afterQuote self rows ⌝ }
+    {
+        let newest = self.newest;
+        if Head::MAX_POSITION <= newest {
+            return self;
+        }
+        Head {
+            dimensions: self.dimensions,
+            capacity: self.capacity,
+            directions: self.directions,
+            newest: newest + 1,
+            rows,
+        }
+    }
+
+    // The head after a watch was set or ended.
+    pub fn after_watch(self) -> Head
+        ensures { λ r. ⌜ r ≡ self ⌝ }
+    {
+        self
+    }
+}

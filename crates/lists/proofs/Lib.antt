@@ -1,0 +1,7 @@
+-- The laws of the crate.
+pub mod Booleans
+pub mod Filters
+pub mod Members
+pub mod Runs
+pub mod Rising
+pub mod Writing

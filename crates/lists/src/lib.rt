@@ -1,0 +1,1 @@
+// Lists by a test, runs of numbers and lists written in place: definitions (specs/) and laws (proofs/).

@@ -1,0 +1,89 @@
+-- The audit's rules, and the tape that leaves a book.
+use mathlib.Core.Path.{_≡_}
+use Prim.Native.Nat.{ℕ, zero, suc, _-_, _*_, _≤_}
+use mathlib.Core.Bool.{Bool, true, false, _&&_, not, cond}
+use mathlib.Core.List.{List, [], _∷_, map}
+use lib.Dec.{ltb, eqb}
+use lib.ListN.{length, getD, take, drop}
+use Rattle.lists.specs.Lists.{filter, any, lastOr, run, between, contains}
+use Rattle.dominance.specs.Dominance.{higher, dominates}
+use Rattle.skyline.specs.Skyline.{windowStart}
+use Rattle.head.specs.declared.Head.{Head}
+use Rattle.head.specs.declared.Answer.{Answer}
+use Rattle.head.specs.declared.Answer.the-variants.{Accepted, Refused}
+use Rattle.head.specs.declared.Verdict.{Verdict}
+use Rattle.head.specs.declared.Verdict.the-variants.{Yes, No}
+use Rattle.head.specs.declared.Refusal.the-variants.{Settings, ShortLoan}
+use Rattle.head.specs.Refusals.{first}
+use Rattle.head.specs.Heads.{settingsHold}
+use Rattle.model.specs.Rows.{Row, Tables, filled}
+use Rattle.model.specs.Reference.{Reference, Fed, opening, headOf, rowsOf, referenceStep}
+use Rattle.model.specs.Book.{shortTables, tornRows, bookRows}
+
+-- the largest value of a column
+abbrev pub largest : ℕ
+largest = 4294967295
+
+-- the worst value of column i
+unfoldable pub worstAt : ℕ → ℕ → ℕ
+worstAt directions i = cond (higher directions i) 0 largest
+
+-- the worst quote in every column below d
+unfoldable pub isWorst : ℕ → ℕ → List ℕ → Bool
+isWorst d directions x = not (any (λ i. not (eqb (getD x i 0) (worstAt directions i))) (run 0 d))
+
+-- the cells from one place up to another are 0
+unfoldable pub zeroFrom : ℕ → ℕ → List ℕ → Bool
+zeroFrom a b cells = not (any (ltb 0) (take (b - a) (drop a cells)))
+
+module _ (d directions : ℕ) (rs : List Row) where
+  -- a younger row dominates this one
+  unfoldable pub outdone : Row → Bool
+  outdone r = any (λ q. ltb (r .position) (q .position) && dominates d directions (q .columns) (r .columns)) rs
+
+  -- the lower end that this row is to have: the youngest older row that dominates it, or 0
+  unfoldable pub rightEnd : Row → ℕ
+  rightEnd r = lastOr 0 (map Row.position (filter (λ q. ltb (q .position) (r .position) && dominates d directions (q .columns) (r .columns)) rs))
+
+  -- this position has no row, and no later row is other than the worst quote
+  unfoldable pub unexplained : ℕ → Bool
+  unexplained p = not (contains p (map Row.position rs)) && not (any (λ q. ltb p (q .position) && not (isWorst d directions (q .columns))) rs)
+
+-- the rules of the audit, on a head and tables that are not refused
+unfoldable pub passes : Head → Tables → Bool
+passes h t =
+    let d = h .dimensions in
+    let N = h .capacity in
+    let rs = bookRows h t in
+    not (tornRows h rs)
+    && not (any (outdone d (h .directions) rs) rs)
+    && not (any (λ r. not (eqb (r .lowerEnd) (rightEnd d (h .directions) rs r))) rs)
+    && (zeroFrom (h .rows * d) (N * d) (t .columns) && zeroFrom (h .rows) N (t .positions) && zeroFrom (h .rows) N (t .lowerEnds))
+    && not (any (unexplained d (h .directions) rs) (between (windowStart (h .newest) N) (h .newest)))
+
+-- yes or no, unless refused
+unfoldable pub verdictOf : Answer → Bool → Verdict
+verdictOf Accepted true = Yes
+verdictOf Accepted false = No
+verdictOf (Refused k) b = Verdict.Refused k
+
+-- what the audit says: 3, then 11, else by its rules
+unfoldable pub auditVerdict : Head → Tables → Verdict
+auditVerdict h t =
+    verdictOf
+    (first ((not (settingsHold (h .dimensions) (h .capacity) (h .directions)), Settings) ∷ (shortTables t (h .dimensions) (h .capacity), ShortLoan) ∷ []))
+    (passes h t)
+
+-- the reference model after these quotes, with no watch standing
+unfoldable pub plays : List (List ℕ) → Reference → Reference
+plays [] s = s
+plays (x ∷ xs) s = plays xs (referenceStep (Fed.Quote x 0) s .next)
+
+-- a tape of M quotes that leaves this head and these N places of each table, from an opening with the head's settings; that the
+-- newest position is M says that every quote was accepted
+pub record Tape (h : Head) (t : Tables) : Type 0 where
+  pub quotes : List (List ℕ)
+  pub values : (k i : ℕ) → getD (getD quotes k []) i 0 ≤ largest
+  pub count : length quotes ≡ h .newest
+  pub head : headOf (plays quotes (opening (h .dimensions) (h .capacity) (h .directions))) ≡ h
+  pub tables : filled (h .dimensions) (h .capacity) (rowsOf (plays quotes (opening (h .dimensions) (h .capacity) (h .directions)))) t ≡ t

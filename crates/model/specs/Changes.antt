@@ -1,0 +1,24 @@
+-- Changes of a watched skyline, as messages and as bytes.
+use Prim.Native.Nat.{ℕ}
+use mathlib.Core.Bool.{Bool, not}
+use mathlib.Core.List.{List, [], _∷_, _++_, map}
+use Rattle.lists.specs.Lists.{filter, flat, contains}
+use Rattle.frames.specs.declared.Message.{Message}
+use Rattle.frames.specs.declared.Message.the-variants.{Leave, Join}
+use Rattle.frames.specs.Frames.{frame}
+
+-- the positions of the first list that are not on the second
+unfoldable pub missing : List ℕ → List ℕ → List ℕ
+missing these those = filter (λ p. not (contains p those)) these
+
+-- the changes of the watch of n from the list before to the list after: the leaves, then the joins, each rising
+unfoldable pub changes : ℕ → List ℕ → List ℕ → List Message
+changes n before after = map (Leave n) (missing before after) ++ map (Join n) (missing after before)
+
+-- the changes of every watch, n rising as the watches do
+unfoldable pub allChanges : List ℕ → (ℕ → List ℕ) → (ℕ → List ℕ) → List Message
+allChanges watched before after = flat (map (λ n. changes n (before n) (after n)) watched)
+
+-- the frames of messages without columns, each behind the one before
+unfoldable pub frames : List Message → List ℕ
+frames ms = flat (map (λ m. frame m []) ms)

@@ -1,0 +1,8 @@
+-- The definitions of the crate, in reading order.
+pub mod Rows
+pub mod Changes
+pub mod Reference
+pub mod Book
+pub mod Calls
+pub mod Watcher
+pub mod Audit

@@ -1,0 +1,63 @@
+-- A watcher of n: reads the frames that the calls write, and applies the changes of its n.
+use Prim.Native.Nat.{ℕ, zero, suc}
+use mathlib.Core.Bool.{cond}
+use mathlib.Core.List.{List, [], _∷_}
+use lib.Dec.{eqb}
+use lib.ListN.{length, take}
+use Rattle.lists.specs.Lists.{insert, without}
+use Rattle.head.specs.Refusals.{settled}
+use Rattle.frames.specs.declared.Message.{Message}
+use Rattle.frames.specs.declared.Message.the-variants.{Quote, Look, Watch, Unwatch, Leave, Join, Open, End, Refused}
+use Rattle.frames.specs.Frames.{framed, readAt}
+use Rattle.model.specs.Calls.{Call, Seen, World, bookStep}
+
+-- the messages read from a place on, at most k, up to the end of the tape or what cannot be read
+unfoldable pub messagesFrom : ℕ → List ℕ → ℕ → List Message
+messagesFrom zero tape place = []
+messagesFrom (suc k) tape place =
+    let read = readAt tape place in
+    cond (framed (read .message)) (read .message ∷ messagesFrom k tape (read .next)) []
+
+-- the list that the watcher of n holds after a message
+unfoldable pub heeds : ℕ → List ℕ → Message → List ℕ
+heeds n held (Quote k) = held
+heeds n held (Look m) = held
+heeds n held (Watch m) = held
+heeds n held (Unwatch m) = held
+heeds n held (Leave m p) = cond (eqb m n) (without p held) held
+heeds n held (Join m p) = cond (eqb m n) (insert p held) held
+heeds n held (Open d N directions) = held
+heeds n held End = held
+heeds n held (Refused k) = held
+
+-- the list that the watcher of n holds after messages
+unfoldable pub heedsAll : ℕ → List ℕ → List Message → List ℕ
+heedsAll n held [] = held
+heedsAll n held (m ∷ ms) = heedsAll n (heeds n held m) ms
+
+-- what a watcher holds: nothing while its n is not watched, else a list
+pub data Held : Type 0 where
+  Nothing : Held
+  Holding : List ℕ → Held
+
+-- what is held after the frames that a call wrote
+unfoldable pub reads : ℕ → Seen → Held → Held
+reads n seen Nothing = Nothing
+reads n seen (Holding held) =
+    let bytes = take (seen .reply .count) (seen .out) in
+    Holding (heedsAll n held (messagesFrom (length bytes) bytes 0))
+
+-- what is held after a call: an accepted watch of n begins with the empty list, its accepted end or an accepted opening ends it
+unfoldable pub watcherStep : ℕ → Call → Seen → Held → Held
+watcherStep n (Call.Open d N directions) seen held = settled (seen .reply .answer) Nothing held
+watcherStep n (Call.Quote x out) seen held = reads n seen held
+watcherStep n (Call.Look m out) seen held = held
+watcherStep n (Call.Watch m out) seen held = reads n seen (settled (seen .reply .answer) (cond (eqb m n) (Holding []) held) held)
+watcherStep n (Call.End m) seen held = settled (seen .reply .answer) (cond (eqb m n) Nothing held) held
+
+-- what the watcher of n holds after a list of calls on the book
+unfoldable pub watcher : ℕ → List Call → World → Held → Held
+watcher n [] w held = held
+watcher n (c ∷ cs) w held =
+    let one = bookStep c w in
+    watcher n cs (one .1) (watcherStep n c (one .0) held)
