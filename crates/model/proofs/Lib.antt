@@ -1,2 +1,4 @@
 -- The theorems of the crate.
 pub mod Quotes
+pub mod Tables
+pub mod Sound

@@ -48,7 +48,7 @@ skyline-listed s n h k =
 
 -- ---- the window that moves on
 
-module _ (M N : ℕ) (some : 1 ≤ N) where
+module _ (M N : ℕ) where
   -- of the positions of the window before a quote, the window after it leaves out the one that expires
   expires : (p : ℕ) → windowStart M N ≤ p → leb (windowStart (suc M) N) p ≡ not (eqb p (expiring M N))
   unfolding windowStart expiring
@@ -144,7 +144,7 @@ module _ (s : Reference) (x : List ℕ) (some : 1 ≤ s .capacity) where
       filter-map (remains (s .dimensions) (s .directions) x g) (rowOf s) (rows (over s) S M)
       ∙ ap (map (rowOf s)) (
       ap (filter f) (sym (rows-cong D (over s) S M unchanged))
-      ∙ filter-same-on (undominated D M) f (stays D S' (suc M)) S (suc M - S) (λ q u v t. rw (expires M (s .capacity) some q u, quote-new, quote-old q (omega (arith, low)) (omega arith)))
+      ∙ filter-same-on (undominated D M) f (stays D S' (suc M)) S (suc M - S) (λ q u v t. rw (expires M (s .capacity) q u, quote-new, quote-old q (omega (arith, low)) (omega arith)))
       ∙ left-over D S S' M onward inward
       )
     where
@@ -162,7 +162,7 @@ module _ (s : Reference) (x : List ℕ) (some : 1 ≤ s .capacity) where
   old-lower : (p : ℕ) → S ≤ p → S' ≤ p → p ≤ M → undominated D (suc M) p ≡ true → lowerEnd D S' (suc M) p ≡ renamed g (lowerEnd (over s) S M p)
   old-lower p h u v t =
       lower-step D irr tra S S' M p onward u v t
-      ∙ resets M (s .capacity) some D p (lowerEnd D S M p) (row-lower D irr tra S M p h v (before p v t))
+      ∙ resets M (s .capacity) D p (lowerEnd D S M p) (row-lower D irr tra S M p h v (before p v t))
       ∙ ap (renamed g) (lower-cong D (over s) S M unchanged p h v)
 
   -- a row that stays
