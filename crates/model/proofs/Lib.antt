@@ -2,3 +2,6 @@
 pub mod Quotes
 pub mod Tables
 pub mod Sound
+pub mod Joined
+pub mod Opening
+pub mod Watching
