@@ -4,4 +4,6 @@ pub mod Tables
 pub mod Sound
 pub mod Joined
 pub mod Opening
+pub mod Quoting
 pub mod Watching
+pub mod Replay
