@@ -1,0 +1,9 @@
+-- The theorems of the crate.
+pub mod Quotes
+pub mod Tables
+pub mod Sound
+pub mod Joined
+pub mod Opening
+pub mod Quoting
+pub mod Watching
+pub mod Replay
