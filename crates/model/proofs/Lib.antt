@@ -1,2 +1,4 @@
 -- The theorems of the crate.
 pub mod Worst
+pub mod Plays
+pub mod AuditTables

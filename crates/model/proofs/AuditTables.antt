@@ -1,0 +1,153 @@
+-- Rows in tables: what is filled in is read back, and tables whose rows were read and that hold zeros behind them are as if filled.
+use mathlib.Core.Path.{_≡_, refl, sym, ap, ap₂, _∙_}
+use Prim.Native.Nat.{ℕ, zero, suc, _+_, _-_, _*_, _≤_, _<_}
+use native.Mathlib.Omega.{arith}
+use native.Mathlib.Nat.{zero-add, zero-mul, suc-mul, add-comm, mul-le-mul-right}
+use mathlib.Core.Bool.{Bool, true, false, not}
+use mathlib.Core.List.{List, [], _∷_, _++_, map, append-assoc, List·Memᴰ, List·Memᴰ·head, List·Memᴰ·tail}
+use lib.Dec.{ltb}
+use lib.ListN.{length, getD, take, drop, replicate, length-append, length-map, length-replicate, length-drop, take-append-drop, List·getD-append, List·getD-map}
+use lib.Seq.{length-take-le, take-append-seam, drop-append-seam, take-at, drop-append-add, drop-cons, take-add, drop-drop, ext-getD}
+use borrow.Author.Tests.{ltb-false, not-true}
+use Rattle.lists.specs.Lists.{any, flat, run, padded}
+use Rattle.lists.proofs.Booleans.{none-left, none-right}
+use Rattle.lists.proofs.Filters.{map-map}
+use Rattle.lists.proofs.Runs.{length-run, getD-run}
+use Rattle.model.specs.Rows.{Row, Tables, rowAt, rowsIn, filled}
+use Rattle.model.specs.Audit.{zeroFrom}
+
+-- ---- cells of one table
+
+no-zeros : (k : ℕ) → any (ltb 0) (replicate k 0) ≡ false
+unfolding any
+no-zeros zero = refl
+no-zeros (suc k) = no-zeros k
+
+all-zeros : (l : List ℕ) → any (ltb 0) l ≡ false → l ≡ replicate (length l) 0
+unfolding any
+all-zeros [] e = refl
+all-zeros (zero ∷ xs) e = ap (λ (r : List ℕ). 0 ∷ r) (all-zeros xs e)
+all-zeros (suc x ∷ xs) e =
+    absurd (let h = ltb-false 0 (suc x) (none-left (ltb 0 (suc x)) (any (ltb 0) xs) e) in omega arith)
+
+-- what was written over the front, with zeros behind, has zeros behind
+padded-zero : (n : ℕ) (l cells : List ℕ) → padded n l cells ≡ cells → zeroFrom (length l) n cells ≡ true
+unfolding padded zeroFrom
+padded-zero n l cells e =
+    rw (← e, drop-append-seam l, take-at (replicate (n - length l) 0) (drop n cells) (n - length l) (length-replicate {A = ℕ} (n - length l) 0), no-zeros)
+
+-- and room for n cells
+padded-room : (n : ℕ) (l cells : List ℕ) → padded n l cells ≡ cells → n ≤ length cells
+unfolding padded
+padded-room n l cells e = omega (arith, simp (length-append, length-replicate) at (ap length e))
+
+-- cells with zeros from k to n are as if their first k had been written over them
+padded-same : (n k : ℕ) (cells : List ℕ) → k ≤ n → n ≤ length cells → zeroFrom k n cells ≡ true → padded n (take k cells) cells ≡ cells
+unfolding padded zeroFrom
+padded-same n k cells h room e =
+    rw (length-take-le k cells (omega arith), ← zeros) (ap (λ (r : List ℕ). take k cells ++ r) rest ∙ take-append-drop k cells)
+  where
+    M : List ℕ
+    M = take (n - k) (drop k cells)
+
+    zeros : M ≡ replicate (n - k) 0
+    zeros = all-zeros M (not-true (any (ltb 0) M) e) ∙ ap (λ (j : ℕ). replicate j 0) (length-take-le (n - k) (drop k cells) (simp length-drop (omega arith)))
+
+    rest : M ++ drop n cells ≡ drop k cells
+    rest =
+        let j : n ≡ k + (n - k) = omega arith in
+        ap (λ (i : ℕ). M ++ drop i cells) j ∙ ap (λ (r : List ℕ). M ++ r) (sym (drop-drop (n - k) k cells)) ∙ take-append-drop (n - k) (drop k cells)
+
+-- ---- rows
+
+-- every row has d columns
+abbrev pub WideRows : ℕ → List Row → Type 0
+WideRows d rs = (r : Row) → List·Memᴰ r rs → length (r .columns) ≡ d
+
+module _ (z : Row) where
+  cell-at : (f : Row → ℕ) (rs : List Row) (more : List ℕ) (i : ℕ) → i < length rs → getD (map f rs ++ more) i 0 ≡ f (getD rs i z)
+  cell-at f [] more i h = absurd (omega arith)
+  cell-at f (r ∷ rs) more zero h = refl
+  cell-at f (r ∷ rs) more (suc i) h = cell-at f rs more i (omega arith)
+
+  columns-at : (d : ℕ) (rs : List Row) (more : List ℕ) (i : ℕ) → WideRows d rs → i < length rs
+      → take d (drop (i * d) (flat (map Row.columns rs) ++ more)) ≡ getD rs i z .columns
+  unfolding flat
+  columns-at d [] more i wide h = absurd (omega arith)
+  columns-at d (r ∷ rs) more zero wide h = rw (zero-mul, append-assoc) (take-at (r .columns) (flat (map Row.columns rs) ++ more) d (wide r (List·Memᴰ·head refl)))
+  columns-at d (r ∷ rs) more (suc i) wide h =
+      let e : suc i * d ≡ length (r .columns) + i * d = rw (wide r (List·Memᴰ·head refl), suc-mul) (add-comm (i * d) d) in
+      rw (e, append-assoc, drop-append-add) (columns-at d rs more i (λ q m. wide q (List·Memᴰ·tail m)) (omega arith))
+
+  -- the rows that were filled in are read back
+  filled-rows-at : (d N : ℕ) (rs : List Row) (t : Tables) → WideRows d rs → rowsIn d (length rs) (filled d N rs t) ≡ rs
+  unfolding rowsIn filled padded rowAt
+  filled-rows-at d N rs t wide =
+      ext-getD z (rowsIn d (length rs) (filled d N rs t)) rs len
+      (λ i h. let k : i < length rs = omega (arith, len) in
+      getD-run (rowAt d (filled d N rs t)) z 0 (length rs) i k ∙ rw (zero-add, cell-at Row.position rs, cell-at Row.lowerEnd rs, columns-at d rs))
+    where
+      len : length (rowsIn d (length rs) (filled d N rs t)) ≡ length rs
+      len = length-map (run 0 (length rs)) (rowAt d (filled d N rs t)) ∙ length-run 0 (length rs)
+
+-- the rows that were filled in are read back
+pub filled-rows : (d N : ℕ) (rs : List Row) (t : Tables) → WideRows d rs → rowsIn d (length rs) (filled d N rs t) ≡ rs
+filled-rows = filled-rows-at record { position = 0; lowerEnd = 0; columns = [] }
+
+cells-read : (l : List ℕ) (a k : ℕ) → a + k ≤ length l → map (λ i. getD l i 0) (run a k) ≡ take k (drop a l)
+unfolding run
+cells-read l a zero h = refl
+cells-read l a (suc k) h = rw (drop-cons l a 0 (omega arith)) (ap (λ (r : List ℕ). getD l a 0 ∷ r) (cells-read l (suc a) k (omega arith)))
+
+columns-read : (l : List ℕ) (d a k : ℕ) → flat (map (λ i. take d (drop (i * d) l)) (run a k)) ≡ take (k * d) (drop (a * d) l)
+unfolding flat run
+columns-read l d a zero = rw zero-mul
+columns-read l d a (suc k) =
+    let e : suc k * d ≡ d + k * d = rw suc-mul (add-comm (k * d) d) in
+    rw (columns-read l d (suc a) k, e, take-add, drop-drop, suc-mul)
+
+-- ---- tables
+
+-- each table has N places, with zeros from place k on
+pub record Clean (d N k : ℕ) (t : Tables) : Type 0 where
+  pub columns-room : N * d ≤ length (t .columns)
+  pub positions-room : N ≤ length (t .positions)
+  pub ends-room : N ≤ length (t .lowerEnds)
+  pub columns-zero : zeroFrom (k * d) (N * d) (t .columns) ≡ true
+  pub positions-zero : zeroFrom k N (t .positions) ≡ true
+  pub ends-zero : zeroFrom k N (t .lowerEnds) ≡ true
+
+-- clean tables are as if filled with the rows that are read from them
+pub clean-filled : (d N k : ℕ) (t : Tables) → k ≤ N → Clean d N k t → filled d N (rowsIn d k t) t ≡ t
+unfolding filled rowsIn rowAt
+clean-filled d N k t h c =
+    rw (
+      map-map Row.columns (rowAt d t) (run 0 k),
+      map-map Row.position (rowAt d t) (run 0 k),
+      map-map Row.lowerEnd (rowAt d t) (run 0 k),
+      columns-read (t .columns) d 0 k,
+      cells-read (t .positions) 0 k (omega arith),
+      cells-read (t .lowerEnds) 0 k (omega arith),
+      zero-mul,
+      padded-same (N * d) (k * d) (t .columns) (mul-le-mul-right d h) (c .columns-room) (c .columns-zero),
+      padded-same N k (t .positions) h (c .positions-room) (c .positions-zero),
+      padded-same N k (t .lowerEnds) h (c .ends-room) (c .ends-zero),
+    )
+
+length-columns : (d : ℕ) (rs : List Row) → WideRows d rs → length (flat (map Row.columns rs)) ≡ length rs * d
+unfolding flat
+length-columns d [] wide = sym (zero-mul d)
+length-columns d (r ∷ rs) wide =
+    simp (length-append, wide r (List·Memᴰ·head refl), length-columns d rs (λ q m. wide q (List·Memᴰ·tail m)), suc-mul) (add-comm d (length rs * d))
+
+-- tables that are as if filled with rows are clean behind these
+pub filled-clean : (d N : ℕ) (rs : List Row) (t : Tables) → WideRows d rs → filled d N rs t ≡ t → Clean d N (length rs) t
+unfolding filled
+filled-clean d N rs t wide e = record {
+  columns-room = padded-room (N * d) (flat (map Row.columns rs)) (t .columns) (ap Tables.columns e);
+  positions-room = padded-room N (map Row.position rs) (t .positions) (ap Tables.positions e);
+  ends-room = padded-room N (map Row.lowerEnd rs) (t .lowerEnds) (ap Tables.lowerEnds e);
+  columns-zero = rw (← (length-columns d rs wide)) (padded-zero (N * d) (flat (map Row.columns rs)) (t .columns) (ap Tables.columns e));
+  positions-zero = rw length-map at (padded-zero N (map Row.position rs) (t .positions) (ap Tables.positions e));
+  ends-zero = rw length-map at (padded-zero N (map Row.lowerEnd rs) (t .lowerEnds) (ap Tables.lowerEnds e));
+}
