@@ -2,3 +2,5 @@
 pub mod Worst
 pub mod Plays
 pub mod AuditTables
+pub mod Rules
+pub mod RulesToTape
