@@ -1,4 +1,7 @@
 -- The theorems of the crate.
+pub mod Quotes
+pub mod Tables
+pub mod Sound
 pub mod Worst
 pub mod Plays
 pub mod AuditTables
