@@ -1,4 +1,4 @@
--- Rows in tables: what is filled in is read back, and tables whose rows were read and that hold zeros behind them are as if filled.
+-- Tables with zeros behind their rows are as if filled with these rows, and the other way round.
 use mathlib.Core.Path.{_≡_, refl, sym, ap, ap₂, _∙_}
 use Prim.Native.Nat.{ℕ, zero, suc, _+_, _-_, _*_, _≤_, _<_}
 use native.Mathlib.Omega.{arith}
@@ -15,6 +15,7 @@ use Rattle.lists.proofs.Filters.{map-map}
 use Rattle.lists.proofs.Runs.{length-run, getD-run}
 use Rattle.model.specs.Rows.{Row, Tables, rowAt, rowsIn, filled}
 use Rattle.model.specs.Audit.{zeroFrom}
+use Rattle.model.proofs.Tables.{Fit, cells-counted}
 
 -- ---- cells of one table
 
@@ -58,41 +59,7 @@ padded-same n k cells h room e =
         let j : n ≡ k + (n - k) = omega arith in
         ap (λ (i : ℕ). M ++ drop i cells) j ∙ ap (λ (r : List ℕ). M ++ r) (sym (drop-drop (n - k) k cells)) ∙ take-append-drop (n - k) (drop k cells)
 
--- ---- rows
-
--- every row has d columns
-abbrev pub WideRows : ℕ → List Row → Type 0
-WideRows d rs = (r : Row) → List·Memᴰ r rs → length (r .columns) ≡ d
-
-module _ (z : Row) where
-  cell-at : (f : Row → ℕ) (rs : List Row) (more : List ℕ) (i : ℕ) → i < length rs → getD (map f rs ++ more) i 0 ≡ f (getD rs i z)
-  cell-at f [] more i h = absurd (omega arith)
-  cell-at f (r ∷ rs) more zero h = refl
-  cell-at f (r ∷ rs) more (suc i) h = cell-at f rs more i (omega arith)
-
-  columns-at : (d : ℕ) (rs : List Row) (more : List ℕ) (i : ℕ) → WideRows d rs → i < length rs
-      → take d (drop (i * d) (flat (map Row.columns rs) ++ more)) ≡ getD rs i z .columns
-  unfolding flat
-  columns-at d [] more i wide h = absurd (omega arith)
-  columns-at d (r ∷ rs) more zero wide h = rw (zero-mul, append-assoc) (take-at (r .columns) (flat (map Row.columns rs) ++ more) d (wide r (List·Memᴰ·head refl)))
-  columns-at d (r ∷ rs) more (suc i) wide h =
-      let e : suc i * d ≡ length (r .columns) + i * d = rw (wide r (List·Memᴰ·head refl), suc-mul) (add-comm (i * d) d) in
-      rw (e, append-assoc, drop-append-add) (columns-at d rs more i (λ q m. wide q (List·Memᴰ·tail m)) (omega arith))
-
-  -- the rows that were filled in are read back
-  filled-rows-at : (d N : ℕ) (rs : List Row) (t : Tables) → WideRows d rs → rowsIn d (length rs) (filled d N rs t) ≡ rs
-  unfolding rowsIn filled padded rowAt
-  filled-rows-at d N rs t wide =
-      ext-getD z (rowsIn d (length rs) (filled d N rs t)) rs len
-      (λ i h. let k : i < length rs = omega (arith, len) in
-      getD-run (rowAt d (filled d N rs t)) z 0 (length rs) i k ∙ rw (zero-add, cell-at Row.position rs, cell-at Row.lowerEnd rs, columns-at d rs))
-    where
-      len : length (rowsIn d (length rs) (filled d N rs t)) ≡ length rs
-      len = length-map (run 0 (length rs)) (rowAt d (filled d N rs t)) ∙ length-run 0 (length rs)
-
--- the rows that were filled in are read back
-pub filled-rows : (d N : ℕ) (rs : List Row) (t : Tables) → WideRows d rs → rowsIn d (length rs) (filled d N rs t) ≡ rs
-filled-rows = filled-rows-at record { position = 0; lowerEnd = 0; columns = [] }
+-- ---- tables
 
 cells-read : (l : List ℕ) (a k : ℕ) → a + k ≤ length l → map (λ i. getD l i 0) (run a k) ≡ take k (drop a l)
 unfolding run
@@ -105,8 +72,6 @@ columns-read l d a zero = rw zero-mul
 columns-read l d a (suc k) =
     let e : suc k * d ≡ d + k * d = rw suc-mul (add-comm (k * d) d) in
     rw (columns-read l d (suc a) k, e, take-add, drop-drop, suc-mul)
-
--- ---- tables
 
 -- each table has N places, with zeros from place k on
 pub record Clean (d N k : ℕ) (t : Tables) : Type 0 where
@@ -134,20 +99,14 @@ clean-filled d N k t h c =
       padded-same N k (t .lowerEnds) h (c .ends-room) (c .ends-zero),
     )
 
-length-columns : (d : ℕ) (rs : List Row) → WideRows d rs → length (flat (map Row.columns rs)) ≡ length rs * d
-unfolding flat
-length-columns d [] wide = sym (zero-mul d)
-length-columns d (r ∷ rs) wide =
-    simp (length-append, wide r (List·Memᴰ·head refl), length-columns d rs (λ q m. wide q (List·Memᴰ·tail m)), suc-mul) (add-comm d (length rs * d))
-
 -- tables that are as if filled with rows are clean behind these
-pub filled-clean : (d N : ℕ) (rs : List Row) (t : Tables) → WideRows d rs → filled d N rs t ≡ t → Clean d N (length rs) t
+pub filled-clean : (d N : ℕ) (rs : List Row) (t : Tables) → Fit d rs → filled d N rs t ≡ t → Clean d N (length rs) t
 unfolding filled
-filled-clean d N rs t wide e = record {
+filled-clean d N rs t fit e = record {
   columns-room = padded-room (N * d) (flat (map Row.columns rs)) (t .columns) (ap Tables.columns e);
   positions-room = padded-room N (map Row.position rs) (t .positions) (ap Tables.positions e);
   ends-room = padded-room N (map Row.lowerEnd rs) (t .lowerEnds) (ap Tables.lowerEnds e);
-  columns-zero = rw (← (length-columns d rs wide)) (padded-zero (N * d) (flat (map Row.columns rs)) (t .columns) (ap Tables.columns e));
+  columns-zero = rw (← (cells-counted d rs fit)) (padded-zero (N * d) (flat (map Row.columns rs)) (t .columns) (ap Tables.columns e));
   positions-zero = rw length-map at (padded-zero N (map Row.position rs) (t .positions) (ap Tables.positions e));
   ends-zero = rw length-map at (padded-zero N (map Row.lowerEnd rs) (t .lowerEnds) (ap Tables.lowerEnds e));
 }

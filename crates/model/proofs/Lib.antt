@@ -7,3 +7,4 @@ pub mod Plays
 pub mod AuditTables
 pub mod Rules
 pub mod RulesToTape
+pub mod TapeToRules
