@@ -1,20 +1,22 @@
 -- Tables with zeros behind their rows are as if filled with these rows, and the other way round.
 use mathlib.Core.Path.{_≡_, refl, sym, ap, ap₂, _∙_}
-use Prim.Native.Nat.{ℕ, zero, suc, _+_, _-_, _*_, _≤_, _<_}
+use Prim.Native.Nat.{ℕ, zero, suc, _+_, _-_, _*_, _≤_, zero-le}
 use native.Mathlib.Omega.{arith}
 use native.Mathlib.Nat.{zero-add, zero-mul, suc-mul, add-comm, mul-le-mul-right}
 use mathlib.Core.Bool.{Bool, true, false, not}
 use mathlib.Core.List.{List, [], _∷_, _++_, map, append-assoc, List·Memᴰ, List·Memᴰ·head, List·Memᴰ·tail}
 use lib.Dec.{ltb}
 use lib.ListN.{length, getD, take, drop, replicate, length-append, length-map, length-replicate, length-drop, take-append-drop, List·getD-append, List·getD-map}
-use lib.Seq.{length-take-le, take-append-seam, drop-append-seam, take-at, drop-append-add, drop-cons, take-add, drop-drop, ext-getD}
+use lib.Seq.{getD-drop, length-take-le, take-append-seam, drop-append-seam, take-at, drop-append-add, drop-cons, take-add, drop-drop, ext-getD}
 use borrow.Author.Tests.{ltb-false, not-true}
 use Rattle.lists.specs.Lists.{any, flat, run, padded}
 use Rattle.lists.proofs.Booleans.{none-left, none-right}
 use Rattle.lists.proofs.Filters.{map-map}
-use Rattle.lists.proofs.Runs.{length-run, getD-run}
+use Rattle.lists.proofs.Members.{of-map}
+use Rattle.lists.proofs.Runs.{length-run, of-run}
 use Rattle.model.specs.Rows.{Row, Tables, rowAt, rowsIn, filled}
 use Rattle.model.specs.Audit.{zeroFrom}
+use Rattle.model.proofs.Worst.{Small}
 use Rattle.model.proofs.Tables.{Fit, cells-counted}
 
 -- ---- cells of one table
@@ -72,6 +74,33 @@ columns-read l d a zero = rw zero-mul
 columns-read l d a (suc k) =
     let e : suc k * d ≡ d + k * d = rw suc-mul (add-comm (k * d) d) in
     rw (columns-read l d (suc a) k, e, take-add, drop-drop, suc-mul)
+
+pub length-read : (d k : ℕ) (t : Tables) → length (rowsIn d k t) ≡ k
+unfolding rowsIn
+length-read d k t = length-map (run 0 k) (rowAt d t) ∙ length-run 0 k
+
+-- rows that are read have d columns
+pub read-fit : (d N k : ℕ) (t : Tables) → k ≤ N → N * d ≤ length (t .columns) → Fit d (rowsIn d k t)
+unfolding rowsIn rowAt
+read-fit d N k t h room r m =
+    let p = of-map (rowAt d t) r (run 0 k) m in
+    let i = p .0 in
+    let b = of-run 0 k i (p .1) in
+    let fits : suc i * d ≤ N * d = mul-le-mul-right d (omega arith) in
+    rw (p .2) (length-take-le d (drop (i * d) (t .columns)) (simp length-drop (omega (arith, fits, suc-mul i d))))
+
+small-take : (n : ℕ) (l : List ℕ) → Small l → Small (take n l)
+small-take zero l small i = zero-le
+small-take (suc n) [] small i = zero-le
+small-take (suc n) (x ∷ xs) small zero = small 0
+small-take (suc n) (x ∷ xs) small (suc i) = small-take n xs (λ j. small (suc j)) i
+
+-- rows that are read hold cells of the table
+pub read-small : (d k : ℕ) (t : Tables) → Small (t .columns) → (r : Row) → List·Memᴰ r (rowsIn d k t) → Small (r .columns)
+unfolding rowsIn rowAt
+read-small d k t small r m =
+    let p = of-map (rowAt d t) r (run 0 k) m in
+    rw (p .2) (small-take d (drop (p .0 * d) (t .columns)) (λ i. rw getD-drop (small (p .0 * d + i))))
 
 -- each table has N places, with zeros from place k on
 pub record Clean (d N k : ℕ) (t : Tables) : Type 0 where

@@ -8,3 +8,4 @@ pub mod AuditTables
 pub mod Rules
 pub mod RulesToTape
 pub mod TapeToRules
+pub mod Audit

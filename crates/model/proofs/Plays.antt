@@ -1,7 +1,8 @@
 -- The reference model fed with quotes and no watch: which quotes it takes, and what it holds after them.
 use mathlib.Core.Path.{_≡_, refl, sym, ap, _∙_}
 use mathlib.Core.Logic.{_⊎_, inl, inr}
-use Prim.Native.Nat.{ℕ, zero, suc, _+_, _≤_, _<_}
+use Prim.Native.Nat.{ℕ, zero, suc, _+_, _≤_, _<_, zero-le}
+use native.Mathlib.Nat.{zero-add}
 use native.Mathlib.Omega.{arith}
 use mathlib.Core.Bool.{Bool, true, false, _&&_, not, cond}
 use mathlib.Core.List.{List, [], _∷_, _++_, map, append-nil, append-assoc}
@@ -21,8 +22,8 @@ abbrev pub holding : ℕ → ℕ → ℕ → List (List ℕ) → Reference
 holding d N directions qs = record { dimensions = d; capacity = N; directions = directions; quotes = qs; watched = [] }
 
 -- every quote has d columns
-abbrev pub Wide : ℕ → List (List ℕ) → Type 0
-Wide d qs = (k : ℕ) → k < length qs → length (getD qs k []) ≡ d
+abbrev pub WideAll : ℕ → List (List ℕ) → Type 0
+WideAll d qs = (k : ℕ) → k < length qs → length (getD qs k []) ≡ d
 
 plays-nil : (s : Reference) → plays [] s ≡ s
 unfolding plays
@@ -49,7 +50,7 @@ module _ (d N directions : ℕ) (hold : settingsHold d N directions ≡ true) wh
   plays-cons x xs qs = ap (plays xs) (quote-next x qs)
 
   -- quotes of d columns are all taken while the tape is not full
-  pub plays-all : (xs qs : List (List ℕ)) → Wide d xs → length qs + length xs ≤ lastPosition → plays xs (at qs) ≡ at (qs ++ xs)
+  plays-all : (xs qs : List (List ℕ)) → WideAll d xs → length qs + length xs ≤ lastPosition → plays xs (at qs) ≡ at (qs ++ xs)
   unfolding plays
   plays-all [] qs wide room = ap at (sym (append-nil qs))
   plays-all (x ∷ xs) qs wide room =
@@ -70,8 +71,8 @@ module _ (d N directions : ℕ) (hold : settingsHold d N directions ≡ true) wh
       go false f g = omega arith
 
   -- where as many are held as were fed, every quote had d columns and found room
-  pub taken : (xs qs : List (List ℕ)) → length qs ≤ lastPosition → length (plays xs (at qs) .quotes) ≡ length qs + length xs
-      → Wide d xs × (length qs + length xs ≤ lastPosition)
+  taken : (xs qs : List (List ℕ)) → length qs ≤ lastPosition → length (plays xs (at qs) .quotes) ≡ length qs + length xs
+      → WideAll d xs × (length qs + length xs ≤ lastPosition)
   taken [] qs room e = (λ k h. absurd (omega arith), omega arith)
   taken (x ∷ xs) qs room e =
       go (eqb (length x) d) refl (leb lastPosition (length qs)) refl (rw (plays-cons x xs qs) at e) (fed-bound xs qs)
@@ -80,14 +81,24 @@ module _ (d N directions : ℕ) (hold : settingsHold d N directions ≡ true) wh
       go : (a : Bool) → eqb (length x) d ≡ a → (b : Bool) → leb lastPosition (length qs) ≡ b
           → length (plays xs (cond (a && not b) (at (qs ++ (x ∷ []))) (at qs)) .quotes) ≡ length qs + suc (length xs)
           → length (plays xs (at qs) .quotes) ≤ length qs + length xs
-          → (length qs < lastPosition → length (plays xs (at (qs ++ (x ∷ []))) .quotes) ≡ length qs + suc (length xs) → Wide d xs × (length (qs ++ (x ∷ [])) + length xs ≤ lastPosition))
-          → Wide d (x ∷ xs) × (length qs + suc (length xs) ≤ lastPosition)
+          → (length qs < lastPosition → length (plays xs (at (qs ++ (x ∷ []))) .quotes) ≡ length qs + suc (length xs) → WideAll d xs × (length (qs ++ (x ∷ [])) + length xs ≤ lastPosition))
+          → WideAll d (x ∷ xs) × (length qs + suc (length xs) ≤ lastPosition)
       go true u true v e f r = absurd (omega arith)
       go true u false v e f r =
           let t = r (leb-false lastPosition (length qs) v) e in
           (wide (t .0), let n = length-append qs (x ∷ []) in let m = t .1 in omega arith)
         where
-          wide : Wide d xs → Wide d (x ∷ xs)
+          wide : WideAll d xs → WideAll d (x ∷ xs)
           wide w zero h = eqb-true (length x) d u
           wide w (suc k) h = w k (omega arith)
       go false u b v e f r = absurd (omega arith)
+
+  -- an opened model holds a tape of quotes of d columns that is not too long
+  pub opening-plays : (qs : List (List ℕ)) → WideAll d qs → length qs ≤ lastPosition → plays qs (opening d N directions) ≡ at qs
+  unfolding opening
+  opening-plays qs wide room = plays-all qs [] wide (omega arith)
+
+  -- an opened model that holds as many quotes as the tape has took a tape of quotes of d columns that is not too long
+  pub opening-took : (qs : List (List ℕ)) → length (plays qs (opening d N directions) .quotes) ≡ length qs → WideAll d qs × (length qs ≤ lastPosition)
+  unfolding opening
+  opening-took qs e = rw zero-add at (taken qs [] zero-le (e ∙ sym (zero-add (length qs))))

@@ -1,12 +1,13 @@
 -- From the audit's rules to a tape: a position without a row had the worst quote.
 use mathlib.Core.Path.{_≡_, refl, sym, ap, _∙_}
 use mathlib.Core.Logic.{_⊎_, inl, inr}
-use Prim.Native.Nat.{ℕ, suc, _+_, _-_, _≤_, _<_, max}
+use Prim.Native.Nat.{ℕ, suc, _+_, _-_, _≤_, _<_, zero-le}
 use native.Mathlib.Omega.{arith}
+use native.Mathlib.Decide.{decLt}
 use mathlib.Core.Bool.{Bool, true, false, _&&_, _||_, not, cond}
 use mathlib.Core.List.{List, [], _∷_, map, List·Memᴰ, List·Memᴰ·head, List·Memᴰ·tail, List·Memᴰ·not-nil, List·Memᴰ·cases-cons}
 use lib.Dec.{ltb, eqb}
-use lib.ListN.{length, getD, length-map}
+use lib.ListN.{length, getD, length-map, List·getD-eq-default}
 use borrow.Author.Tests.{ltb-true, lt-ltb, eqb-true, eq-eqb, ne-eqb, not-true, not-false}
 use Rattle.lists.specs.Lists.{filter, any, lastOr, run, between, contains, rising}
 use Rattle.lists.proofs.Booleans.{either, agree, clash, refute, not-of, and-left, and-right, both}
@@ -20,13 +21,14 @@ use Rattle.skyline.proofs.Stabbing.{free-of, of-free}
 use Rattle.model.specs.Rows.{Row}
 use Rattle.model.specs.Reference.{quoteAt, dominatesAt, rowOf, rowsOf}
 use Rattle.model.specs.Audit.{isWorst, outdone, rightEnd, unexplained}
-use Rattle.model.proofs.Worst.{Small, worst, worst-dominates-none, dominates-worst}
+use Rattle.model.proofs.Tables.{Fit}
+use Rattle.model.proofs.Worst.{Small, worst, length-worst, worst-small, worst-dominates-none, dominates-worst}
 use Rattle.model.proofs.Rules.{Rules}
-use Rattle.model.proofs.Plays.{holding}
+use Rattle.model.proofs.Plays.{holding, WideAll}
 
 module _ (d directions : ℕ) where
   -- the columns of the row at a position, or the worst quote where it has none
-  unfoldable pub columnsAt : List Row → ℕ → List ℕ
+  columnsAt : List Row → ℕ → List ℕ
   columnsAt [] p = worst d directions
   columnsAt (r ∷ rs) p = cond (eqb p (r .position)) (r .columns) (columnsAt rs p)
 
@@ -54,7 +56,7 @@ module _ (d directions : ℕ) where
       go false f r = r f
 
   -- what holds of every row's columns and of the worst quote holds of those at every position
-  pub at-all : (P : List ℕ → Type 0) → P (worst d directions) → (rs : List Row) → ((r : Row) → List·Memᴰ r rs → P (r .columns)) → (p : ℕ) → P (columnsAt rs p)
+  at-all : (P : List ℕ → Type 0) → P (worst d directions) → (rs : List Row) → ((r : Row) → List·Memᴰ r rs → P (r .columns)) → (p : ℕ) → P (columnsAt rs p)
   unfolding columnsAt
   at-all P w [] f p = w
   at-all P w (x ∷ xs) f p = go (eqb p (x .position)) (at-all P w xs (λ r m. f r (List·Memᴰ·tail m)) p)
@@ -64,16 +66,28 @@ module _ (d directions : ℕ) where
       go false h = h
 
   -- the tape of M quotes
-  unfoldable pub tapeOf : ℕ → List Row → List (List ℕ)
+  pub tapeOf : ℕ → List Row → List (List ℕ)
   tapeOf M rs = map (columnsAt rs) (run 1 M)
 
   pub length-tape : (M : ℕ) (rs : List Row) → length (tapeOf M rs) ≡ M
   unfolding tapeOf
   length-tape M rs = length-map (run 1 M) (columnsAt rs) ∙ length-run 1 M
 
-  pub tape-at : (M : ℕ) (rs : List Row) (k : ℕ) → k < M → getD (tapeOf M rs) k [] ≡ columnsAt rs (1 + k)
+  tape-at : (M : ℕ) (rs : List Row) (k : ℕ) → k < M → getD (tapeOf M rs) k [] ≡ columnsAt rs (1 + k)
   unfolding tapeOf
   tape-at M rs k h = getD-run (columnsAt rs) [] 1 M k h
+
+  -- rows of d columns make a tape of such quotes
+  pub tape-wide : (M : ℕ) (rs : List Row) → Fit d rs → WideAll d (tapeOf M rs)
+  tape-wide M rs fit k h = let e = length-tape M rs in rw (tape-at M rs k (omega arith)) (at-all (λ (x : List ℕ). length x ≡ d) (length-worst d directions) rs fit (1 + k))
+
+  -- every column of the tape holds what a cell can
+  pub tape-small : (M : ℕ) (rs : List Row) → ((r : Row) → List·Memᴰ r rs → Small (r .columns)) → (k : ℕ) → Small (getD (tapeOf M rs) k [])
+  tape-small M rs small k = go (decLt k M)
+    where
+      go : Dec (k < M) → Small (getD (tapeOf M rs) k [])
+      go (yes h) = rw (tape-at M rs k h) (at-all Small (worst-small d directions) rs small (1 + k))
+      go (no n) = let e = length-tape M rs in rw (List·getD-eq-default (tapeOf M rs) [] {n = k} (omega arith)) (λ i. zero-le)
 
   module _ (N M : ℕ) (rs : List Row) (rises : rising (windowStart M N) M (map Row.position rs) ≡ true)
       (small : (r : Row) → List·Memᴰ r rs → Small (r .columns)) (R : Rules d directions N M rs) where

@@ -22,7 +22,7 @@ Small x = (i : ℕ) → getD x i 0 ≤ largest
 
 module _ (d directions : ℕ) where
   -- the worst quote of d columns
-  unfoldable pub worst : List ℕ
+  pub worst : List ℕ
   worst = map (worstAt directions) (run 0 d)
 
   pub length-worst : length worst ≡ d
