@@ -1,50 +1,29 @@
 -- The audit says yes exactly if some tape leaves the book.
-use mathlib.Core.Path.{_≡_, refl, sym, ap, _∙_, subst}
+use mathlib.Core.Path.{_≡_, sym, ap, _∙_, subst}
 use mathlib.Core.Logic.{_↔_}
-use Prim.Native.Nat.{ℕ, zero, suc, _+_, _-_, _*_, _≤_, _<_, zero-le}
+use Prim.Native.Nat.{ℕ, _-_, _≤_}
 use native.Mathlib.Omega.{arith}
-use native.Mathlib.Decide.{decLt}
-use mathlib.Core.Bool.{Bool, true, false, not}
-use mathlib.Core.List.{List, [], _∷_, map}
-use lib.Dec.{ltb}
-use lib.ListN.{length, getD, length-map, List·getD-eq-default}
-use borrow.Author.Tests.{le-ltb}
-use Rattle.lists.specs.Lists.{run}
-use Rattle.lists.proofs.Runs.{length-run}
+use mathlib.Core.Bool.{true}
+use mathlib.Core.List.{List, []}
+use lib.ListN.{length, getD}
 use Rattle.head.specs.declared.Head.{Head}
-use Rattle.head.specs.declared.Verdict.the-variants.{Yes, No}
-use Rattle.head.specs.declared.Refusal.the-variants.{Settings, ShortLoan}
-use Rattle.head.specs.Refusals.{first}
+use Rattle.head.specs.declared.Verdict.the-variants.{Yes}
 use Rattle.head.specs.Heads.{settingsHold, lastPosition}
 use Rattle.head.proofs.Settings.{settings-within}
-use Rattle.model.specs.Rows.{Row, Tables, rowAt, rowsIn, filled}
-use Rattle.model.specs.Reference.{Reference, quoteAt, opening, newest, headOf, rowsOf}
-use Rattle.model.specs.Book.{shortTables, tornRows, bookRows}
-use Rattle.model.specs.Audit.{largest, passes, verdictOf, auditVerdict, plays, Tape}
-use Rattle.model.proofs.Tables.{Fit, rows-filled}
+use Rattle.model.specs.Rows.{Row, Tables, filled}
+use Rattle.model.specs.Reference.{Reference, quoteAt, newest, headOf, rowsOf}
+use Rattle.model.specs.Book.{bookRows}
+use Rattle.model.specs.Audit.{largest, auditVerdict, Tape}
+use Rattle.model.proofs.Tables.{rows-filled}
 use Rattle.model.proofs.Sound.{Wide, rows-wide, rows-few, rows-sound}
-use Rattle.model.proofs.Worst.{Small, worst-small, length-worst}
+use Rattle.model.proofs.Worst.{Small}
 use Rattle.model.proofs.Plays.{holding, opening-plays, opening-took}
-use Rattle.model.proofs.AuditTables.{Clean, length-read, read-fit, read-small, clean-filled, filled-clean}
-use Rattle.model.proofs.Rules.{Passed, Whole, untorn-whole, says-rules, rules-say}
+use Rattle.model.proofs.AuditTables.{length-read, read-fit, read-small, clean-filled, filled-clean}
+use Rattle.model.proofs.Rules.{Passed, untorn-whole, yes-iff-passed}
 use Rattle.model.proofs.RulesToTape.{tapeOf, length-tape, tape-wide, tape-small, tape-rows}
 use Rattle.model.proofs.TapeToRules.{tape-rules}
 
--- ---- the verdict
-
-module _ (h : Head) (t : Tables) (hold : settingsHold (h .dimensions) (h .capacity) (h .directions) ≡ true) where
-  -- with settings that hold, yes says that the tables are long enough and that the rules hold
-  verdict-yes : (auditVerdict h t ≡ Yes) ↔ ((shortTables t (h .dimensions) (h .capacity) ≡ false) × (passes h t ≡ true))
-  unfolding auditVerdict verdictOf first
-  verdict-yes = rw hold (there (shortTables t (h .dimensions) (h .capacity)) (passes h t), λ e. rw (e .0, e .1))
-    where
-      there : (short pass : Bool) → verdictOf (first ((short, ShortLoan) ∷ [])) pass ≡ Yes → (short ≡ false) × (pass ≡ true)
-      there false true e = (refl, refl)
-      there false false e = absurd (let z : _≡_ {A = ℕ} 0 1 = cc in omega arith)
-      there true pass e = absurd (let z : _≡_ {A = ℕ} 0 1 = cc in omega arith)
-
--- ---- what a tape leaves passes
-
+-- what quotes leave passes
 left-passes : (s : Reference) (t : Tables) → 1 ≤ s .capacity → newest s ≤ lastPosition → Wide s → ((k : ℕ) → Small (getD (s .quotes) k []))
     → filled (s .dimensions) (s .capacity) (rowsOf s) t ≡ t → Passed (headOf s) t
 unfolding headOf bookRows
@@ -103,21 +82,9 @@ module _ (h : Head) (t : Tables) (hold : settingsHold (h .dimensions) (h .capaci
       counted : length qs ≡ M
       counted = length-tape d (h .directions) M rs
 
--- ---- the theorem
-
-clean-long : (d N k : ℕ) (t : Tables) → Clean d N k t → shortTables t d N ≡ false
-unfolding shortTables
-clean-long d N k t c =
-    rw (
-      le-ltb (length (t .columns)) (N * d) (c .columns-room),
-      le-ltb (length (t .positions)) N (c .positions-room),
-      le-ltb (length (t .lowerEnds)) N (c .ends-room),
-    )
-
 -- with settings that hold and cells of 32 bits, the audit says yes exactly if some tape of accepted quotes leaves this head and these tables
 pub audit-iff-tape : (h : Head) (t : Tables) → settingsHold (h .dimensions) (h .capacity) (h .directions) ≡ true → ((i : ℕ) → getD (t .columns) i 0 ≤ largest)
     → (auditVerdict h t ≡ Yes) ↔ Tape h t
-audit-iff-tape h t hold small = (
-  λ e. let y = verdict-yes h t hold .0 e in passes-tape h t hold small (says-rules h t (y .0) (y .1)),
-  λ T. let P = tape-passes h t hold T in verdict-yes h t hold .1 (clean-long (h .dimensions) (h .capacity) (h .rows) t (P .clean), rules-say h t P),
-)
+audit-iff-tape h t hold small =
+    let y = yes-iff-passed h t hold in
+    (λ e. passes-tape h t hold small (y .0 e), λ T. y .1 (tape-passes h t hold T))

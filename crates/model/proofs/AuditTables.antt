@@ -1,16 +1,16 @@
 -- Tables with zeros behind their rows are as if filled with these rows, and the other way round.
-use mathlib.Core.Path.{_≡_, refl, sym, ap, ap₂, _∙_}
+use mathlib.Core.Path.{_≡_, refl, sym, ap, _∙_}
 use Prim.Native.Nat.{ℕ, zero, suc, _+_, _-_, _*_, _≤_, zero-le}
 use native.Mathlib.Omega.{arith}
-use native.Mathlib.Nat.{zero-add, zero-mul, suc-mul, add-comm, mul-le-mul-right}
-use mathlib.Core.Bool.{Bool, true, false, not}
-use mathlib.Core.List.{List, [], _∷_, _++_, map, append-assoc, List·Memᴰ, List·Memᴰ·head, List·Memᴰ·tail}
+use native.Mathlib.Nat.{zero-mul, suc-mul, add-comm, mul-le-mul-right}
+use mathlib.Core.Bool.{true, false}
+use mathlib.Core.List.{List, [], _∷_, _++_, map, List·Memᴰ}
 use lib.Dec.{ltb}
-use lib.ListN.{length, getD, take, drop, replicate, length-append, length-map, length-replicate, length-drop, take-append-drop, List·getD-append, List·getD-map}
-use lib.Seq.{getD-drop, length-take-le, take-append-seam, drop-append-seam, take-at, drop-append-add, drop-cons, take-add, drop-drop, ext-getD}
+use lib.ListN.{length, getD, take, drop, replicate, length-append, length-map, length-replicate, length-drop, take-append-drop}
+use lib.Seq.{getD-drop, length-take-le, drop-append-seam, take-at, drop-cons, take-add, drop-drop}
 use borrow.Author.Tests.{ltb-false, not-true}
 use Rattle.lists.specs.Lists.{any, flat, run, padded}
-use Rattle.lists.proofs.Booleans.{none-left, none-right}
+use Rattle.lists.proofs.Booleans.{none-left}
 use Rattle.lists.proofs.Filters.{map-map}
 use Rattle.lists.proofs.Members.{of-map}
 use Rattle.lists.proofs.Runs.{length-run, of-run}
@@ -18,13 +18,9 @@ use Rattle.model.specs.Rows.{Row, Tables, rowAt, rowsIn, filled}
 use Rattle.model.specs.Audit.{zeroFrom}
 use Rattle.model.proofs.Worst.{Small}
 use Rattle.model.proofs.Tables.{Fit, cells-counted}
+use Rattle.model.proofs.Sound.{any-zeros}
 
 -- ---- cells of one table
-
-no-zeros : (k : ℕ) → any (ltb 0) (replicate k 0) ≡ false
-unfolding any
-no-zeros zero = refl
-no-zeros (suc k) = no-zeros k
 
 all-zeros : (l : List ℕ) → any (ltb 0) l ≡ false → l ≡ replicate (length l) 0
 unfolding any
@@ -37,7 +33,7 @@ all-zeros (suc x ∷ xs) e =
 padded-zero : (n : ℕ) (l cells : List ℕ) → padded n l cells ≡ cells → zeroFrom (length l) n cells ≡ true
 unfolding padded zeroFrom
 padded-zero n l cells e =
-    rw (← e, drop-append-seam l, take-at (replicate (n - length l) 0) (drop n cells) (n - length l) (length-replicate {A = ℕ} (n - length l) 0), no-zeros)
+    rw (← e, drop-append-seam l, take-at (replicate (n - length l) 0) (drop n cells) (n - length l) (length-replicate {A = ℕ} (n - length l) 0), any-zeros)
 
 -- and room for n cells
 padded-room : (n : ℕ) (l cells : List ℕ) → padded n l cells ≡ cells → n ≤ length cells
