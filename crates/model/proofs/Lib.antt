@@ -7,3 +7,10 @@ pub mod Opening
 pub mod Quoting
 pub mod Watching
 pub mod Replay
+pub mod Worst
+pub mod Plays
+pub mod AuditTables
+pub mod Rules
+pub mod RulesToTape
+pub mod TapeToRules
+pub mod Audit
