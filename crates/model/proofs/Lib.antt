@@ -7,3 +7,4 @@ pub mod Opening
 pub mod Quoting
 pub mod Watching
 pub mod Replay
+pub mod Kept
