@@ -1,2 +1,4 @@
 -- The theorems of the crate.
 pub mod Marked
+pub mod ChangeFrames
+pub mod ChangesFit
