@@ -2,3 +2,4 @@
 pub mod Marked
 pub mod ChangeFrames
 pub mod ChangesFit
+pub mod Heeding
