@@ -1,4 +1,10 @@
 -- The theorems of the crate.
+pub mod Quotes
+pub mod Tables
+pub mod Sound
+pub mod Joined
+pub mod Opening
+pub mod Watching
 pub mod Marked
 pub mod ChangeFrames
 pub mod ChangesFit
