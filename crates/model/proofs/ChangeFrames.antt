@@ -8,22 +8,14 @@ use Rattle.lists.specs.Lists.{flat}
 use Rattle.lists.proofs.Filters.{flat-append, map-append}
 use Rattle.frames.specs.declared.Message.{Message}
 use Rattle.frames.specs.declared.Message.the-variants.{Leave, Join}
-use Rattle.frames.specs.Bytes.{bytes2, bytes4}
 use Rattle.frames.specs.Frames.{frame}
+use Rattle.frames.proofs.RoundTrips.{leave-length, join-length}
 use Rattle.model.specs.Changes.{missing, changes, frames}
 
 pub frames-append : (ms ns : List Message) → frames (ms ++ ns) ≡ frames ms ++ frames ns
 unfolding frames
 frames-append ms ns =
     ap flat (map-append (λ m. frame m []) ms ns) ∙ flat-append (map (λ m. frame m []) ms) (map (λ m. frame m []) ns)
-
-pub leave-length : (n p : ℕ) → length (frame (Leave n p) []) ≡ 7
-unfolding frame bytes2 bytes4
-leave-length n p = refl
-
-pub join-length : (n p : ℕ) → length (frame (Join n p) []) ≡ 7
-unfolding frame bytes2 bytes4
-join-length n p = refl
 
 -- messages whose frames have seven bytes each
 sevens : (message : ℕ → Message) → ((p : ℕ) → length (frame (message p) []) ≡ 7) → (l : List ℕ) → length (frames (map message l)) ≡ 7 * length l

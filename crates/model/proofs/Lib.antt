@@ -9,3 +9,4 @@ pub mod Marked
 pub mod ChangeFrames
 pub mod ChangesFit
 pub mod Heeding
+pub mod ReadBack
