@@ -10,3 +10,4 @@ pub mod ChangeFrames
 pub mod ChangesFit
 pub mod Heeding
 pub mod ReadBack
+pub mod Following
