@@ -5,16 +5,10 @@ use native.Mathlib.Omega.{arith}
 use mathlib.Core.Bool.{Bool, true, false}
 use mathlib.Core.List.{List, _∷_}
 use Rattle.head.specs.declared.Refusal.{Refusal}
-use Rattle.head.specs.declared.Answer.{Answer}
-use Rattle.head.specs.declared.Answer.the-variants.{Accepted, Refused}
+use Rattle.head.specs.declared.Answer.the-variants.{Accepted}
 use Rattle.head.specs.Refusals.{first}
 
 module _ (b : Bool) (k : Refusal) (more : List (Bool × Refusal)) where
-  -- a condition that does not hold is passed over
-  pub first-passed : b ≡ false → first ((b, k) ∷ more) ≡ first more
-  unfolding first
-  first-passed e = rw e
-
   -- an accepted call has passed every condition
   pub accepted-passed : first ((b, k) ∷ more) ≡ Accepted → (b ≡ false) × (first more ≡ Accepted)
   unfolding first

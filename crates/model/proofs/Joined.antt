@@ -1,8 +1,8 @@
 -- How the two models stand between two calls of a list, and what the book model then reads and judges.
 use mathlib.Core.Path.{_≡_, refl, sym, ap, _∙_}
-use mathlib.Core.Logic.{_⊎_, inl, inr}
+use mathlib.Core.Logic.{_⊎_, inr}
 use Prim.Native.Nat.{ℕ, _≤_}
-use mathlib.Core.Bool.{Bool, true, false, _&&_, _||_, not}
+use mathlib.Core.Bool.{Bool, true, false, _&&_, not}
 use mathlib.Core.List.{List, _∷_}
 use lib.Dec.{ltb, leb}
 use lib.ListN.{length}
@@ -12,14 +12,14 @@ use Rattle.lists.proofs.Booleans.{and-left, and-right, none-left}
 use Rattle.head.specs.declared.Refusal.{Refusal}
 use Rattle.head.specs.declared.Refusal.the-variants.{Settings}
 use Rattle.head.specs.Refusals.{first}
-use Rattle.head.specs.Heads.{settingsHold, lastPosition}
-use Rattle.head.proofs.Settings.{Within, settings-within}
-use Rattle.model.specs.Rows.{Row, Tables, rowsIn, filled}
+use Rattle.head.specs.Heads.{lastPosition}
+use Rattle.head.proofs.Settings.{settings-within}
+use Rattle.model.specs.Rows.{rowsIn, filled}
 use Rattle.model.specs.Reference.{Reference, unopened, newest, skylineOf, rowsOf, headOf, opened, outside}
 use Rattle.model.specs.Book.{shortTables, shortLoan, tornRows, tornWatches, standing, bookRows, listOf, answerOf, watchfulAnswer}
 use Rattle.model.specs.Calls.{Call, Lent, World, bookStep, shown, Desk, deskStep}
 use Rattle.model.proofs.Quotes.{skyline-listed}
-use Rattle.model.proofs.Tables.{Fit, rows-filled}
+use Rattle.model.proofs.Tables.{rows-filled}
 use Rattle.model.proofs.Sound.{Wide, rows-few, rows-wide, rows-sound, standing-padded, watches-sound}
 
 -- from the first accepted opening on: what is lent is filled from the reference model, whose settings hold, whose quotes have d
@@ -59,6 +59,11 @@ in-range s n e =
     let t = not-false (leb 1 n && leb n (s .capacity)) e in
     (leb-true 1 n (and-left (leb 1 n) (leb n (s .capacity)) t), leb-true n (s .capacity) (and-right (leb 1 n) (leb n (s .capacity)) t))
 
+-- the book model's list of n of a reference model's rows
+pub list-is : (s : Reference) (n : ℕ) → 1 ≤ n → n ≤ s .capacity → listOf (headOf s) (rowsOf s) n ≡ skylineOf s n
+unfolding listOf headOf
+list-is s n h k = skyline-listed s n h k
+
 -- what is lent, as an opened reference model shows it
 pub shown-opened : (s : Reference) (l : Lent) → opened s ≡ true
     → shown s l ≡ record { tables = filled (s .dimensions) (s .capacity) (rowsOf s) (l .tables); watches = padded 8 (s .watched) (l .watches) }
@@ -90,8 +95,7 @@ module _ (s : Reference) (l : Lent) (f : Faithful s l) where
 
   -- and its skylines
   pub skyline-read : (n : ℕ) → 1 ≤ n → n ≤ s .capacity → listOf (headOf s) (bookRows (headOf s) (l .tables)) n ≡ skylineOf s n
-  unfolding listOf headOf
-  skyline-read n h k = rw rows-read (skyline-listed s n h k)
+  skyline-read n h k = rw rows-read (list-is s n h k)
 
   rows-whole : tornRows (headOf s) (rowsOf s) ≡ false
   rows-whole = rows-sound s some-capacity (f .within)

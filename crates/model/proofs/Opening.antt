@@ -1,10 +1,10 @@
 -- An opening is answered alike by both models, whatever stood before.
-use mathlib.Core.Path.{_≡_, refl, sym, ap, _∙_}
+use mathlib.Core.Path.{_≡_, refl, sym, _∙_}
 use mathlib.Core.Logic.{_⊎_, inl, inr}
-use Prim.Native.Nat.{ℕ, _≤_, zero-le}
+use Prim.Native.Nat.{ℕ, zero-le}
 use native.Mathlib.Omega.{arith}
-use mathlib.Core.Bool.{Bool, true, false, not}
-use mathlib.Core.List.{List, [], _∷_, List·Memᴰ·not-nil}
+use mathlib.Core.Bool.{true, false}
+use mathlib.Core.List.{[], List·Memᴰ·not-nil}
 use lib.Dec.{ltb}
 use lib.ListN.{length}
 use borrow.Author.Tests.{ltb-false, not-false}
@@ -13,17 +13,16 @@ use Rattle.lists.proofs.Booleans.{none-left, none-right}
 use Rattle.lists.proofs.Writing.{length-padded, padded-again}
 use Rattle.head.specs.declared.Answer.{Answer}
 use Rattle.head.specs.declared.Answer.the-variants.{Accepted, Refused}
-use Rattle.head.specs.declared.Refusal.the-variants.{Settings, ShortLoan}
-use Rattle.head.specs.Refusals.{first, settled}
+use Rattle.head.specs.Refusals.{settled}
 use Rattle.head.specs.Heads.{freshHead, settingsHold}
 use Rattle.head.proofs.Answers.{accepted-passed}
-use Rattle.model.specs.Rows.{Row, filled}
-use Rattle.model.specs.Reference.{Reference, unopened, newest, rowsOf, headOf, opened, opening, tooShort, tells, referenceStep}
+use Rattle.model.specs.Rows.{filled}
+use Rattle.model.specs.Reference.{Reference, unopened, rowsOf, headOf, opened, opening, tooShort, tells, referenceStep}
 use Rattle.model.specs.Book.{shortTables, shortLoan, replyOf, openAnswer, openReply, openTables, openWatches}
 use Rattle.model.specs.Calls.{Open, Lent, bookStep, deskStep, fed, outputOf, shown}
 use Rattle.model.proofs.Tables.{Fit, filled-again, filled-long}
 use Rattle.model.proofs.Sound.{rows-none}
-use Rattle.model.proofs.Joined.{Faithful, Joined, Agree, desk, world, shown-opened, shown-still}
+use Rattle.model.proofs.Joined.{Faithful, Agree, desk, world, shown-opened, shown-still}
 
 -- what is lent stays as it is where no opening was accepted, too
 pub still : (s : Reference) (l : Lent) → (s ≡ unopened) ⊎ Faithful s l → shown s l ≡ l
@@ -62,11 +61,11 @@ module _ (d N directions : ℕ) (l : Lent) where
       wide = λ p h k. absurd (omega arith);
       within = zero-le;
       long =
-        rw (
-          filled-long d N [] (l .tables) zero-le nothing (none-left (shortTables (l .tables) d N) (ltb (length (l .watches)) 8) long) d N,
-          length-padded 8 [] (l .watches) zero-le (ltb-false (length (l .watches)) 8 (none-right (shortTables (l .tables) d N) (ltb (length (l .watches)) 8) long))
-        )
-        long;
+          rw (
+            filled-long d N [] (l .tables) zero-le nothing (none-left (shortTables (l .tables) d N) (ltb (length (l .watches)) 8) long) d N,
+            length-padded 8 [] (l .watches) zero-le (ltb-false (length (l .watches)) 8 (none-right (shortTables (l .tables) d N) (ltb (length (l .watches)) 8) long)),
+          )
+          long;
       tables = rw no-rows (filled-again d N [] (l .tables) zero-le nothing []);
       records = padded-again 8 [] [] (l .watches) zero-le;
       risen = refl;

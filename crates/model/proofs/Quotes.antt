@@ -34,6 +34,11 @@ module _ (d directions : ℕ) (quotes : List (List ℕ)) where
   unfolding dominatesAt
   at-transitive p q r = dominates-transitive d directions (quoteAt quotes p) (quoteAt quotes q) (quoteAt quotes r)
 
+-- quotes that come later leave a position's quote as it is
+pub quote-within : (quotes more : List (List ℕ)) (p : ℕ) → 1 ≤ p → p ≤ length quotes → quoteAt (quotes ++ more) p ≡ quoteAt quotes p
+unfolding quoteAt
+quote-within quotes more p h k = List·getD-append quotes more [] (p - 1) (omega arith)
+
 -- what the lower end of a row is, over any strict partial order
 pub row-lower : (dom : ℕ → ℕ → Bool) (irr : (p : ℕ) → dom p p ≡ false) (tra : (p q r : ℕ) → dom p q ≡ true → dom q r ≡ true → dom p r ≡ true) (S M p : ℕ)
     → S ≤ p → p ≤ M → undominated dom M p ≡ true → Lower dom S p (lowerEnd dom S M p)
@@ -119,17 +124,13 @@ module _ (s : Reference) (x : List ℕ) (some : 1 ≤ s .capacity) where
   pub newest-after : length more ≡ suc M
   newest-after = length-append (s .quotes) (x ∷ []) ∙ add-one M
 
-  quote-old : (p : ℕ) → 1 ≤ p → p ≤ M → quoteAt more p ≡ quoteAt (s .quotes) p
-  unfolding quoteAt
-  quote-old p u v = List·getD-append (s .quotes) (x ∷ []) [] (p - 1) (omega arith)
-
-  quote-new : quoteAt more (suc M) ≡ x
+  pub quote-new : quoteAt more (suc M) ≡ x
   unfolding quoteAt
   quote-new = let e : suc M - 1 ≡ M = omega arith in rw e (getD-append-seam (s .quotes) x [] [])
 
   unchanged : (p q : ℕ) → S ≤ p → p ≤ M → S ≤ q → q ≤ M → D p q ≡ over s p q
   unfolding dominatesAt windowStart
-  unchanged p q a b u v = rw (quote-old p (omega arith) b, quote-old q (omega arith) v)
+  unchanged p q a b u v = rw (quote-within (s .quotes) (x ∷ []) p (omega arith) b, quote-within (s .quotes) (x ∷ []) q (omega arith) v)
 
   -- the positions that keep their row
   L : List ℕ
@@ -144,7 +145,7 @@ module _ (s : Reference) (x : List ℕ) (some : 1 ≤ s .capacity) where
       filter-map (remains (s .dimensions) (s .directions) x g) (rowOf s) (rows (over s) S M)
       ∙ ap (map (rowOf s)) (
       ap (filter f) (sym (rows-cong D (over s) S M unchanged))
-      ∙ filter-same-on (undominated D M) f (stays D S' (suc M)) S (suc M - S) (λ q u v t. rw (expires M (s .capacity) q u, quote-new, quote-old q (omega (arith, low)) (omega arith)))
+      ∙ filter-same-on (undominated D M) f (stays D S' (suc M)) S (suc M - S) (λ q u v t. rw (expires M (s .capacity) q u, quote-new, quote-within (s .quotes) (x ∷ []) q (omega (arith, low)) (omega arith)))
       ∙ left-over D S S' M onward inward
       )
     where
@@ -170,7 +171,7 @@ module _ (s : Reference) (x : List ℕ) (some : 1 ≤ s .capacity) where
   unfolding rowOf withQuote renamedRow
   old-row p u v t =
       let h : p ≤ M = omega (arith, inward) in
-      let old = quote-old p (omega (arith, low, onward)) h in
+      let old = quote-within (s .quotes) (x ∷ []) p (omega (arith, low, onward)) h in
       ap₂ (λ (y : ℕ) (c : List ℕ). let r : Row = record { position = p; lowerEnd = y; columns = c } in r) (rw newest-after (old-lower p (omega (arith, onward)) u h t)) old
 
   -- the new row
@@ -181,7 +182,7 @@ module _ (s : Reference) (x : List ℕ) (some : 1 ≤ s .capacity) where
       seek : lowerEndAmong (s .dimensions) (s .directions) x (map (rowOf s) L) ≡ lastOr 0 (filter (λ q. D q (suc M)) L)
       seek =
           rw (filter-map, map-map, map-id)
-          (ap (lastOr 0) (filter-same-on (undominated D (suc M)) (λ q. dominates (s .dimensions) (s .directions) (quoteAt (s .quotes) q) x) (λ q. D q (suc M)) S' (suc M - S') (λ q u v t. rw (quote-new, quote-old q (omega (arith, low, onward)) (omega (arith, inward))))))
+          (ap (lastOr 0) (filter-same-on (undominated D (suc M)) (λ q. dominates (s .dimensions) (s .directions) (quoteAt (s .quotes) q) x) (λ q. D q (suc M)) S' (suc M - S') (λ q u v t. rw (quote-new, quote-within (s .quotes) (x ∷ []) q (omega (arith, low, onward)) (omega (arith, inward))))))
 
       lower : lowerEnd D S' (suc M) (suc M) ≡ lowerEndAmong (s .dimensions) (s .directions) x left
       lower =

@@ -3,13 +3,13 @@ use mathlib.Core.Path.{_≡_, refl, sym, ap, _∙_}
 use mathlib.Core.Logic.{inr}
 use Prim.Native.Nat.{ℕ, _≤_}
 use native.Mathlib.Omega.{arith}
-use mathlib.Core.Bool.{Bool, true, false, _||_, not}
+use mathlib.Core.Bool.{Bool, true, false, not}
 use mathlib.Core.List.{List, [], _∷_, map}
 use lib.Dec.{ltb, leb, eqb}
 use lib.ListN.{length}
 use borrow.Author.Tests.{ltb-false, leb-false}
 use Rattle.lists.specs.Lists.{contains, rising, insert, without, laid, padded}
-use Rattle.lists.proofs.Booleans.{none-left, none-right}
+use Rattle.lists.proofs.Booleans.{none-right}
 use Rattle.lists.proofs.Filters.{length-filter}
 use Rattle.lists.proofs.Rising.{rising-filter, length-insert, rising-insert}
 use Rattle.lists.proofs.Writing.{length-padded, padded-again}
@@ -21,8 +21,8 @@ use Rattle.head.specs.Refusals.{first, settled}
 use Rattle.head.proofs.Answers.{accepted-passed, first-alike}
 use Rattle.frames.specs.declared.Message.the-variants.{Join}
 use Rattle.model.specs.Changes.{frames}
-use Rattle.model.specs.Reference.{Reference, newest, skylineOf, rowOf, rowsOf, headOf, opened, outside, withWatched, tells, referenceStep}
-use Rattle.model.specs.Book.{shortTables, shortLoan, standing, bookRows, listOf, replyOf, outOfRange, lookCells, lookAnswer, lookReply, lookOut, watchBytes, watchAnswer, watchReply, watchWatches, watchOut, endAnswer, endReply, endWatches}
+use Rattle.model.specs.Reference.{Reference, skylineOf, rowOf, rowsOf, headOf, opened, outside, withWatched, tells, referenceStep}
+use Rattle.model.specs.Book.{shortTables, shortLoan, bookRows, listOf, replyOf, outOfRange, lookCells, lookAnswer, lookReply, lookOut, watchBytes, watchAnswer, watchReply, watchWatches, watchOut, endAnswer, endReply, endWatches}
 use Rattle.model.specs.Calls.{Look, Watch, End, Lent, bookStep, deskStep, fed, outputOf, shown}
 use Rattle.model.proofs.Joined.{Faithful, Joined, Agree, desk, world, in-range, joined, shown-opened, shown-still, watches-read, skyline-read, judged, judged-watchful}
 
