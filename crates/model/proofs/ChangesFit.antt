@@ -6,9 +6,9 @@ use native.Mathlib.Nat.{le-refl}
 use native.Mathlib.Omega.{arith}
 use mathlib.Core.Bool.{Bool, true, false, _&&_, _||_, not}
 use mathlib.Core.List.{List, [], _∷_, _++_, map}
-use lib.Dec.{ltb, eqb}
+use lib.Dec.{ltb, leb, eqb}
 use lib.ListN.{length, take, length-append, length-take, length-map}
-use borrow.Author.Tests.{ltb-false, not-false}
+use borrow.Author.Tests.{ltb-false, le-ltb, not-false}
 use Rattle.lists.specs.Lists.{any, lastOr, flat, run, contains, rising}
 use Rattle.lists.proofs.Booleans.{and-left, or-cases, or-left, or-right, none-left, none-right}
 use Rattle.lists.proofs.Filters.{length-filter, map-append, map-map}
@@ -18,13 +18,15 @@ use Rattle.lists.proofs.Rising.{rising-filter}
 use Rattle.lists.proofs.Apart.{parts-fit, rising-map-filter, rising-snoc, rising-wide, contains-map-filter, contains-append}
 use Rattle.skyline.specs.Skyline.{windowStart, stabbed}
 use Rattle.head.specs.declared.Head.{Head}
+use Rattle.head.specs.declared.Refusal.the-variants.{Settings, ColumnCount, TapeFull, ShortLoan, Torn, ShortOutput}
+use Rattle.head.specs.Refusals.{first}
 use Rattle.head.specs.Heads.{settingsHold, lastPosition}
 use Rattle.head.proofs.Settings.{settings-within}
 use Rattle.frames.specs.declared.Message.{Message}
 use Rattle.frames.specs.declared.Message.the-variants.{Leave, Join}
 use Rattle.model.specs.Rows.{Row, Tables, rowAt, rowsIn, expiring, renamedRow, listed, remains, remaining, lowerEndAmong, rowsAfter}
 use Rattle.model.specs.Changes.{missing, changes, allChanges, frames}
-use Rattle.model.specs.Book.{tornRows, standing, bookRows, listOf, quoteRows, quoteHead, quoteBytes}
+use Rattle.model.specs.Book.{shortLoan, tornRows, tornWatches, standing, bookRows, listOf, watchfulAnswer, quoteRows, quoteHead, quoteBytes, quoteAnswer}
 use Rattle.model.proofs.ChangeFrames.{frames-append, changes-bytes}
 
 -- what is used of rows that are not torn
@@ -71,7 +73,7 @@ changes-among lo hi n before after all eb ea el pb pa =
     let fit = parts-fit lo hi leaves joins all (rising-filter (λ p. not (contains p after)) lo hi before eb) (rising-filter (λ p. not (contains p before)) lo hi after ea) el
     (λ p t. pb p (and-left (contains p before) (not (contains p after)) (sym (contains-filter (λ p. not (contains p after)) p before) ∙ t)))
     (λ p t. pa p (and-left (contains p after) (not (contains p before)) (sym (contains-filter (λ p. not (contains p before)) p after) ∙ t)))
-    (λ p. rw (contains-filter, contains-filter) (apart (contains p before) (contains p after))) in
+    (λ p. simp contains-filter (apart (contains p before) (contains p after))) in
     omega (arith, length-append (map (Leave n) leaves) (map (Join n) joins), length-map leaves (Leave n), length-map joins (Join n))
   where
     leaves : List ℕ
@@ -206,3 +208,32 @@ changes-fit h x t ws holds whole =
 
     most : h .rows + 1 ≤ 1025
     most = let w = settings-within (h .dimensions) (h .capacity) (h .directions) holds in omega (arith, ok .few)
+
+-- a last refusal that is never given where the first and the third are not
+never-last : (a b c d e o : Bool) → (a ≡ false → c ≡ false → o ≡ false)
+    → first ((a, Settings) ∷ (b, ShortLoan) ∷ (c, Torn) ∷ (d, ColumnCount) ∷ (e, TapeFull) ∷ (o, ShortOutput) ∷ [])
+    ≡ first ((a, Settings) ∷ (b, ShortLoan) ∷ (c, Torn) ∷ (d, ColumnCount) ∷ (e, TapeFull) ∷ [])
+unfolding first
+never-last true b c d e o h = refl
+never-last false true c d e o h = refl
+never-last false false true d e o h = refl
+never-last false false false true e o h = refl
+never-last false false false false true o h = refl
+never-last false false false false false o h = rw (h refl refl)
+
+-- so an output of 57,400 bytes is too short for no quote: its answer is by the other refusals alone
+pub room-suffices : (h : Head) (x : List ℕ) (t : Tables) (ws : List ℕ) (room : ℕ) → 57400 ≤ room
+    → quoteAnswer h x t ws room ≡ watchfulAnswer h t ws ((not (eqb (length x) (h .dimensions)), ColumnCount) ∷ (leb lastPosition (h .newest), TapeFull) ∷ [])
+unfolding quoteAnswer watchfulAnswer
+room-suffices h x t ws room wide =
+    never-last (not held) (shortLoan t ws (h .dimensions) (h .capacity)) (torn || tornWatches (h .capacity) ws) (not (eqb (length x) (h .dimensions))) (leb lastPosition (h .newest)) (ltb room (length bytes))
+    (λ a c. le-ltb room (length bytes) (omega (arith, changes-fit h x t ws (not-false held a) (none-left torn (tornWatches (h .capacity) ws) c) .bytes-most)))
+  where
+    held : Bool
+    held = settingsHold (h .dimensions) (h .capacity) (h .directions)
+
+    torn : Bool
+    torn = tornRows h (bookRows h t)
+
+    bytes : List ℕ
+    bytes = quoteBytes h x t ws
