@@ -1,13 +1,13 @@
 -- How the two models stand between two calls of a list, and what the book model then reads and judges.
 use mathlib.Core.Path.{_≡_, refl, sym, ap, _∙_}
-use mathlib.Core.Logic.{_⊎_, inr}
+use mathlib.Core.Logic.{_⊎_, inl, inr}
 use Prim.Native.Nat.{ℕ, _≤_}
 use mathlib.Core.Bool.{Bool, true, false, _&&_, not}
 use mathlib.Core.List.{List, _∷_}
 use lib.Dec.{ltb, leb}
 use lib.ListN.{length}
 use borrow.Author.Tests.{leb-true, not-false}
-use Rattle.lists.specs.Lists.{rising, padded}
+use Rattle.lists.specs.Lists.{run, rising, padded}
 use Rattle.lists.proofs.Booleans.{and-left, and-right, none-left}
 use Rattle.head.specs.declared.Refusal.{Refusal}
 use Rattle.head.specs.declared.Refusal.the-variants.{Settings}
@@ -20,7 +20,7 @@ use Rattle.model.specs.Book.{shortTables, shortLoan, tornRows, tornWatch
 use Rattle.model.specs.Calls.{Call, Lent, World, bookStep, shown, Desk, deskStep}
 use Rattle.model.proofs.Quotes.{skyline-listed}
 use Rattle.model.proofs.Tables.{rows-filled}
-use Rattle.model.proofs.Sound.{Wide, rows-few, rows-wide, rows-sound, standing-padded, watches-sound}
+use Rattle.model.proofs.Sound.{Wide, rows-none, rows-few, rows-wide, rows-sound, standing-padded, watches-sound}
 
 -- from the first accepted opening on: what is lent is filled from the reference model, whose settings hold, whose quotes have d
 -- columns each and are not too many, and whose watched n rise from 1 to N and are at most eight
@@ -113,3 +113,12 @@ module _ (s : Reference) (l : Lent) (f : Faithful s l) where
   pub judged-watchful : (more more' : List (Bool × Refusal)) → first more ≡ first more' → watchfulAnswer (headOf s) (l .tables) (l .watches) more ≡ first ((not (opened s), Settings) ∷ more')
   unfolding watchfulAnswer first headOf opened
   judged-watchful more more' e = rw (f .settings, f .long, rows-read, rows-whole, watches-whole) e
+
+-- the book model reads the reference model's rows, opened or not
+pub joined-rows : (k : Desk) (w : World) → Joined k w → bookRows (w .head) (w .lent .tables) ≡ rowsOf (k .reference)
+unfolding bookRows headOf rowsIn run
+joined-rows k w j = rw (j .head, j .lent) (go (k .reference) (j .since))
+  where
+    go : (s : Reference) → (s ≡ unopened) ⊎ Faithful s (k .lent) → bookRows (headOf s) (k .lent .tables) ≡ rowsOf s
+    go s (inl e) = rw (e, rows-none unopened refl)
+    go s (inr f) = rows-read s (k .lent) f

@@ -14,3 +14,4 @@ pub mod Heeding
 pub mod ReadBack
 pub mod Following
 pub mod Watcher
+pub mod Kept

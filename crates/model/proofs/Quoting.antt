@@ -81,13 +81,13 @@ module _ (s : Reference) (l : Lent) (f : Faithful s l) (x : List ℕ) where
 
   -- ---- what is left
 
-  -- what is lent, with the rows after the quote
+  -- what is lent, with the book model's rows after the quote
   abbrev relent : Lent
-  relent = record { tables = filled (s .dimensions) (s .capacity) (rowsOf s') (l .tables); watches = l .watches }
+  relent = record { tables = filled (s .dimensions) (s .capacity) (quoteRows (headOf s) x (l .tables) (l .watches)) (l .tables); watches = l .watches }
 
   shown-after : shown s' l ≡ relent
   unfolding withQuote opened
-  shown-after = shown-opened s' l (f .settings) ∙ rw (f .records)
+  shown-after = shown-opened s' l (f .settings) ∙ rw (f .records, rows-are)
 
   module _ (wide : length x ≡ s .dimensions) (room : newest s < lastPosition) where
     faithful : Faithful s' relent
@@ -95,7 +95,7 @@ module _ (s : Reference) (l : Lent) (f : Faithful s l) (x : List ℕ) where
     faithful =
         let few = rows-few s' (some-capacity s l f) in
         let fit = rows-wide s' (wide-after wide) in
-        record {
+        rw rows-are record {
           settings = f .settings;
           wide = wide-after wide;
           within = omega (arith, newest-after s x (some-capacity s l f));
@@ -138,5 +138,5 @@ module _ (s : Reference) (l : Lent) (f : Faithful s l) (x : List ℕ) where
             let a = accepted-passed _ _ _ (accepted-passed _ _ _ e .1) in
             let wide = eqb-true (length x) (s .dimensions) (not-false (eqb (length x) (s .dimensions)) (a .0)) in
             let room = leb-false lastPosition (newest s) (accepted-passed _ _ _ (a .1) .0) in
-            rw (answers, e, bytes-are room, head-is room, rows-are, shown-after) (refl, record { head = refl; lent = refl; since = inr (faithful wide room) })
+            rw (answers, e, bytes-are room, head-is room, shown-after) (refl, record { head = refl; lent = refl; since = inr (faithful wide room) })
         go (Refused k) e = rw (answers, e, shown-still s l f) (refl, joined s l f)
