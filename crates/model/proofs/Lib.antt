@@ -4,9 +4,10 @@ pub mod Tables
 pub mod Sound
 pub mod Joined
 pub mod Opening
-pub mod Watching
 pub mod Quoting
+pub mod Watching
 pub mod Replay
+pub mod Kept
 pub mod Marked
 pub mod ChangeFrames
 pub mod ChangesFit
@@ -14,4 +15,3 @@ pub mod Heeding
 pub mod ReadBack
 pub mod Following
 pub mod Watcher
-pub mod Kept
