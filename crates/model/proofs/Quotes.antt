@@ -89,15 +89,19 @@ module _ (M N : ℕ) where
 -- ---- one more quote
 
 module _ (s : Reference) (x : List ℕ) (some : 1 ≤ s .capacity) where
+  -- the newest position before the quote
   abbrev M : ℕ
   M = newest s
 
+  -- the first position of the window of N before the quote
   abbrev S : ℕ
   S = windowStart M (s .capacity)
 
+  -- and after it
   abbrev S' : ℕ
   S' = windowStart (suc M) (s .capacity)
 
+  -- the position that expires
   abbrev g : ℕ
   g = expiring M (s .capacity)
 
@@ -134,6 +138,7 @@ module _ (s : Reference) (x : List ℕ) (some : 1 ≤ s .capacity) where
   unfolding quoteAt
   quote-new = let e : suc M - 1 ≡ M = omega arith in rw e (getD-append-seam (s .quotes) x [] [])
 
+  -- the quote changes no dominance in the window before it
   unchanged : (p q : ℕ) → S ≤ p → p ≤ M → S ≤ q → q ≤ M → D p q ≡ over s p q
   unfolding windowStart
   unchanged p q a b u v = over-within (s .dimensions) (s .directions) (s .quotes) (x ∷ []) p q (omega arith) b (omega arith) v
@@ -142,9 +147,11 @@ module _ (s : Reference) (x : List ℕ) (some : 1 ≤ s .capacity) where
   L : List ℕ
   L = filter (undominated D (suc M)) (between S' M)
 
+  -- the rows that stay, by the book model's rule
   abbrev left : List Row
   left = remaining (s .dimensions) (s .directions) x g (rowsOf s)
 
+  -- they are those positions' rows
   left-is : left ≡ map (rowOf s) L
   unfolding L remaining remains rowsOf rowOf rows between dominatesAt
   left-is =
@@ -197,7 +204,7 @@ module _ (s : Reference) (x : List ℕ) (some : 1 ≤ s .capacity) where
           ∙ sym seek
           ∙ ap (lowerEndAmong (s .dimensions) (s .directions) x) (sym left-is)
 
-  -- the rows with one more quote
+  -- the rows of the quotes with one more are the book model's step of the rows before
   pub rows-after-quote : rowsOf (withQuote s x) ≡ rowsAfter (s .dimensions) (s .directions) (s .capacity) (newest s) x (rowsOf s)
   unfolding L rowsOf withQuote rowsAfter between
   rows-after-quote =
