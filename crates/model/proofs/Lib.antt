@@ -15,3 +15,10 @@ pub mod Heeding
 pub mod ReadBack
 pub mod Following
 pub mod Watcher
+pub mod Worst
+pub mod Plays
+pub mod AuditTables
+pub mod Rules
+pub mod RulesToTape
+pub mod TapeToRules
+pub mod Audit

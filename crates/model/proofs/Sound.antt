@@ -133,7 +133,7 @@ unfolding filter
 filter-zeros zero = refl
 filter-zeros (suc k) = filter-zeros k
 
-any-zeros : (k : ℕ) → any (ltb 0) (replicate k 0) ≡ false
+pub any-zeros : (k : ℕ) → any (ltb 0) (replicate k 0) ≡ false
 unfolding any
 any-zeros zero = refl
 any-zeros (suc k) = any-zeros k
