@@ -50,11 +50,16 @@ none-of-six a b c d e f h =
 pub untorn-whole : (h : Head) (rs : List Row) → tornRows h rs ≡ false → Whole h rs
 unfolding tornRows
 untorn-whole h rs e =
-    let risen = rising (windowStart (h .newest) (h .capacity)) (h .newest) (map Row.position rs) in
-    let none =
+    from (
     none-of-six (ltb (h .capacity) (h .rows)) (ltb lastPosition (h .newest)) (eqb (h .rows) 0 && ltb 0 (h .newest) || ltb 0 (h .rows) && eqb (h .newest) 0)
-    (not risen) (not (eqb (lastOr 0 (map Row.position rs)) (h .newest))) (any (λ r. not (ltb (r .lowerEnd) (r .position))) rs) e in
-    record {
+    (not risen) (not (eqb (lastOr 0 (map Row.position rs)) (h .newest))) (any (λ r. not (ltb (r .lowerEnd) (r .position))) rs) e
+    )
+  where
+    risen : Bool
+    risen = rising (windowStart (h .newest) (h .capacity)) (h .newest) (map Row.position rs)
+
+    from : (ltb (h .capacity) (h .rows) ≡ false) × (ltb lastPosition (h .newest) ≡ false) × (not risen ≡ false) → Whole h rs
+    from none = record {
       few-rows = ltb-false (h .capacity) (h .rows) (none .0);
       low-newest = ltb-false lastPosition (h .newest) (none .1);
       rises = not-false risen (none .2);
@@ -79,15 +84,18 @@ module _ (h : Head) (t : Tables) where
   abbrev rs : List Row
   rs = bookRows h t
 
+  -- the cells past the count are 0
+  abbrev zeros : Bool
+  zeros = zeroFrom (h .rows * d) (N * d) (t .columns) && zeroFrom (h .rows) N (t .positions) && zeroFrom (h .rows) N (t .lowerEnds)
+
   -- tables that are not too short and hold zeros past the count are clean
-  long-clean : shortTables t d N ≡ false → zeroFrom (h .rows * d) (N * d) (t .columns) && zeroFrom (h .rows) N (t .positions) && zeroFrom (h .rows) N (t .lowerEnds) ≡ true
-      → Clean d N (h .rows) t
+  long-clean : shortTables t d N ≡ false → zeros ≡ true → Clean d N (h .rows) t
   unfolding shortTables
-  long-clean long zeros =
+  long-clean long e =
       let z1 = zeroFrom (h .rows * d) (N * d) (t .columns) in
       let z2 = zeroFrom (h .rows) N (t .positions) in
       let z3 = zeroFrom (h .rows) N (t .lowerEnds) in
-      let front = and-left (z1 && z2) z3 zeros in
+      let front = and-left (z1 && z2) z3 e in
       let l1 = ltb (length (t .columns)) (N * d) in
       let l2 = ltb (length (t .positions)) N in
       let l3 = ltb (length (t .lowerEnds)) N in
@@ -98,7 +106,7 @@ module _ (h : Head) (t : Tables) where
         ends-room = ltb-false (length (t .lowerEnds)) N (none-right (l1 || l2) l3 long);
         columns-zero = and-left z1 z2 front;
         positions-zero = and-right z1 z2 front;
-        ends-zero = and-right (z1 && z2) z3 zeros;
+        ends-zero = and-right (z1 && z2) z3 e;
       }
 
   clean-long : Clean d N (h .rows) t → shortTables t d N ≡ false
@@ -117,9 +125,7 @@ module _ (h : Head) (t : Tables) where
       let outdoneAny = any (outdone d (h .directions) rs) rs in
       let wrongAny = any (λ r. not (eqb (r .lowerEnd) (rightEnd d (h .directions) rs r))) rs in
       let gapAny = any (unexplained d (h .directions) rs) (between (windowStart (h .newest) N) (h .newest)) in
-      let all =
-      all-of-five (not (tornRows h rs)) (not outdoneAny) (not wrongAny)
-      (zeroFrom (h .rows * d) (N * d) (t .columns) && zeroFrom (h .rows) N (t .positions) && zeroFrom (h .rows) N (t .lowerEnds)) (not gapAny) e in
+      let all = all-of-five (not (tornRows h rs)) (not outdoneAny) (not wrongAny) zeros (not gapAny) e in
       record {
         untorn = not-true (tornRows h rs) (all .0);
         rules = record { none-outdone = not-true outdoneAny (all .1); ends-right = not-true wrongAny (all .2); explained = not-true gapAny (all .4) };
