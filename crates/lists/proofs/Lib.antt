@@ -6,3 +6,5 @@ pub mod Runs
 pub mod Cells
 pub mod Rising
 pub mod Writing
+pub mod Storing
+pub mod Apart
