@@ -37,9 +37,11 @@ left-passes s t some room wide small left =
     }
 
 module _ (h : Head) (t : Tables) (hold : settingsHold (h .dimensions) (h .capacity) (h .directions) ≡ true) where
+  -- the columns of a quote
   abbrev d : ℕ
   d = h .dimensions
 
+  -- the capacity
   abbrev N : ℕ
   N = h .capacity
 

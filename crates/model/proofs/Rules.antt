@@ -41,12 +41,14 @@ pub record Whole (h : Head) (rs : List Row) : Type 0 where
   pub low-newest : h .newest ≤ lastPosition
   pub rises : rising (windowStart (h .newest) (h .capacity)) (h .newest) (map Row.position rs) ≡ true
 
+-- where none of six tests passes: the first, the second and the fourth
 none-of-six : (a b c d e f : Bool) → a || b || c || d || e || f ≡ false → (a ≡ false) × (b ≡ false) × (d ≡ false)
 none-of-six a b c d e f h =
     let h4 = none-left (a || b || c || d) e (none-left (a || b || c || d || e) f h) in
     let h2 = none-left (a || b) c (none-left (a || b || c) d h4) in
     (none-left a b h2, none-right a b h2, none-right (a || b || c) d h4)
 
+-- a head and rows that are not torn are whole
 pub untorn-whole : (h : Head) (rs : List Row) → tornRows h rs ≡ false → Whole h rs
 unfolding tornRows
 untorn-whole h rs e =
@@ -67,6 +69,7 @@ untorn-whole h rs e =
 
 -- ---- the verdict
 
+-- where all of five tests pass
 all-of-five : (a b c d e : Bool) → a && b && c && d && e ≡ true → (a ≡ true) × (b ≡ true) × (c ≡ true) × (d ≡ true) × (e ≡ true)
 all-of-five a b c d e h =
     let h4 = and-left (a && b && c && d) e h in
@@ -75,12 +78,15 @@ all-of-five a b c d e h =
     (and-left a b h2, and-right a b h2, and-right (a && b) c h3, and-right (a && b && c) d h4, and-right (a && b && c && d) e h)
 
 module _ (h : Head) (t : Tables) where
+  -- the columns of a quote
   abbrev d : ℕ
   d = h .dimensions
 
+  -- the capacity
   abbrev N : ℕ
   N = h .capacity
 
+  -- the rows in the tables
   abbrev rs : List Row
   rs = bookRows h t
 
@@ -109,6 +115,7 @@ module _ (h : Head) (t : Tables) where
         ends-zero = and-right (z1 && z2) z3 e;
       }
 
+  -- clean tables are not too short
   clean-long : Clean d N (h .rows) t → shortTables t d N ≡ false
   unfolding shortTables
   clean-long c =
@@ -132,6 +139,7 @@ module _ (h : Head) (t : Tables) where
         clean = long-clean long (all .3);
       }
 
+  -- where all the rules hold, `passes` says so
   passed-passes : Passed h t → passes h t ≡ true
   unfolding passes
   passed-passes p = rw (p .untorn, p .rules .none-outdone, p .rules .ends-right, p .rules .explained, p .clean .columns-zero, p .clean .positions-zero, p .clean .ends-zero)
