@@ -32,6 +32,6 @@ module _ (d e : ℕ → ℕ → Bool) (S M : ℕ) (agree : (p q : ℕ) → S ≤
   lower-cong p u v =
       ap (λ (r : List ℕ). lastOr 0 (filter (λ q. ltb q p && d q p) r)) rows-cong
       ∙ ap (lastOr 0)
-        (filter-filter (λ q. ltb q p && d q p) (undominated e M) (between S M)
-        ∙ filter-same (λ q. undominated e M q && (ltb q p && d q p)) (λ q. undominated e M q && (ltb q p && e q p)) S (suc M - S) (λ q a b. rw (agree q p a (omega arith) u v))
-        ∙ sym (filter-filter (λ q. ltb q p && e q p) (undominated e M) (between S M)))
+      (filter-filter (λ q. ltb q p && d q p) (undominated e M) (between S M)
+      ∙ filter-same (λ q. undominated e M q && (ltb q p && d q p)) (λ q. undominated e M q && (ltb q p && e q p)) S (suc M - S) (λ q a b. rw (agree q p a (omega arith) u v))
+      ∙ sym (filter-filter (λ q. ltb q p && e q p) (undominated e M) (between S M)))

@@ -92,7 +92,7 @@ module _ (dom : ℕ → ℕ → Bool) where
         stab : (y : ℕ) → Lower S p y → undominated dom M p ≡ true → y < s → undominated dom M p && on S M s p ≡ true
         stab y l st h =
             both (undominated dom M p) (on S M s p) st
-              (both (ltb (lowerEnd dom S M p) s) (leb s p) (rw (lower-is S M p y (omega arith) hp st l) (lt-ltb y s h)) (le-leb s p hs))
+            (both (ltb (lowerEnd dom S M p) s) (leb s p) (rw (lower-is S M p y (omega arith) hp st l) (lt-ltb y s h)) (le-leb s p hs))
 
         below : Free s M p → (y : ℕ) → Lower S p y → y < s
         below f _ (unbounded h) = h0
