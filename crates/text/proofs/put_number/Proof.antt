@@ -1,7 +1,6 @@
 -- `put_number` meets its contract: the digits are written from the last to the first, each in its place.
 use native.Mathlib.Omega.{arith}
 use borrow.Author.Needs.{needs}
-use lib.ListN.{length}
 use Rattle.text.proofs.Digits.{Putting, put-start, put-more, put-finish, at-most-ten}
 use Rattle.text.proofs.put_number.Statement.{statement}
 use Rattle.text.proofs.put_number.Tie as tie
