@@ -3,6 +3,7 @@ pub mod Booleans
 pub mod Filters
 pub mod Members
 pub mod Runs
+pub mod Cells
 pub mod Rising
 pub mod Writing
 pub mod Laying
