@@ -1,0 +1,115 @@
+-- How the two models stand between two calls of a list, and what the book model then reads and judges.
+use mathlib.Core.Path.{_≡_, refl, sym, ap, _∙_}
+use mathlib.Core.Logic.{_⊎_, inr}
+use Prim.Native.Nat.{ℕ, _≤_}
+use mathlib.Core.Bool.{Bool, true, false, _&&_, not}
+use mathlib.Core.List.{List, _∷_}
+use lib.Dec.{ltb, leb}
+use lib.ListN.{length}
+use borrow.Author.Tests.{leb-true, not-false}
+use Rattle.lists.specs.Lists.{rising, padded}
+use Rattle.lists.proofs.Booleans.{and-left, and-right, none-left}
+use Rattle.head.specs.declared.Refusal.{Refusal}
+use Rattle.head.specs.declared.Refusal.the-variants.{Settings}
+use Rattle.head.specs.Refusals.{first}
+use Rattle.head.specs.Heads.{lastPosition}
+use Rattle.head.proofs.Settings.{settings-within}
+use Rattle.model.specs.Rows.{rowsIn, filled}
+use Rattle.model.specs.Reference.{Reference, unopened, newest, skylineOf, rowsOf, headOf, opened, outside}
+use Rattle.model.specs.Book.{shortTables, shortLoan, tornRows, tornWatches, standing, bookRows, listOf, answerOf, watchfulAnswer}
+use Rattle.model.specs.Calls.{Call, Lent, World, bookStep, shown, Desk, deskStep}
+use Rattle.model.proofs.Quotes.{skyline-listed}
+use Rattle.model.proofs.Tables.{rows-filled}
+use Rattle.model.proofs.Sound.{Wide, rows-few, rows-wide, rows-sound, standing-padded, watches-sound}
+
+-- from the first accepted opening on: what is lent is filled from the reference model, whose settings hold, whose quotes have d
+-- columns each and are not too many, and whose watched n rise from 1 to N and are at most eight
+pub record Faithful (s : Reference) (l : Lent) : Type 0 where
+  pub settings : opened s ≡ true
+  pub wide : Wide s
+  pub within : newest s ≤ lastPosition
+  pub long : shortLoan (l .tables) (l .watches) (s .dimensions) (s .capacity) ≡ false
+  pub tables : filled (s .dimensions) (s .capacity) (rowsOf s) (l .tables) ≡ l .tables
+  pub records : padded 8 (s .watched) (l .watches) ≡ l .watches
+  pub risen : rising 1 (s .capacity) (s .watched) ≡ true
+  pub eight : length (s .watched) ≤ 8
+
+-- between two calls: the head is the reference model's, both models are lent the same, and either no opening was accepted or what
+-- is lent is faithful
+pub record Joined (k : Desk) (w : World) : Type 0 where
+  pub head : w .head ≡ headOf (k .reference)
+  pub lent : w .lent ≡ k .lent
+  pub since : (k .reference ≡ unopened) ⊎ Faithful (k .reference) (k .lent)
+
+-- what is seen of a call is the same in both models, and they stand joined after it
+abbrev pub Agree : Call → Desk → World → Type 0
+Agree c k w = (bookStep c w .0 ≡ deskStep c k .0) × Joined (deskStep c k .1) (bookStep c w .1)
+
+-- the two models, joined
+abbrev pub desk : Reference → Lent → Desk
+desk s l = record { reference = s; lent = l }
+
+abbrev pub world : Reference → Lent → World
+world s l = record { head = headOf s; lent = l }
+
+-- n is from 1 to N
+pub in-range : (s : Reference) (n : ℕ) → outside s n ≡ false → (1 ≤ n) × (n ≤ s .capacity)
+unfolding outside
+in-range s n e =
+    let t = not-false (leb 1 n && leb n (s .capacity)) e in
+    (leb-true 1 n (and-left (leb 1 n) (leb n (s .capacity)) t), leb-true n (s .capacity) (and-right (leb 1 n) (leb n (s .capacity)) t))
+
+-- the book model's list of n of a reference model's rows
+pub list-is : (s : Reference) (n : ℕ) → 1 ≤ n → n ≤ s .capacity → listOf (headOf s) (rowsOf s) n ≡ skylineOf s n
+unfolding listOf headOf
+list-is s n h k = skyline-listed s n h k
+
+-- what is lent, as an opened reference model shows it
+pub shown-opened : (s : Reference) (l : Lent) → opened s ≡ true
+    → shown s l ≡ record { tables = filled (s .dimensions) (s .capacity) (rowsOf s) (l .tables); watches = padded 8 (s .watched) (l .watches) }
+unfolding shown
+shown-opened s l e = rw e
+
+module _ (s : Reference) (l : Lent) (f : Faithful s l) where
+  pub joined : Joined (desk s l) (world s l)
+  joined = record { head = refl; lent = refl; since = inr f }
+
+  -- what is lent is as the reference model shows it
+  pub shown-still : shown s l ≡ l
+  shown-still = rw (shown-opened s l (f .settings), f .tables, f .records)
+
+  pub some-capacity : 1 ≤ s .capacity
+  unfolding opened
+  some-capacity = settings-within (s .dimensions) (s .capacity) (s .directions) (f .settings) .some-capacity
+
+  -- the book model reads the rows of the reference model
+  pub rows-read : bookRows (headOf s) (l .tables) ≡ rowsOf s
+  unfolding bookRows headOf
+  rows-read =
+      ap (rowsIn (s .dimensions) (length (rowsOf s))) (sym (f .tables))
+      ∙ rows-filled (s .dimensions) (s .capacity) (rowsOf s) (l .tables) (rows-few s some-capacity) (rows-wide s (f .wide))
+
+  -- and its watched n
+  pub watches-read : standing (l .watches) ≡ s .watched
+  watches-read = ap standing (sym (f .records)) ∙ standing-padded (s .capacity) (s .watched) (l .watches) (f .risen) (f .eight)
+
+  -- and its skylines
+  pub skyline-read : (n : ℕ) → 1 ≤ n → n ≤ s .capacity → listOf (headOf s) (bookRows (headOf s) (l .tables)) n ≡ skylineOf s n
+  skyline-read n h k = rw rows-read (list-is s n h k)
+
+  rows-whole : tornRows (headOf s) (rowsOf s) ≡ false
+  rows-whole = rows-sound s some-capacity (f .within)
+
+  watches-whole : tornWatches (s .capacity) (l .watches) ≡ false
+  watches-whole = ap (tornWatches (s .capacity)) (sym (f .records)) ∙ watches-sound (s .capacity) (s .watched) (l .watches) (f .risen) (f .eight)
+
+  -- neither 3 nor 11 nor 12 is said: the answer is by what the call adds
+  pub judged : (more more' : List (Bool × Refusal)) → first more ≡ first more' → answerOf (headOf s) (l .tables) more ≡ first ((not (opened s), Settings) ∷ more')
+  unfolding answerOf first headOf opened shortLoan
+  judged more more' e =
+      rw (f .settings, none-left (shortTables (l .tables) (s .dimensions) (s .capacity)) (ltb (length (l .watches)) 8) (f .long), rows-read, rows-whole) e
+
+  -- and no more so if the watches are judged too
+  pub judged-watchful : (more more' : List (Bool × Refusal)) → first more ≡ first more' → watchfulAnswer (headOf s) (l .tables) (l .watches) more ≡ first ((not (opened s), Settings) ∷ more')
+  unfolding watchfulAnswer first headOf opened
+  judged-watchful more more' e = rw (f .settings, f .long, rows-read, rows-whole, watches-whole) e

@@ -1,0 +1,89 @@
+-- An opening is answered alike by both models, whatever stood before.
+use mathlib.Core.Path.{_≡_, refl, sym, _∙_}
+use mathlib.Core.Logic.{_⊎_, inl, inr}
+use Prim.Native.Nat.{ℕ, zero-le}
+use native.Mathlib.Omega.{arith}
+use mathlib.Core.Bool.{true, false}
+use mathlib.Core.List.{[], List·Memᴰ·not-nil}
+use lib.Dec.{ltb}
+use lib.ListN.{length}
+use borrow.Author.Tests.{ltb-false, not-false}
+use Rattle.lists.specs.Lists.{rising, laid, padded}
+use Rattle.lists.proofs.Booleans.{none-left, none-right}
+use Rattle.lists.proofs.Writing.{length-padded, padded-again}
+use Rattle.head.specs.declared.Answer.{Answer}
+use Rattle.head.specs.declared.Answer.the-variants.{Accepted, Refused}
+use Rattle.head.specs.Refusals.{settled}
+use Rattle.head.specs.Heads.{freshHead, settingsHold}
+use Rattle.head.proofs.Answers.{accepted-passed}
+use Rattle.model.specs.Rows.{filled}
+use Rattle.model.specs.Reference.{Reference, unopened, rowsOf, headOf, opened, opening, tooShort, tells, referenceStep}
+use Rattle.model.specs.Book.{shortTables, shortLoan, replyOf, openAnswer, openReply, openTables, openWatches}
+use Rattle.model.specs.Calls.{Open, Lent, bookStep, deskStep, fed, outputOf, shown}
+use Rattle.model.proofs.Tables.{Fit, filled-again, filled-long}
+use Rattle.model.proofs.Sound.{rows-none}
+use Rattle.model.proofs.Joined.{Faithful, Agree, desk, world, shown-opened, shown-still}
+
+-- what is lent stays as it is where no opening was accepted, too
+pub still : (s : Reference) (l : Lent) → (s ≡ unopened) ⊎ Faithful s l → shown s l ≡ l
+unfolding shown opened settingsHold
+still s l (inl e) = rw e
+still s l (inr f) = shown-still s l f
+
+module _ (d N directions : ℕ) (l : Lent) where
+  abbrev fresh : Reference
+  fresh = opening d N directions
+
+  -- what is lent, once opened
+  abbrev cleared : Lent
+  cleared = record { tables = filled d N [] (l .tables); watches = padded 8 [] (l .watches) }
+
+  no-rows : rowsOf fresh ≡ []
+  unfolding opening
+  no-rows = rows-none fresh refl
+
+  head-fresh : headOf fresh ≡ freshHead d N directions
+  unfolding headOf opening
+  head-fresh = rw no-rows
+
+  nothing : Fit d []
+  nothing r m = absurd (List·Memᴰ·not-nil m)
+
+  module _ (holds : settingsHold d N directions ≡ true) (long : shortLoan (l .tables) (l .watches) d N ≡ false) where
+    shown-cleared : shown fresh l ≡ cleared
+    unfolding opening opened
+    shown-cleared = shown-opened fresh l holds ∙ rw no-rows
+
+    faithful : Faithful fresh cleared
+    unfolding opening opened rising shortLoan
+    faithful = record {
+      settings = holds;
+      wide = λ p h k. absurd (omega arith);
+      within = zero-le;
+      long =
+          rw (
+            filled-long d N [] (l .tables) zero-le nothing (none-left (shortTables (l .tables) d N) (ltb (length (l .watches)) 8) long) d N,
+            length-padded 8 [] (l .watches) zero-le (ltb-false (length (l .watches)) 8 (none-right (shortTables (l .tables) d N) (ltb (length (l .watches)) 8) long)),
+          )
+          long;
+      tables = rw no-rows (filled-again d N [] (l .tables) zero-le nothing []);
+      records = padded-again 8 [] [] (l .watches) zero-le;
+      risen = refl;
+      eight = zero-le;
+    }
+
+  module _ (s : Reference) (since : (s ≡ unopened) ⊎ Faithful s l) where
+    abbrev answer : Answer
+    answer = openAnswer d N directions (l .tables) (l .watches)
+
+    pub opens : Agree (Open d N directions) (desk s l) (world s l)
+    unfolding bookStep deskStep referenceStep tells fed outputOf openReply openTables openWatches replyOf settled laid tooShort shortLoan shortTables openAnswer
+    opens = go answer refl
+      where
+        go : (a : Answer) → answer ≡ a → Agree (Open d N directions) (desk s l) (world s l)
+        go Accepted e =
+            let a = accepted-passed _ _ _ e in
+            let holds = not-false (settingsHold d N directions) (a .0) in
+            let long = accepted-passed _ _ _ (a .1) .0 in
+            rw (e, shown-cleared holds long, head-fresh) (refl, record { head = sym head-fresh; lent = refl; since = inr (faithful holds long) })
+        go (Refused k) e = rw (e, still s l since) (refl, record { head = refl; lent = refl; since = since })

@@ -1,0 +1,98 @@
+-- What is filled into the tables is read back, the last filling counts, and no filling changes a length.
+use mathlib.Core.Path.{_≡_, refl, sym, ap, ap₂, _∙_}
+use Prim.Native.Nat.{ℕ, zero, suc, _*_, _≤_}
+use native.Mathlib.Nat.{zero-mul, suc-mul, add-comm, mul-le-mul-right}
+use mathlib.Core.Bool.{false, _||_}
+use mathlib.Core.List.{List, [], _∷_, _++_, map, List·Memᴰ, List·Memᴰ·head, List·Memᴰ·tail, append-assoc}
+use lib.Dec.{ltb}
+use lib.ListN.{length, getD, take, length-append, length-map}
+use lib.Seq.{take-at, drop-append-add}
+use borrow.Author.Tests.{ltb-false}
+use Rattle.lists.specs.Lists.{flat, run, padded}
+use Rattle.lists.proofs.Booleans.{none-left, none-right}
+use Rattle.lists.proofs.Members.{map-same-mem}
+use Rattle.lists.proofs.Writing.{length-padded, padded-again}
+use Rattle.model.specs.Rows.{Row, Tables, rowAt, rowsIn, filled}
+use Rattle.model.specs.Book.{shortTables}
+
+-- every row has d columns
+abbrev pub Fit : ℕ → List Row → Type 0
+Fit d rs = (r : Row) → List·Memᴰ r rs → length (r .columns) ≡ d
+
+-- tables that begin with these rows
+abbrev begun : List Row → Tables → Tables
+begun rs t = record {
+  columns = flat (map Row.columns rs) ++ t .columns;
+  positions = map Row.position rs ++ t .positions;
+  lowerEnds = map Row.lowerEnd rs ++ t .lowerEnds;
+}
+
+run-shift : {A : Type 0} (f : ℕ → A) (a k : ℕ) → map f (run (suc a) k) ≡ map (λ i. f (suc i)) (run a k)
+unfolding run
+run-shift f a zero = refl
+run-shift {A} f a (suc k) = ap (λ (l : List A). f (suc a) ∷ l) (run-shift f (suc a) k)
+
+module _ (d : ℕ) where
+  -- the place behind the first row of the tables
+  next-row : (r : Row) (rs : List Row) (t : Tables) (i : ℕ) → length (r .columns) ≡ d → rowAt d (begun (r ∷ rs) t) (suc i) ≡ rowAt d (begun rs t) i
+  unfolding rowAt flat
+  next-row r rs t i h =
+      ap (λ (c : List ℕ). record { position = getD (begun rs t .positions) i 0; lowerEnd = getD (begun rs t .lowerEnds) i 0; columns = take d c })
+      (rw (append-assoc, suc-mul, add-comm, ← h) (drop-append-add (r .columns) (flat (map Row.columns rs) ++ t .columns) (i * length (r .columns))))
+
+  first-row : (r : Row) (rs : List Row) (t : Tables) → length (r .columns) ≡ d → rowAt d (begun (r ∷ rs) t) 0 ≡ r
+  unfolding rowAt flat
+  first-row r rs t h =
+      ap (λ (c : List ℕ). record { position = r .position; lowerEnd = r .lowerEnd; columns = c })
+      (rw (append-assoc, zero-mul) (take-at (r .columns) (flat (map Row.columns rs) ++ t .columns) d h))
+
+  -- rows that the tables begin with are read
+  begun-read : (rs : List Row) (t : Tables) → Fit d rs → rowsIn d (length rs) (begun rs t) ≡ rs
+  unfolding rowsIn run
+  begun-read [] t fit = refl
+  begun-read (r ∷ rs) t fit =
+      let h = fit r (List·Memᴰ·head refl) in
+      ap₂ {C = List Row} (λ (q : Row) (l : List Row). q ∷ l) (first-row r rs t h)
+      (run-shift (rowAt d (begun (r ∷ rs) t)) 0 (length rs)
+      ∙ map-same-mem (λ i. rowAt d (begun (r ∷ rs) t) (suc i)) (rowAt d (begun rs t)) (run 0 (length rs)) (λ i m. next-row r rs t i h)
+      ∙ begun-read rs t (λ q m. fit q (List·Memᴰ·tail m)))
+
+  cells-counted : (rs : List Row) → Fit d rs → length (flat (map Row.columns rs)) ≡ length rs * d
+  unfolding flat
+  cells-counted [] fit = sym (zero-mul d)
+  cells-counted (r ∷ rs) fit =
+      length-append (r .columns) (flat (map Row.columns rs))
+      ∙ rw (fit r (List·Memᴰ·head refl), cells-counted rs (λ q m. fit q (List·Memᴰ·tail m))) (add-comm d (length rs * d) ∙ sym (suc-mul (length rs) d))
+
+  module _ (N : ℕ) (rs : List Row) (t : Tables) (few : length rs ≤ N) (fit : Fit d rs) where
+    cells-fit : length (flat (map Row.columns rs)) ≤ N * d
+    cells-fit = rw (cells-counted rs fit) (mul-le-mul-right d few)
+
+    -- what is filled is read back
+    pub rows-filled : rowsIn d (length rs) (filled d N rs t) ≡ rs
+    unfolding filled padded
+    rows-filled = begun-read rs record { columns = _; positions = _; lowerEnds = _ } fit
+
+    -- the last filling counts
+    pub filled-again : (rs' : List Row) → filled d N rs' (filled d N rs t) ≡ filled d N rs' t
+    unfolding filled
+    filled-again rs' =
+        rw (
+          padded-again (N * d) (flat (map Row.columns rs')) (flat (map Row.columns rs)) (t .columns) cells-fit,
+          padded-again N (map Row.position rs') (map Row.position rs) (t .positions) (rw length-map few),
+          padded-again N (map Row.lowerEnd rs') (map Row.lowerEnd rs) (t .lowerEnds) (rw length-map few),
+        )
+
+    -- tables that are long enough keep their lengths
+    pub filled-long : shortTables t d N ≡ false → (d' N' : ℕ) → shortTables (filled d N rs t) d' N' ≡ shortTables t d' N'
+    unfolding filled shortTables
+    filled-long h d' N' =
+        let a = none-left (ltb (length (t .columns)) (N * d) || ltb (length (t .positions)) N) (ltb (length (t .lowerEnds)) N) h in
+        rw (
+          length-padded (N * d) (flat (map Row.columns rs)) (t .columns) cells-fit
+              (ltb-false (length (t .columns)) (N * d) (none-left (ltb (length (t .columns)) (N * d)) (ltb (length (t .positions)) N) a)),
+          length-padded N (map Row.position rs) (t .positions) (rw length-map few)
+              (ltb-false (length (t .positions)) N (none-right (ltb (length (t .columns)) (N * d)) (ltb (length (t .positions)) N) a)),
+          length-padded N (map Row.lowerEnd rs) (t .lowerEnds) (rw length-map few)
+              (ltb-false (length (t .lowerEnds)) N (none-right (ltb (length (t .columns)) (N * d) || ltb (length (t .positions)) N) (ltb (length (t .lowerEnds)) N) h)),
+        )
