@@ -5,8 +5,7 @@ use lib.ListN.{length-set, length-take, length-drop}
 use borrow.Author.Needs.{needs}
 use Rattle.text.specs.Text.{field}
 use Rattle.text.proofs.Digits.{at-most-ten}
-use Rattle.text.proofs.Lines
-use Rattle.text.proofs.Lines.{behind-first, short-field}
+use Rattle.text.proofs.Lines.{behind-first, of-front}
 use Rattle.text.proofs.put_field.Statement.{statement}
 use Rattle.text.proofs.put_field.Tie as tie
 
@@ -31,13 +30,11 @@ add-result c = omega (arith, c .before .before .put-number .ensures .counted, at
 same-length : tie.Need-same-length
 unfolding field
 same-length c =
-    Lines.same-length {before = now (c .before .before .before .before .before .args .text)}
-    (behind-first 32 _ _ _ _ (omega arith) (c .before .before .put-number .ensures))
-    (omega (arith, short-field (c .before .before .before .before .before .args .n)))
+    behind-first 32 _ {before = now (c .before .before .before .before .before .args .text)} (omega (arith, at-most-ten (c .before .before .before .before .before .args .n))) (c .before .before .put-number .ensures) .long
 
 returns : tie.Need-returns
 unfolding field
-returns c = behind-first 32 _ _ _ _ (omega arith) (c .before .before .put-number .ensures)
+returns c = of-front (behind-first 32 _ (omega (arith, at-most-ten (c .before .before .before .before .before .args .n))) (c .before .before .put-number .ensures))
 
 pub put-field-spec : {M : Type 1} → statement M
 put-field-spec =

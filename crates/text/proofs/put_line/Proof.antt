@@ -4,8 +4,7 @@ use native.Mathlib.Omega.{arith}
 use denote.Ref.{now}
 use lib.ListN.{length, length-set, length-take, length-drop}
 use borrow.Author.Needs.{needs}
-use Rattle.text.proofs.Lines
-use Rattle.text.proofs.Lines.{line-short, Line, line-start, line-room, line-more, line-finish, laid-field}
+use Rattle.text.proofs.Lines.{of-front, Line, line-start, line-room, line-more, line-finish, laid-field}
 use Rattle.text.proofs.put_line.Statement.{statement}
 use Rattle.text.proofs.put_line.Tie as tie
 
@@ -63,12 +62,10 @@ add-result c =
     omega (arith, length-set (now (a .text)) 0 (a .letter), line-room _ _ (c .before .loop .inv))
 
 same-length : tie.Need-same-length Inv-loop μ-loop
-same-length c =
-    let a = c .before .before .before .before .args in
-    Lines.same-length (line-finish _ _ {before = now (a .text)} (c .before .loop .inv) (c .loop-test .left)) (omega (arith, line-short (a .letter) (now (a .numbers))))
+same-length c = line-finish _ _ {before = now (c .before .before .before .before .args .text)} (c .before .loop .inv) (c .loop-test .left) .long
 
 returns : tie.Need-returns Inv-loop μ-loop
-returns c = line-finish _ _ (c .before .loop .inv) (c .loop-test .left)
+returns c = of-front (line-finish _ _ (c .before .loop .inv) (c .loop-test .left))
 
 pub put-line-spec : {M : Type 1} → statement M
 put-line-spec =
