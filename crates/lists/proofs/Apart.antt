@@ -1,14 +1,15 @@
--- Parts of lists: two tests that never both pass, rising lists within rising lists, one more at the end, wider bounds.
+-- Parts of lists: two tests that never both pass, rising lists within rising lists, one more at the
+-- end, wider bounds, and membership in what is put together or taken out.
 use mathlib.Core.Path.{_≡_, refl, sym, ap, _∙_}
 use Prim.Native.Nat.{ℕ, suc, _+_, _≤_, _<_}
 use native.Mathlib.Nat.{le-refl}
 use native.Mathlib.Omega.{arith}
-use mathlib.Core.Bool.{Bool, true, false, _&&_, _||_}
+use mathlib.Core.Bool.{Bool, true, false, _&&_, _||_, not}
 use mathlib.Core.List.{List, [], _∷_, _++_, map}
 use lib.Dec.{eqb}
 use lib.ListN.{length}
-use borrow.Author.Tests.{le-leb}
-use Rattle.lists.specs.Lists.{keep, filter, contains, rising}
+use borrow.Author.Tests.{le-leb, eqb-true, eq-eqb}
+use Rattle.lists.specs.Lists.{keep, filter, contains, rising, without}
 use Rattle.lists.proofs.Booleans.{agree, clash, and-right, both}
 use Rattle.lists.proofs.Filters.{any-append}
 use Rattle.lists.proofs.Members.{of-filter, into-map, of-map, contains-mem, mem-contains, contains-filter}
@@ -34,7 +35,7 @@ length-apart {A} f g (x ∷ xs) h = go (f x) (g x) (h x) (length-apart f g xs h)
 
 module _ (lo hi : ℕ) where
   -- a rising list whose members are all in another is a filter of it
-  pub rising-part : (l m : List ℕ) → rising lo hi l ≡ true → rising lo hi m ≡ true → ((p : ℕ) → contains p l ≡ true → contains p m ≡ true)
+  rising-part : (l m : List ℕ) → rising lo hi l ≡ true → rising lo hi m ≡ true → ((p : ℕ) → contains p l ≡ true → contains p m ≡ true)
       → l ≡ filter (λ p. contains p l) m
   rising-part l m e f part =
       rising-ext lo hi l (filter (λ p. contains p l) m) e (rising-filter (λ p. contains p l) lo hi m f)
@@ -86,3 +87,10 @@ contains-map-filter g f l p e =
 pub contains-append : (p : ℕ) (l m : List ℕ) → contains p (l ++ m) ≡ contains p l || contains p m
 unfolding contains
 contains-append p l m = any-append (eqb p) l m
+
+pub eqb-swap : (a b : ℕ) → eqb a b ≡ eqb b a
+eqb-swap a b = agree (eqb a b) (eqb b a) (λ t. eq-eqb b a (sym (eqb-true a b t))) (λ t. eq-eqb a b (sym (eqb-true b a t)))
+
+pub contains-without : (q p : ℕ) (l : List ℕ) → contains q (without p l) ≡ contains q l && not (eqb q p)
+unfolding without
+contains-without q p l = contains-filter (λ y. not (eqb p y)) q l ∙ ap (λ (b : Bool). contains q l && not b) (eqb-swap p q)

@@ -7,4 +7,5 @@ pub mod Cells
 pub mod Rising
 pub mod Writing
 pub mod Laying
+pub mod Storing
 pub mod Apart

@@ -6,11 +6,11 @@ use native.Mathlib.Nat.{le-refl}
 use native.Mathlib.Omega.{arith}
 use mathlib.Core.Bool.{Bool, true, false, _&&_, _||_, not}
 use mathlib.Core.List.{List, [], _∷_, _++_, map}
-use lib.Dec.{ltb, eqb}
+use lib.Dec.{ltb, leb, eqb}
 use lib.ListN.{length, take, length-append, length-take, length-map}
-use borrow.Author.Tests.{ltb-false, not-false}
-use Rattle.lists.specs.Lists.{any, lastOr, flat, run, contains, rising}
-use Rattle.lists.proofs.Booleans.{and-left, or-cases, or-left, or-right, none-left, none-right}
+use borrow.Author.Tests.{le-ltb, not-false}
+use Rattle.lists.specs.Lists.{flat, run, contains, rising}
+use Rattle.lists.proofs.Booleans.{and-left, or-cases, or-left, or-right, none-left}
 use Rattle.lists.proofs.Filters.{length-filter, map-append, map-map}
 use Rattle.lists.proofs.Members.{contains-filter}
 use Rattle.lists.proofs.Runs.{length-run}
@@ -18,49 +18,17 @@ use Rattle.lists.proofs.Rising.{rising-filter}
 use Rattle.lists.proofs.Apart.{parts-fit, rising-map-filter, rising-snoc, rising-wide, contains-map-filter, contains-append}
 use Rattle.skyline.specs.Skyline.{windowStart, stabbed}
 use Rattle.head.specs.declared.Head.{Head}
+use Rattle.head.specs.declared.Refusal.the-variants.{Settings, ColumnCount, TapeFull, ShortLoan, Torn, ShortOutput}
+use Rattle.head.specs.Refusals.{first}
 use Rattle.head.specs.Heads.{settingsHold, lastPosition}
 use Rattle.head.proofs.Settings.{settings-within}
 use Rattle.frames.specs.declared.Message.{Message}
 use Rattle.frames.specs.declared.Message.the-variants.{Leave, Join}
 use Rattle.model.specs.Rows.{Row, Tables, rowAt, rowsIn, expiring, renamedRow, listed, remains, remaining, lowerEndAmong, rowsAfter}
 use Rattle.model.specs.Changes.{missing, changes, allChanges, frames}
-use Rattle.model.specs.Book.{tornRows, standing, bookRows, listOf, quoteRows, quoteHead, quoteBytes}
+use Rattle.model.specs.Book.{shortLoan, tornRows, tornWatches, standing, bookRows, listOf, watchfulAnswer, quoteRows, quoteHead, quoteBytes, quoteAnswer}
+use Rattle.model.proofs.Rules.{Whole, untorn-whole}
 use Rattle.model.proofs.ChangeFrames.{frames-append, changes-bytes}
-
--- what is used of rows that are not torn
-record Sound (h : Head) (rs : List Row) : Type 0 where
-  few : h .rows ≤ h .capacity
-  ordered : rising (windowStart (h .newest) (h .capacity)) (h .newest) (map Row.position rs) ≡ true
-
-sound : (h : Head) (rs : List Row) → tornRows h rs ≡ false → Sound h rs
-unfolding tornRows
-sound h rs e =
-    let e4 = none-left (((A || B) || C) || D) E (none-left ((((A || B) || C) || D) || E) F e) in
-    record {
-      few = ltb-false (h .capacity) (h .rows) (none-left A B (none-left (A || B) C (none-left ((A || B) || C) D e4)));
-      ordered = not-false rises (none-right ((A || B) || C) D e4);
-    }
-  where
-    rises : Bool
-    rises = rising (windowStart (h .newest) (h .capacity)) (h .newest) (map Row.position rs)
-
-    A : Bool
-    A = ltb (h .capacity) (h .rows)
-
-    B : Bool
-    B = ltb lastPosition (h .newest)
-
-    C : Bool
-    C = eqb (h .rows) 0 && ltb 0 (h .newest) || ltb 0 (h .rows) && eqb (h .newest) 0
-
-    D : Bool
-    D = not rises
-
-    E : Bool
-    E = not (eqb (lastOr 0 (map Row.position rs)) (h .newest))
-
-    F : Bool
-    F = any (λ r. not (ltb (r .lowerEnd) (r .position))) rs
 
 -- leaves and joins of two rising lists are no more than the members of a rising list that has those of both
 changes-among : (lo hi n : ℕ) (before after all : List ℕ) → rising lo hi before ≡ true → rising lo hi after ≡ true → rising lo hi all ≡ true
@@ -71,7 +39,7 @@ changes-among lo hi n before after all eb ea el pb pa =
     let fit = parts-fit lo hi leaves joins all (rising-filter (λ p. not (contains p after)) lo hi before eb) (rising-filter (λ p. not (contains p before)) lo hi after ea) el
     (λ p t. pb p (and-left (contains p before) (not (contains p after)) (sym (contains-filter (λ p. not (contains p after)) p before) ∙ t)))
     (λ p t. pa p (and-left (contains p after) (not (contains p before)) (sym (contains-filter (λ p. not (contains p before)) p after) ∙ t)))
-    (λ p. rw (contains-filter, contains-filter) (apart (contains p before) (contains p after))) in
+    (λ p. simp contains-filter (apart (contains p before) (contains p after))) in
     omega (arith, length-append (map (Leave n) leaves) (map (Join n) joins), length-map leaves (Leave n), length-map joins (Join n))
   where
     leaves : List ℕ
@@ -86,7 +54,7 @@ changes-among lo hi n before after all eb ea el pb pa =
     apart false true = refl
     apart false false = refl
 
-module _ (h : Head) (x : List ℕ) (rs : List Row) (ok : Sound h rs) where
+module _ (h : Head) (x : List ℕ) (rs : List Row) (ok : Whole h rs) where
   -- the position that expires, and the first of the window
   abbrev gone : ℕ
   gone = expiring (h .newest) (h .capacity)
@@ -116,7 +84,7 @@ module _ (h : Head) (x : List ℕ) (rs : List Row) (ok : Sound h rs) where
 
   left-rises : rising start (h .newest) (map Row.position left) ≡ true
   unfolding remaining
-  left-rises = rising-map-filter Row.position (remains (h .dimensions) (h .directions) x gone) start (h .newest) rs (ok .ordered)
+  left-rises = rising-map-filter Row.position (remains (h .dimensions) (h .directions) x gone) start (h .newest) rs (ok .rises)
 
   -- the new position behind a part of the old ones
   behind : (l : List ℕ) → rising start (h .newest) l ≡ true → rising start (h .newest + 1) (l ++ ((h .newest + 1) ∷ [])) ≡ true
@@ -143,9 +111,9 @@ module _ (h : Head) (x : List ℕ) (rs : List Row) (ok : Sound h rs) where
   unfolding listed
   rows-change n s s' =
       let fit = changes-among start (h .newest + 1) n (listed s rs) (listed s' next) all
-      (rising-wide start (h .newest) (h .newest + 1) (listed s rs) (omega arith) (rising-map-filter Row.position (onList s) start (h .newest) rs (ok .ordered)))
+      (rising-wide start (h .newest) (h .newest + 1) (listed s rs) (omega arith) (rising-map-filter Row.position (onList s) start (h .newest) rs (ok .rises)))
       (rising-map-filter Row.position (onList s') start (h .newest + 1) next (rw next-positions (behind (map Row.position left) left-rises)))
-      (behind (map Row.position rs) (ok .ordered))
+      (behind (map Row.position rs) (ok .rises))
       (λ p t. old-among p (contains-map-filter Row.position (onList s) rs p t))
       (λ p t. next-among p (contains-map-filter Row.position (onList s') next p t)) in
       omega (arith, length-append (map Row.position rs) ((h .newest + 1) ∷ []), length-map rs Row.position)
@@ -198,11 +166,40 @@ changes-fit h x t ws holds whole =
     next-head : Head
     next-head = quoteHead h x t ws
 
-    ok : Sound h rs
-    ok = sound h rs whole
+    ok : Whole h rs
+    ok = untorn-whole h rs whole
 
     each : (n : ℕ) → length (changes n (listOf h rs n) (listOf next-head next n)) ≤ h .rows + 1
     each n = omega (arith, rows-change h x rs ok n (windowStart (h .newest) n) (windowStart (next-head .newest) n), length-rows h t)
 
     most : h .rows + 1 ≤ 1025
-    most = let w = settings-within (h .dimensions) (h .capacity) (h .directions) holds in omega (arith, ok .few)
+    most = let w = settings-within (h .dimensions) (h .capacity) (h .directions) holds in omega (arith, ok .few-rows)
+
+-- a last refusal that is never given where the first and the third are not
+never-last : (a b c d e o : Bool) → (a ≡ false → c ≡ false → o ≡ false)
+    → first ((a, Settings) ∷ (b, ShortLoan) ∷ (c, Torn) ∷ (d, ColumnCount) ∷ (e, TapeFull) ∷ (o, ShortOutput) ∷ [])
+    ≡ first ((a, Settings) ∷ (b, ShortLoan) ∷ (c, Torn) ∷ (d, ColumnCount) ∷ (e, TapeFull) ∷ [])
+unfolding first
+never-last true b c d e o h = refl
+never-last false true c d e o h = refl
+never-last false false true d e o h = refl
+never-last false false false true e o h = refl
+never-last false false false false true o h = refl
+never-last false false false false false o h = rw (h refl refl)
+
+-- so an output of 57,400 bytes is too short for no quote: its answer is by the other refusals alone
+pub room-suffices : (h : Head) (x : List ℕ) (t : Tables) (ws : List ℕ) (room : ℕ) → 57400 ≤ room
+    → quoteAnswer h x t ws room ≡ watchfulAnswer h t ws ((not (eqb (length x) (h .dimensions)), ColumnCount) ∷ (leb lastPosition (h .newest), TapeFull) ∷ [])
+unfolding quoteAnswer watchfulAnswer
+room-suffices h x t ws room wide =
+    never-last (not held) (shortLoan t ws (h .dimensions) (h .capacity)) (torn || tornWatches (h .capacity) ws) (not (eqb (length x) (h .dimensions))) (leb lastPosition (h .newest)) (ltb room (length bytes))
+    (λ a c. le-ltb room (length bytes) (omega (arith, changes-fit h x t ws (not-false held a) (none-left torn (tornWatches (h .capacity) ws) c) .bytes-most)))
+  where
+    held : Bool
+    held = settingsHold (h .dimensions) (h .capacity) (h .directions)
+
+    torn : Bool
+    torn = tornRows h (bookRows h t)
+
+    bytes : List ℕ
+    bytes = quoteBytes h x t ws

@@ -25,7 +25,7 @@ use Rattle.frames.specs.declared.Message.{Message}
 use Rattle.frames.specs.declared.Message.the-variants.{Join}
 use Rattle.model.specs.Changes.{allChanges, frames}
 use Rattle.model.specs.Reference.{Reference, newest, over, skylineOf, withQuote, withWatched, opening, tells, referenceStep}
-use Rattle.model.specs.Calls.{Call, Open, Quote, Look, Watch, End, Lent, Seen, fed, outputOf, deskStep}
+use Rattle.model.specs.Calls.{Call, Open, Quote, Look, Watch, End, Lent, Seen, fed, outputOf, expectedStep}
 use Rattle.model.specs.Watcher.{Held, Nothing, Holding, messagesFrom, heedsAll, reads, watcherStep, heldBy}
 use Rattle.model.proofs.Joined.{in-range}
 use Rattle.model.proofs.Heeding.{first-heeded, other-joins, all-heeded}
@@ -61,8 +61,8 @@ held-on n s next ms e f = rw e (go (contains n (s .watched)) f)
     go true h = ap Holding (h refl)
     go false h = refl
 
--- what is used of a reference model between two calls
-pub record Sane (s : Reference) : Type 0 where
+-- a reference model whose positions and watched n fit the frames of changes, and whose watched n rise
+pub record Bounded (s : Reference) : Type 0 where
   pub short : newest s ≤ lastPosition
   pub small : s .capacity ≤ 1024
   pub risen : rising 1 (s .capacity) (s .watched) ≡ true
@@ -78,33 +78,36 @@ skyline-rises s n hi h =
     start : ℕ
     start = windowStart (newest s) n
 
-module _ (n : ℕ) (s : Reference) (l : Lent) (ok : Sane s) where
+module _ (n : ℕ) (s : Reference) (l : Lent) (ok : Bounded s) where
   -- the watcher of n after a call of the reference model
   abbrev Follows : Call → Type 0
-  Follows c = let one = deskStep c (record { reference = s; lent = l }) in watcherStep n c (one .0) (heldBy n s) ≡ heldBy n (one .1 .reference)
+  Follows c = let one = expectedStep c (record { reference = s; lent = l }) in watcherStep n c (one .0) (heldBy n s) ≡ heldBy n (one .1 .reference)
 
   -- the answer of the reference model
   abbrev answered : Call → Answer
-  answered c = deskStep c (record { reference = s; lent = l }) .0 .reply .answer
+  answered c = expectedStep c (record { reference = s; lent = l }) .0 .reply .answer
 
+  -- an accepted opening ends every watch
   opens : (d N directions : ℕ) → Follows (Open d N directions)
-  unfolding deskStep referenceStep tells fed watcherStep settled heldBy opening contains any
+  unfolding expectedStep referenceStep tells fed watcherStep settled heldBy opening contains any
   opens d N directions = go (answered (Open d N directions))
     where
       go : (a : Answer) → settled a Nothing (heldBy n s) ≡ heldBy n (settled a (opening d N directions) s)
       go Accepted = refl
       go (Refused k) = refl
 
+  -- a look changes nothing
   looks : (m : ℕ) (out : List ℕ) → Follows (Look m out)
-  unfolding deskStep referenceStep tells fed watcherStep settled
+  unfolding expectedStep referenceStep tells fed watcherStep settled
   looks m out = go (answered (Look m out))
     where
       go : (a : Answer) → heldBy n s ≡ heldBy n (settled a s s)
       go Accepted = refl
       go (Refused k) = refl
 
+  -- an accepted end ends the watch of its n
   ends : (m : ℕ) → Follows (End m)
-  unfolding deskStep referenceStep tells fed watcherStep settled heldBy withWatched skylineOf without
+  unfolding expectedStep referenceStep tells fed watcherStep settled heldBy withWatched skylineOf without
   ends m = go (answered (End m))
     where
       dropped : (b c : Bool) → cond b Nothing (cond c (Holding (skylineOf s n)) Nothing) ≡ cond (c && not b) (Holding (skylineOf s n)) Nothing
@@ -127,6 +130,7 @@ module _ (n : ℕ) (s : Reference) (l : Lent) (ok : Sane s) where
     abbrev watching : Reference
     watching = withWatched s (insert m (s .watched))
 
+    -- a watch changes no skyline and no other watch
     still : skylineOf watching n ≡ skylineOf s n
     unfolding withWatched skylineOf
     still = refl
@@ -145,8 +149,9 @@ module _ (n : ℕ) (s : Reference) (l : Lent) (ok : Sane s) where
             rw (contains-insert, eq-eqb n m (sym (eqb-true m n t)), t, still, eqb-true m n t) (ap Holding (first-heeded 1 lastPosition n (skylineOf s n) (skyline-rises s n lastPosition (ok .short))))
         pick (inr t) = rw t (held-on n s watching joins (others-stand t) (λ u. other-joins n m t (skylineOf s m) (skylineOf s n) ∙ sym still))
 
+    -- the joins of an accepted watch are read
     watches : Follows (Watch m out)
-    unfolding deskStep referenceStep tells fed outputOf watcherStep settled
+    unfolding expectedStep referenceStep tells fed outputOf watcherStep settled
     watches = go (answered (Watch m out)) refl
       where
         go : (a : Answer) → answered (Watch m out) ≡ a → Follows (Watch m out)
@@ -167,6 +172,7 @@ module _ (n : ℕ) (s : Reference) (l : Lent) (ok : Sane s) where
     messages = allChanges (s .watched) (skylineOf s) (skylineOf next)
 
     module _ (room : newest s < lastPosition) where
+      -- the skylines before and after rise, and their changes have frames
       before-rises : (m : ℕ) → rising 1 lastPosition (skylineOf s m) ≡ true
       before-rises m = skyline-rises s m lastPosition (ok .short)
 
@@ -177,12 +183,14 @@ module _ (n : ℕ) (s : Reference) (l : Lent) (ok : Sane s) where
       fits : Sent messages
       fits = sent-all 1 lastPosition (omega arith) (skylineOf s) (skylineOf next) before-rises after-rises 1 (s .capacity) (omega (arith, ok .small)) (s .watched) (ok .risen)
 
+      -- they lead from what is held before to what is to be held after
       moved : heldAfter n messages (heldBy n s) ≡ heldBy n next
       unfolding withQuote
       moved = held-on n s next messages refl (λ t. all-heeded n (skylineOf s) (skylineOf next) 1 lastPosition 1 (s .capacity) (s .watched) (before-rises n) (after-rises n) (ok .risen) t)
 
+    -- the changes of an accepted quote are read
     quotes : Follows (Quote x out)
-    unfolding deskStep referenceStep tells fed outputOf watcherStep settled
+    unfolding expectedStep referenceStep tells fed outputOf watcherStep settled
     quotes = go (answered (Quote x out)) refl
       where
         go : (a : Answer) → answered (Quote x out) ≡ a → Follows (Quote x out)
@@ -191,6 +199,7 @@ module _ (n : ℕ) (s : Reference) (l : Lent) (ok : Sane s) where
             rw e (reads-frames n messages (fits room) _ out refl refl (heldBy n s) ∙ moved room)
         go (Refused k) e = rw e (reads-nothing n _ refl (heldBy n s))
 
+  -- after each call the watcher holds what it is to hold
   pub follows : (c : Call) → Follows c
   follows (Open d N directions) = opens d N directions
   follows (Quote x out) = quotes x out

@@ -10,22 +10,21 @@ use mathlib.Core.List.{List, [], _∷_, _++_, map}
 use lib.Dec.{eqb}
 use borrow.Author.Tests.{eqb-true, eq-eqb, not-true}
 use Rattle.lists.specs.Lists.{any, flat, contains, rising, insert, without}
-use Rattle.lists.proofs.Booleans.{either, agree, clash, refute, and-right, or-left, or-right, none-left, none-right, neither}
+use Rattle.lists.proofs.Booleans.{either, clash, refute, and-right, or-left, or-right, none-left, none-right, neither}
 use Rattle.lists.proofs.Members.{contains-filter}
 use Rattle.lists.proofs.Rising.{Rises, rising-cons, rising-filter, rising-above, rising-ext, contains-insert, rising-insert}
+use Rattle.lists.proofs.Apart.{eqb-swap, contains-without}
 use Rattle.frames.specs.declared.Message.{Message}
 use Rattle.frames.specs.declared.Message.the-variants.{Leave, Join}
 use Rattle.model.specs.Changes.{missing, changes, allChanges}
 use Rattle.model.specs.Watcher.{heeds, heedsAll}
 
-eqb-swap : (a b : ℕ) → eqb a b ≡ eqb b a
-eqb-swap a b = agree (eqb a b) (eqb b a) (λ t. eq-eqb b a (sym (eqb-true a b t))) (λ t. eq-eqb a b (sym (eqb-true b a t)))
-
+-- no message, and messages behind others
 heeds-none : (n : ℕ) (held : List ℕ) → heedsAll n held [] ≡ held
 unfolding heedsAll
 heeds-none n held = refl
 
-pub heeds-append : (n : ℕ) (held : List ℕ) (ms ns : List Message) → heedsAll n held (ms ++ ns) ≡ heedsAll n (heedsAll n held ms) ns
+heeds-append : (n : ℕ) (held : List ℕ) (ms ns : List Message) → heedsAll n held (ms ++ ns) ≡ heedsAll n (heedsAll n held ms) ns
 unfolding heedsAll
 heeds-append n held [] ns = refl
 heeds-append n held (m ∷ ms) ns = heeds-append n (heeds n held m) ms ns
@@ -38,10 +37,6 @@ heeds-leave n p held ms = ap (λ (b : Bool). heedsAll n (cond b (without p held)
 heeds-join : (n p : ℕ) (held : List ℕ) (ms : List Message) → heedsAll n held (Join n p ∷ ms) ≡ heedsAll n (insert p held) ms
 unfolding heedsAll heeds
 heeds-join n p held ms = ap (λ (b : Bool). heedsAll n (cond b (insert p held) held) ms) (eq-eqb n n refl)
-
-contains-without : (q p : ℕ) (l : List ℕ) → contains q (without p l) ≡ contains q l && not (eqb q p)
-unfolding without
-contains-without q p l = contains-filter (λ y. not (eqb p y)) q l ∙ ap (λ (b : Bool). contains q l && not b) (eqb-swap p q)
 
 -- a rising list with the members that a test tells
 record Holds (lo hi : ℕ) (l : List ℕ) (member : ℕ → Bool) : Type 0 where
@@ -91,7 +86,7 @@ module _ (lo hi n : ℕ) where
       moved false b c = refl
 
   -- the changes of its own n lead from the list before to the list after
-  pub own-heeded : (before after : List ℕ) → rising lo hi before ≡ true → rising lo hi after ≡ true → heedsAll n before (changes n before after) ≡ after
+  own-heeded : (before after : List ℕ) → rising lo hi before ≡ true → rising lo hi after ≡ true → heedsAll n before (changes n before after) ≡ after
   unfolding changes missing
   own-heeded before after e f =
       let out = leaves-heeded (missing before after) before e in
@@ -100,7 +95,7 @@ module _ (lo hi n : ℕ) where
       let done = joins-heeded lo (missing after before) kept (le-refl lo) risen (out .risen) (λ p t. out .members p ∙ rw (new p t)) in
       heeds-append n before (map (Leave n) (missing before after)) (map (Join n) (missing after before))
       ∙ rising-ext lo hi (heedsAll n kept (map (Join n) (missing after before))) after (done .risen) f
-      (λ p. done .members p ∙ rw (out .members p, contains-filter, contains-filter) (swapped (contains p before) (contains p after)))
+      (λ p. done .members p ∙ rw (out .members p) (simp contains-filter (swapped (contains p before) (contains p after))))
     where
       new : (p : ℕ) → contains p (missing after before) ≡ true → contains p before ≡ false
       new p t = not-true (contains p before) (and-right (contains p after) (not (contains p before)) (sym (contains-filter (λ p. not (contains p before)) p after) ∙ t))
@@ -120,6 +115,7 @@ module _ (lo hi n : ℕ) where
 
 -- ---- another n
 
+-- messages of which none is heeded
 unheeded : (n : ℕ) (message : ℕ → Message) → ((p : ℕ) (held : List ℕ) → heeds n held (message p) ≡ held) → (l held : List ℕ) → heedsAll n held (map message l) ≡ held
 unfolding heedsAll
 unheeded n message e [] held = refl
@@ -131,6 +127,7 @@ module _ (n m : ℕ) (other : eqb m n ≡ false) where
   unfolding heeds
   other-joins = unheeded n (Join m) (λ p held. rw other)
 
+  -- nor its leaves, nor its changes
   other-leaves : (l held : List ℕ) → heedsAll n held (map (Leave m) l) ≡ held
   unfolding heeds
   other-leaves = unheeded n (Leave m) (λ p held. rw other)
@@ -144,6 +141,7 @@ module _ (n m : ℕ) (other : eqb m n ≡ false) where
 -- ---- the changes of every watch
 
 module _ (n : ℕ) (before after : ℕ → List ℕ) where
+  -- the changes of watches without n are not heeded
   none-heeded : (watched held : List ℕ) → contains n watched ≡ false → heedsAll n held (allChanges watched before after) ≡ held
   unfolding allChanges flat heedsAll contains any
   none-heeded [] held e = refl

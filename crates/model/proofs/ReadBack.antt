@@ -44,18 +44,19 @@ read-back _ (more {m} {ms} w s) before (suc k) h =
     (rw (← (length-append before (frame m [])), ← (append-assoc before (frame m []) (frames ms)))
     (read-back ms s (before ++ frame m []) k (omega (arith, frame-length m [] (w .has-frame) (w .enough), length-append (frame m []) (frames ms)))))
 
--- ---- the messages of the calls are changes that fit
+-- ---- the messages of the calls have frames
 
-pub sent-append : {ms ns : List Message} → Sent ms → Sent ns → Sent (ms ++ ns)
+sent-append : {ms ns : List Message} → Sent ms → Sent ns → Sent (ms ++ ns)
 sent-append none t = t
 sent-append (more c s) t = more c (sent-append s t)
 
 -- a message for each position of a rising list
-pub sent-map : (message : ℕ → Message) (lo hi : ℕ) → ((p : ℕ) → p ≤ hi → Writable (message p) []) → (l : List ℕ) → rising lo hi l ≡ true → Sent (map message l)
+sent-map : (message : ℕ → Message) (lo hi : ℕ) → ((p : ℕ) → p ≤ hi → Writable (message p) []) → (l : List ℕ) → rising lo hi l ≡ true → Sent (map message l)
 sent-map message lo hi fits [] e = none
 sent-map message lo hi fits (p ∷ l) e = let r = rising-cons lo hi p l e in more (fits p (r .high)) (sent-map message (suc p) hi fits l (r .rest))
 
 module _ (lo hi : ℕ) (short : hi < 4294967296) where
+  -- joins, and the changes of one watch
   pub sent-joins : (n : ℕ) (l : List ℕ) → n < 65536 → rising lo hi l ≡ true → Sent (map (Join n) l)
   sent-joins n l h = sent-map (Join n) lo hi (λ p u. join-writable n p h (omega arith)) l
 

@@ -1,0 +1,105 @@
+-- The reference model fed with quotes and no watch: which quotes it takes, and what it holds after them.
+use mathlib.Core.Path.{_≡_, refl, sym, ap, _∙_}
+use Prim.Native.Nat.{ℕ, zero, suc, _+_, _≤_, _<_, zero-le}
+use native.Mathlib.Nat.{zero-add}
+use native.Mathlib.Omega.{arith}
+use mathlib.Core.Bool.{Bool, true, false, _&&_, not, cond}
+use mathlib.Core.List.{List, [], _∷_, _++_, append-nil, append-assoc}
+use lib.Dec.{leb, eqb}
+use lib.ListN.{length, getD, length-append}
+use borrow.Author.Tests.{eqb-true, leb-false, eq-eqb, lt-leb}
+use Rattle.lists.specs.Lists.{flat}
+use Rattle.head.specs.declared.Refusal.the-variants.{ColumnCount, TapeFull}
+use Rattle.head.specs.Refusals.{first, settled}
+use Rattle.head.specs.Heads.{settingsHold, lastPosition}
+use Rattle.model.specs.Changes.{allChanges, frames}
+use Rattle.model.specs.Reference.{Reference, Fed, opening, opened, withQuote, tells, referenceStep}
+use Rattle.model.specs.Audit.{plays}
+
+-- the reference model that holds these quotes, with no watch standing
+abbrev pub holding : ℕ → ℕ → ℕ → List (List ℕ) → Reference
+holding d N directions qs = record { dimensions = d; capacity = N; directions = directions; quotes = qs; watched = [] }
+
+-- every quote has d columns
+abbrev pub WideAll : ℕ → List (List ℕ) → Type 0
+WideAll d qs = (k : ℕ) → k < length qs → length (getD qs k []) ≡ d
+
+plays-nil : (s : Reference) → plays [] s ≡ s
+unfolding plays
+plays-nil s = refl
+
+module _ (d N directions : ℕ) (hold : settingsHold d N directions ≡ true) where
+  -- the model of these settings that holds quotes
+  abbrev at : List (List ℕ) → Reference
+  at = holding d N directions
+
+  -- a quote is taken if it has d columns and the tape is not full
+  quote-next : (x : List ℕ) (qs : List (List ℕ))
+      → referenceStep (Fed.Quote x 0) (at qs) .next ≡ cond (eqb (length x) d && not (leb lastPosition (length qs))) (at (qs ++ (x ∷ []))) (at qs)
+  unfolding referenceStep tells opened first settled withQuote allChanges frames flat
+  quote-next x qs = rw hold (go (eqb (length x) d) (leb lastPosition (length qs)))
+    where
+      go : (a b : Bool) → settled (first ((not a, ColumnCount) ∷ (b, TapeFull) ∷ [])) (at (qs ++ (x ∷ []))) (at qs) ≡ cond (a && not b) (at (qs ++ (x ∷ []))) (at qs)
+      go true true = refl
+      go true false = refl
+      go false b = refl
+
+  -- the first quote, and then the others
+  plays-cons : (x : List ℕ) (xs qs : List (List ℕ))
+      → plays (x ∷ xs) (at qs) ≡ plays xs (cond (eqb (length x) d && not (leb lastPosition (length qs))) (at (qs ++ (x ∷ []))) (at qs))
+  unfolding plays
+  plays-cons x xs qs = ap (plays xs) (quote-next x qs)
+
+  -- quotes of d columns are all taken while the tape is not full
+  plays-all : (xs qs : List (List ℕ)) → WideAll d xs → length qs + length xs ≤ lastPosition → plays xs (at qs) ≡ at (qs ++ xs)
+  unfolding plays
+  plays-all [] qs wide room = ap at (sym (append-nil qs))
+  plays-all (x ∷ xs) qs wide room =
+      rw (quote-next x qs, eq-eqb (length x) d (wide 0 (omega arith)), lt-leb lastPosition (length qs) (omega arith))
+      (plays-all xs (qs ++ (x ∷ [])) (λ k h. wide (suc k) (omega arith)) (simp length-append (omega arith))
+      ∙ ap at (append-assoc qs (x ∷ []) xs))
+
+  -- never more are held than were fed
+  fed-bound : (xs qs : List (List ℕ)) → length (plays xs (at qs) .quotes) ≤ length qs + length xs
+  fed-bound [] qs = rw (plays-nil (at qs)) (omega arith)
+  fed-bound (x ∷ xs) qs =
+      rw (plays-cons x xs qs)
+      (go (eqb (length x) d && not (leb lastPosition (length qs))) (simp length-append at (fed-bound xs (qs ++ (x ∷ [])))) (fed-bound xs qs))
+    where
+      go : (b : Bool) → length (plays xs (at (qs ++ (x ∷ []))) .quotes) ≤ length qs + 1 + length xs → length (plays xs (at qs) .quotes) ≤ length qs + length xs
+          → length (plays xs (cond b (at (qs ++ (x ∷ []))) (at qs)) .quotes) ≤ length qs + suc (length xs)
+      go true f g = omega arith
+      go false f g = omega arith
+
+  -- where as many are held as were fed, every quote had d columns and found room
+  taken : (xs qs : List (List ℕ)) → length qs ≤ lastPosition → length (plays xs (at qs) .quotes) ≡ length qs + length xs
+      → WideAll d xs × (length qs + length xs ≤ lastPosition)
+  taken [] qs room e = (λ k h. absurd (omega arith), omega arith)
+  taken (x ∷ xs) qs room e =
+      go (eqb (length x) d) refl (leb lastPosition (length qs)) refl (rw (plays-cons x xs qs) at e) (fed-bound xs qs)
+      (λ h f. taken xs (qs ++ (x ∷ [])) (simp length-append (omega arith)) (f ∙ simp length-append (omega arith)))
+    where
+      go : (a : Bool) → eqb (length x) d ≡ a → (b : Bool) → leb lastPosition (length qs) ≡ b
+          → length (plays xs (cond (a && not b) (at (qs ++ (x ∷ []))) (at qs)) .quotes) ≡ length qs + suc (length xs)
+          → length (plays xs (at qs) .quotes) ≤ length qs + length xs
+          → (length qs < lastPosition → length (plays xs (at (qs ++ (x ∷ []))) .quotes) ≡ length qs + suc (length xs) → WideAll d xs × (length (qs ++ (x ∷ [])) + length xs ≤ lastPosition))
+          → WideAll d (x ∷ xs) × (length qs + suc (length xs) ≤ lastPosition)
+      go true u true v e f r = absurd (omega arith)
+      go true u false v e f r =
+          let t = r (leb-false lastPosition (length qs) v) e in
+          (wide (t .0), let n = length-append qs (x ∷ []) in let m = t .1 in omega arith)
+        where
+          wide : WideAll d xs → WideAll d (x ∷ xs)
+          wide w zero h = eqb-true (length x) d u
+          wide w (suc k) h = w k (omega arith)
+      go false u b v e f r = absurd (omega arith)
+
+  -- an opened model holds a tape of quotes of d columns that is not too long
+  pub opening-plays : (qs : List (List ℕ)) → WideAll d qs → length qs ≤ lastPosition → plays qs (opening d N directions) ≡ at qs
+  unfolding opening
+  opening-plays qs wide room = plays-all qs [] wide (omega arith)
+
+  -- an opened model that holds as many quotes as the tape has took a tape of quotes of d columns that is not too long
+  pub opening-took : (qs : List (List ℕ)) → length (plays qs (opening d N directions) .quotes) ≡ length qs → WideAll d qs × (length qs ≤ lastPosition)
+  unfolding opening
+  opening-took qs e = rw zero-add at (taken qs [] zero-le (e ∙ sym (zero-add (length qs))))
