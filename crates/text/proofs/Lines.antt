@@ -1,17 +1,18 @@
 -- Laws of fields and lines: each piece is laid behind the ones before.
 use mathlib.Core.Path.{_≡_, refl, sym, ap, _∙_}
 use Prim.Native.Nat.{ℕ, zero, suc, _+_, _-_, _*_, _≤_, _<_}
-use native.Mathlib.Nat.{le-refl, le-antisymm, add-comm}
+use native.Mathlib.Nat.{le-refl, le-antisymm, add-comm, zero-add}
 use native.Mathlib.Omega.{arith}
 use native.Mathlib.Numerals.{add-one}
-use native.Mathlib.Decide.{le-ind}
 use mathlib.Core.List.{List, [], _∷_, _++_, map, append-nil}
-use lib.ListN.{length, getD, take, set, length-append, length-set}
-use lib.Seq.{take-suc, take-all, drop-set-lt}
+use lib.ListN.{length, getD, set, length-append, length-set}
+use lib.Seq.{take-all, drop-set-lt}
 use borrow.Rule.Slice.PartMut.{midOf, putMid}
-use Rattle.lists.specs.Lists.{flat, laid}
-use Rattle.lists.proofs.Filters.{flat-append, map-append}
-use Rattle.lists.proofs.Laying.{Front, front-none, front-store, front-more, Laying, laying-more}
+use Rattle.lists.specs.Lists.{flat, run, laid}
+use Rattle.lists.proofs.Filters.{flat-append, map-append, map-map}
+use Rattle.lists.proofs.Runs.{run-append}
+use Rattle.lists.proofs.Cells.{cells-part}
+use Rattle.lists.proofs.Laying.{Front, grows, front-none, front-store, front-more, Laying, laying-more}
 use Rattle.text.specs.Text.{field, line, Laid}
 use Rattle.text.proofs.Digits.{at-most-ten}
 
@@ -48,38 +49,32 @@ laid-field n l = omega (arith, l .counted, short-field n)
 module _ (letter : ℕ) (numbers : List ℕ) where
   -- a line without its newline, up to its first i numbers
   pub begun : ℕ → List ℕ
-  begun i = letter ∷ flat (map field (take i numbers))
+  begun i = letter ∷ flat (map (λ k. field (getD numbers k 0)) (run 0 i))
 
   -- one more number lays one more field
-  begun-more : (i : ℕ) → i < length numbers → begun (i + 1) ≡ begun i ++ field (getD numbers i 0)
-  unfolding begun flat
-  begun-more i h = rw (add-one, take-suc numbers i 0 h, map-append, flat-append, append-nil)
-
-  begun-length : (i : ℕ) → i < length numbers → length (begun (suc i)) ≡ length (begun i) + length (field (getD numbers i 0))
-  begun-length i h = rw (← (add-one i), begun-more i h) (length-append (begun i) (field (getD numbers i 0)))
+  begun-more : (i : ℕ) → begun (i + 1) ≡ begun i ++ field (getD numbers i 0)
+  unfolding begun flat run
+  begun-more i = rw (run-append, map-append, flat-append, append-nil, zero-add)
 
   begun-none : length (begun 0) ≡ 1
-  unfolding begun flat
+  unfolding begun flat run
   begun-none = refl
 
   -- how many bytes that is at most
-  begun-short : (i : ℕ) → i ≤ length numbers → length (begun i) ≤ 1 + 11 * i
-  begun-short zero h = omega (arith, begun-none)
-  begun-short (suc i) h = omega (arith, begun-length i h, begun-short i (omega arith), short-field (getD numbers i 0))
-
-  -- more numbers lay no fewer bytes
-  begun-grows : (i j : ℕ) → i ≤ j → j ≤ length numbers → length (begun i) ≤ length (begun j)
-  begun-grows i j h k =
-      le-ind (λ (m : ℕ). m ≤ length numbers → length (begun i) ≤ length (begun m)) (λ _. le-refl (length (begun i))) (λ m _ r u. omega (arith, begun-length m u, r (omega arith))) j h k
+  begun-short : (i : ℕ) → length (begun i) ≤ 1 + 11 * i
+  begun-short zero = omega (arith, begun-none)
+  begun-short (suc i) = rw (← (add-one i), begun-more i, length-append) (omega (arith, begun-short i, short-field (getD numbers i 0)))
 
   -- the line is what its numbers lay, and the newline
   whole-line : line letter numbers ≡ begun (length numbers) ++ (10 ∷ [])
   unfolding line begun
-  whole-line = rw (take-all (length numbers) numbers (le-refl (length numbers)))
+  whole-line =
+      let all : map (λ k. getD numbers k 0) (run 0 (length numbers)) ≡ numbers = cells-part 0 numbers 0 (length numbers) (omega arith) ∙ take-all (length numbers) numbers (le-refl (length numbers)) in
+      ap (λ (l : List (List ℕ)). letter ∷ (flat l ++ (10 ∷ []))) (ap (map field) (sym all) ∙ map-map field (λ k. getD numbers k 0) (run 0 (length numbers)))
 
   -- how long a line is at most
   pub line-short : length (line letter numbers) ≤ 2 + 11 * length numbers
-  line-short = rw (whole-line, length-append) (omega (arith, begun-short (length numbers) (le-refl (length numbers))))
+  line-short = rw (whole-line, length-append) (omega (arith, begun-short (length numbers)))
 
   -- the line after i numbers: what they lay stands at the front, and there is room for the rest
   pub record Line (before text : List ℕ) (at i : ℕ) : Type 0 where
@@ -88,14 +83,14 @@ module _ (letter : ℕ) (numbers : List ℕ) where
 
   -- the letter is stored
   pub line-start : (before : List ℕ) → 2 + 11 * length numbers ≤ length before → Line (set before 0 letter) (set before 0 letter) 1 0
-  unfolding begun flat
+  unfolding begun flat run
   line-start before h =
       let first = first-byte letter before (omega arith) in
       record {
         enough = rw length-set h;
         fields = record {
           within = omega arith;
-          room = rw length-set (omega (arith, begun-short (length numbers) (le-refl (length numbers))));
+          room = rw length-set (omega (arith, begun-short (length numbers)));
           front = record { long = refl; place = refl; cells = first .cells ∙ sym (over-first letter (letter ∷ []) before (le-refl 1)) };
         };
       }
@@ -103,7 +98,7 @@ module _ (letter : ℕ) (numbers : List ℕ) where
   module _ {before text : List ℕ} {at i : ℕ} (v : Line before text at i) where
     -- there is room for the fields to come and the newline behind them
     pub line-room : at + 11 * (length numbers - i) + 1 ≤ length text
-    line-room = omega (arith, begun-short i (v .fields .within))
+    line-room = omega (arith, begun-short i)
 
     -- one more field is laid into the rest of the text
     pub line-more : {last : List ℕ} {used : ℕ} → i < length numbers → Laid (field (getD numbers i 0)) (midOf at (length text - at) text) used last
@@ -112,7 +107,7 @@ module _ (letter : ℕ) (numbers : List ℕ) where
         record {
           enough = v .enough;
           fields =
-              laying-more (v .fields) h (field (getD numbers i 0)) (begun-more i h) (begun-grows (i + 1) (length numbers) (omega arith) (le-refl (length numbers)))
+              laying-more (v .fields) h (field (getD numbers i 0)) (begun-more i) (grows begun (λ k. field (getD numbers k 0)) begun-more (i + 1) (length numbers) (omega arith))
               (l .counted) (l .text);
         }
 
@@ -120,6 +115,6 @@ module _ (letter : ℕ) (numbers : List ℕ) where
   pub line-finish : {before text : List ℕ} {at i : ℕ} → Line (set before 0 letter) text at i → length numbers ≤ i → Front (line letter numbers) before (set text at 10) (at + 1)
   line-finish {before} {text} {at} {i} v k =
       let e : length numbers ≡ i = le-antisymm k (v .fields .within) in
-      let short : length (begun i ++ (10 ∷ [])) ≤ length (set before 0 letter) = rw length-append (omega (arith, begun-short i (v .fields .within))) in
+      let short : length (begun i ++ (10 ∷ [])) ≤ length (set before 0 letter) = rw length-append (omega (arith, begun-short i)) in
       let done : Front (line letter numbers) (set before 0 letter) (set text at 10) (at + 1) = rw (whole-line, e) (front-store (v .fields .front) 10 short) in
       record { long = done .long ∙ length-set before 0 letter; place = done .place; cells = done .cells ∙ over-first letter (line letter numbers) before (omega (arith, done .place)) }
