@@ -1,8 +1,7 @@
 -- What stands in the seven bytes of a frame: its line if it is a change, no line for any other kind.
 use mathlib.Core.Path.{_≡_, refl}
-use Prim.Native.Nat.{ℕ, _+_, _*_}
+use Prim.Native.Nat.{ℕ, _+_}
 use native.Mathlib.Nat.{add-assoc}
-use native.Mathlib.Omega.{arith}
 use mathlib.Core.Bool.{Bool, true, false, cond}
 use mathlib.Core.List.{List, [], _∷_}
 use lib.Dec.{eqb}
@@ -15,29 +14,16 @@ use Rattle.frames.specs.declared.Message.the-variants.{Quote, Look, Watch, Unwa
 use Rattle.text.specs.Text.{line, Laid}
 use Rattle.printed.specs.Printed.{changeLine, changeAt}
 
--- n and position as they stand in a frame that begins at a place
-pub record Decoded (bytes : List ℕ) (place n position : ℕ) : Type 0 where
-  pub first : n ≡ getD bytes (place + 1) 0 + 256 * getD bytes (place + 2) 0 + 65536 * 0 + 16777216 * 0
-  pub second : position ≡ getD bytes (place + 3) 0 + 256 * getD bytes (place + 4) 0 + 65536 * getD bytes (place + 5) 0 + 16777216 * getD bytes (place + 6) 0
-
-module _ {bytes : List ℕ} {place n position : ℕ} (d : Decoded bytes place n position) where
-  two : number2 bytes (place + 1) ≡ n
-  unfolding number2
-  two = simp add-assoc (omega (arith, d .first))
-
-  four : number4 bytes (place + 1 + 2) ≡ position
-  unfolding number4
-  four = simp add-assoc (omega (arith, d .second))
-
+module _ (bytes : List ℕ) (place : ℕ) {n position : ℕ} where
   -- the line of a leave
-  pub leave-line : getD bytes place 0 ≡ 32 → changeLine (changeAt bytes place) ≡ line 45 (n ∷ position ∷ [])
+  pub leave-line : getD bytes place 0 ≡ 32 → n ≡ number2 bytes (place + 1) → position ≡ number4 bytes (place + 3) → changeLine (changeAt bytes place) ≡ line 45 (n ∷ position ∷ [])
   unfolding changeLine changeAt messageAt
-  leave-line e = rw (e, two, four)
+  leave-line e u v = rw (e, add-assoc place 1 2, u, v)
 
   -- the line of a join
-  pub join-line : getD bytes place 0 ≡ 33 → changeLine (changeAt bytes place) ≡ line 43 (n ∷ position ∷ [])
+  pub join-line : getD bytes place 0 ≡ 33 → n ≡ number2 bytes (place + 1) → position ≡ number4 bytes (place + 3) → changeLine (changeAt bytes place) ≡ line 43 (n ∷ position ∷ [])
   unfolding changeLine changeAt messageAt
-  join-line e = rw (e, two, four)
+  join-line e u v = rw (e, add-assoc place 1 2, u, v)
 
 -- a frame of another kind has no line
 pub no-line : (bytes : List ℕ) (place : ℕ) → (getD bytes place 0 ≡ 32 → ⊥) → (getD bytes place 0 ≡ 33 → ⊥) → changeLine (changeAt bytes place) ≡ []

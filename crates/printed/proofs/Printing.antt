@@ -1,9 +1,7 @@
 -- The lines of changes laid one behind the other: how long they are at most, and the invariant of the loop that lays them.
 use mathlib.Core.Path.{_≡_, refl}
 use Prim.Native.Nat.{ℕ, _+_, _-_, _*_, _≤_, _<_}
-use native.Mathlib.Nat.{le-refl, zero-add}
-use native.Mathlib.Decide.{le-ind}
-use native.Mathlib.Numerals.{add-one}
+use native.Mathlib.Nat.{zero-add}
 use native.Mathlib.Omega.{arith}
 use mathlib.Core.List.{List, [], _∷_, _++_, append-nil}
 use lib.ListN.{length, length-append, length-map}
@@ -11,7 +9,7 @@ use borrow.Rule.Slice.PartMut.{midOf, putMid}
 use Rattle.lists.specs.Lists.{flat, run}
 use Rattle.lists.proofs.Filters.{flat-append, map-append}
 use Rattle.lists.proofs.Runs.{length-run, run-append}
-use Rattle.lists.proofs.Laying.{Laying, laying-start, laying-more, laying-all}
+use Rattle.lists.proofs.Laying.{grows, Laying, laying-start, laying-more, laying-all}
 use Rattle.frames.specs.declared.Message.{Message}
 use Rattle.frames.specs.declared.Message.the-variants.{Quote, Look, Watch, Unwatch, Leave, Join, Open, End, Refused}
 use Rattle.text.specs.Text.{Laid}
@@ -60,12 +58,6 @@ module _ (bytes : List ℕ) where
   unfolding printed changesIn
   printed-short k = omega (arith, changes-short (changesIn bytes k), length-map (run 0 k) (λ i. changeAt bytes (7 * i)), length-run 0 k)
 
-  -- more frames lay no fewer bytes
-  printed-grows : (i j : ℕ) → i ≤ j → length (printed i) ≤ length (printed j)
-  printed-grows i j h =
-      le-ind (λ (k : ℕ). length (printed i) ≤ length (printed k)) (le-refl (length (printed i)))
-      (λ k _ r. rw (← (add-one k), printed-more k, length-append) (omega arith)) j h
-
   -- after i of the frames: their lines stand at the front, and there is room for the rest
   pub record Printing (frames : ℕ) (before text : List ℕ) (at i : ℕ) : Type 0 where
     pub enough : 24 * frames ≤ length before
@@ -88,7 +80,7 @@ module _ (bytes : List ℕ) where
     printing-more h l =
         record {
           enough = v .enough;
-          lines = laying-more (v .lines) h (changeLine (changeAt bytes (7 * i))) (printed-more i) (printed-grows (i + 1) frames (omega arith)) (l .counted) (l .text);
+          lines = laying-more (v .lines) h (changeLine (changeAt bytes (7 * i))) (printed-more i) (grows printed (λ k. changeLine (changeAt bytes (7 * k))) printed-more (i + 1) frames (omega arith)) (l .counted) (l .text);
         }
 
     -- all lines stand at the front of the text

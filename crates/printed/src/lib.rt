@@ -4,14 +4,9 @@ ghost use Prim.Native.Nat.{_+_, _*_, _/_, _≤_};
 ghost use lib.ListN.{length};
 ghost use Rattle.text.specs.Text.{Laid};
 ghost use Rattle.printed.specs.Printed.{changeLine, changeLines, changeAt, changesIn};
+use frames::four_at;
+use frames::two_at;
 use text::put_line;
-
-// The number of four bytes, the low one first.
-fn of_four(a: u8, b: u8, c: u8, d: u8) -> u32
-    ensures { λ r. ⌜ r ≡ a + 256 * b + 65536 * c + 16777216 * d ⌝ }
-{
-    a as u32 + 256 * (b as u32) + 65536 * (c as u32) + 16777216 * (d as u32)
-}
 
 // Lays the line of the change whose frame begins at a place, and returns how many bytes: none for a frame of another kind.
 fn put_change(bytes: &[u8], place: usize, text: &mut [u8]) -> usize
@@ -19,13 +14,8 @@ fn put_change(bytes: &[u8], place: usize, text: &mut [u8]) -> usize
     requires { ⌜ 24 ≤ length (now text) ⌝ }
     ensures { λ r. ⌜ Laid (changeLine (changeAt (now (bytes .entry)) place)) (now (text .entry)) r (now (text .exit)) ⌝ }
 {
-    let n = of_four(bytes[place + 1], bytes[place + 2], 0, 0);
-    let position = of_four(
-        bytes[place + 3],
-        bytes[place + 4],
-        bytes[place + 5],
-        bytes[place + 6],
-    );
+    let n = two_at(bytes, place + 1) as u32;
+    let position = four_at(bytes, place + 3);
     let numbers = [n, position];
     let kind = bytes[place];
     if kind == 32 {
