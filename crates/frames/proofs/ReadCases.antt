@@ -9,7 +9,7 @@ use lib.ListN.{length, getD}
 use borrow.Author.Tests.{lt-ltb, le-ltb, lt-leb, le-leb, eq-eqb, ne-eqb, leb-true}
 use Rattle.lists.proofs.Booleans.{and-false, and-left, and-right}
 use Rattle.head.specs.declared.Refusal.the-variants.{UnknownKind, CutFrame}
-use Rattle.frames.specs.Bytes.{number2}
+use Rattle.octets.specs.Bytes.{number2}
 use Rattle.frames.specs.Frames.{within, bodyLength, messageAt, columnsAt, stays, readAt}
 use Rattle.frames.specs.declared.Message.{Message}
 use Rattle.frames.specs.declared.Message.the-variants.{Quote, Open, End, Refused}
@@ -51,10 +51,6 @@ pub some-column : (kind : ℕ) → (bodyLength kind ≡ 255 → ⊥) → 1 ≤ k
 unfolding bodyLength
 some-column zero known = absurd (known refl)
 some-column (suc k) known = omega arith
-
-pub quote-length : (kind : ℕ) → 1 ≤ kind → kind ≤ 6 → bodyLength kind ≡ 4 * kind
-unfolding bodyLength
-quote-length kind some few = simp (le-leb 1 kind some, le-leb kind 6 few)
 
 pub quote-message : (tape : List ℕ) (body kind : ℕ) → 1 ≤ kind → kind ≤ 6 → Quote kind ≡ messageAt tape body kind
 unfolding messageAt

@@ -13,7 +13,7 @@ use borrow.Author.Tests.{lt-ltb, le-ltb, le-leb, lt-leb}
 use Rattle.lists.specs.Lists.{run}
 use Rattle.lists.proofs.Booleans.{and-false}
 use Rattle.lists.proofs.Runs.{order, length-run, getD-run}
-use Rattle.frames.specs.Bytes.{number4}
+use Rattle.octets.specs.Bytes.{number4}
 use Rattle.frames.specs.Frames.{columnsAt}
 
 module _ (tape : List ℕ) (body : ℕ) where

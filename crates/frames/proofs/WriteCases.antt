@@ -13,12 +13,12 @@ use Rattle.lists.proofs.Booleans.{and-right, and-false, clash}
 use Rattle.head.specs.declared.Answer.the-variants.{Accepted, Refused}
 use Rattle.head.specs.declared.Refusal.the-variants.{UnknownKind, ShortOutput}
 use Rattle.head.specs.Refusals.{first, settled}
-use Rattle.frames.specs.Bytes.{bytes2, bytes4}
+use Rattle.octets.specs.Bytes.{bytes2, bytes4}
+use Rattle.octets.proofs.Cells.{length-cells}
 use Rattle.frames.specs.Frames.{within, framed, frame, writeAnswer, writeReply, writeOut}
 use Rattle.frames.specs.Writing.{frameLength, Wrote}
 use Rattle.frames.specs.declared.Message.{Message}
 use Rattle.frames.specs.declared.Message.the-variants.{Quote, Look, Watch, Unwatch, Leave, Join, Open, End, Refused as NotRead}
-use Rattle.frames.proofs.WriteColumns.{body, length-body}
 
 -- the frame of a quote
 module _ {m : Message} (k : ℕ) (e : m ≡ Quote k) where
@@ -38,11 +38,11 @@ module _ {m : Message} (k : ℕ) (e : m ≡ Quote k) where
       (leb-true k 6 (and-right (leb 1 k) (leb k 6) some), rw some at (rw e at h))
 
 length-frame : (m : Message) (columns : List ℕ) → length columns ≡ 6 → framed m ≡ true → length (frame m columns) ≡ frameLength m
-unfolding framed frame bytes2 bytes4 body
+unfolding framed frame bytes2 bytes4
 length-frame (Quote k) columns six f =
     let few : k ≤ 6 = leb-true k 6 (and-right (leb 1 k) (leb k 6) f) in
     let taken : length (take k columns) ≡ k = length-take-le k columns (omega arith) in
-    rw f (ap suc (length-body (take k columns) ∙ ap (λ (n : ℕ). 4 * n) taken) ∙ omega arith)
+    rw f (ap suc (length-cells (take k columns) ∙ ap (λ (n : ℕ). 4 * n) taken) ∙ omega arith)
 length-frame (Look n) columns six f = refl
 length-frame (Watch n) columns six f = refl
 length-frame (Unwatch n) columns six f = refl

@@ -6,12 +6,8 @@ mod writer;
 use head::Answer;
 use head::Refusal;
 pub use lengths::body_length;
-pub use reader::four_at;
 pub use reader::read_at;
-pub use reader::two_at;
 pub use writer::write;
-pub use writer::write_join;
-pub use writer::write_leave;
 
 // A message: what a frame says, or that there is none to read. A quote's columns stand beside it.
 pub enum Message {

@@ -16,7 +16,7 @@ use Rattle.head.specs.declared.Verdict.{Verdict}
 use Rattle.head.specs.declared.Verdict.the-variants.{Yes, No}
 use Rattle.head.specs.Refusals.{number, first, settled}
 use Rattle.head.specs.Heads.{freshHead, settingsHold, afterQuote}
-use Rattle.frames.specs.Bytes.{bytes2, bytes4}
+use Rattle.octets.specs.Bytes.{bytes2, bytes4}
 use Rattle.frames.specs.Frames.{frame}
 use Rattle.model.specs.Rows.{Row, Tables, rowAt, rowsIn, filled, expiring, renamed, renamedRow, listed, remains, remaining, lowerEndAmong, rowsAfter}
 use Rattle.model.specs.Changes.{missing, changes, allChanges, frames}

@@ -6,11 +6,12 @@ use mathlib.Core.List.{List, [], _∷_, _++_, map, append-assoc}
 use lib.ListN.{length, take, drop, length-append, take-append-drop}
 use lib.Seq.{getD-append-seam, drop-append-add, length-take-le}
 use Rattle.lists.specs.Lists.{flat, run}
-use Rattle.frames.specs.Bytes.{bytes2, bytes4, number2, number4}
+use Rattle.octets.specs.Bytes.{bytes2, bytes4, number2, number4}
 use Rattle.frames.specs.Frames.{frame, messageAt}
 use Rattle.frames.specs.declared.Message.{Message}
 use Rattle.frames.specs.declared.Message.the-variants.{Leave, Join}
-use Rattle.frames.proofs.Reading.{two-bytes, four-bytes, message-drop}
+use Rattle.octets.proofs.Numbers.{two-bytes, four-bytes}
+use Rattle.frames.proofs.Reading.{message-drop}
 use Rattle.frames.proofs.RoundTrips.{leave-length, join-length}
 use Rattle.model.specs.Changes.{missing, changes, allChanges, frames}
 use Rattle.model.proofs.ReadBack.{Sent, more}

@@ -8,7 +8,7 @@ use lib.Dec.{eqb}
 use lib.ListN.{getD}
 use borrow.Author.Tests.{ne-eqb}
 use Rattle.lists.specs.Lists.{laid}
-use Rattle.frames.specs.Bytes.{number2, number4}
+use Rattle.octets.specs.Bytes.{number2, number4}
 use Rattle.frames.specs.Frames.{within, messageAt}
 use Rattle.frames.specs.declared.Message.the-variants.{Quote, Look, Watch, Unwatch, Open}
 use Rattle.text.specs.Text.{line, Laid}

@@ -1,11 +1,10 @@
 // Changes in print: the frames of changes turned into lines of text.
-ghost use mathlib.Core.Path.{_≡_};
 ghost use Prim.Native.Nat.{_+_, _*_, _/_, _≤_};
 ghost use lib.ListN.{length};
 ghost use Rattle.text.specs.Text.{Laid};
 ghost use Rattle.printed.specs.Printed.{changeLine, changeLines, changeAt, changesIn};
-use frames::four_at;
-use frames::two_at;
+use octets::four_at;
+use octets::two_at;
 use text::put_line;
 
 // Lays the line of the change whose frame begins at a place, and returns how many bytes: none for a frame of another kind.

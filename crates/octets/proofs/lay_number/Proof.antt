@@ -2,10 +2,10 @@
 use mathlib.Core.Path.{refl}
 use native.Mathlib.Omega.{arith}
 use lib.ListN.{length-set}
-use Rattle.frames.proofs.Laying.{laid-one, laid-next}
+use Rattle.octets.proofs.Laying.{laid-one, laid-next}
 use borrow.Author.Needs.{needs}
-use Rattle.frames.proofs.writer.lay_number.Statement.{statement}
-use Rattle.frames.proofs.writer.lay_number.Tie as tie
+use Rattle.octets.proofs.lay_number.Statement.{statement}
+use Rattle.octets.proofs.lay_number.Tie as tie
 
 slice-write-out : tie.Need-slice-write-out
 slice-write-out c = search needs

@@ -1,11 +1,11 @@
 -- `put_two` meets its contract: the bytes stored are those of the number.
 use native.Mathlib.Omega.{arith}
 use lib.ListN.{length-set}
-use Rattle.frames.specs.Bytes.{bytes2}
-use Rattle.frames.proofs.Laying.{stored-two}
+use Rattle.octets.specs.Bytes.{bytes2}
+use Rattle.octets.proofs.Laying.{stored-two}
 use borrow.Author.Needs.{needs}
-use Rattle.frames.proofs.writer.put_two.Statement.{statement}
-use Rattle.frames.proofs.writer.put_two.Tie as tie
+use Rattle.octets.proofs.put_two.Statement.{statement}
+use Rattle.octets.proofs.put_two.Tie as tie
 
 cast-out : tie.Need-cast-out
 cast-out c = search needs

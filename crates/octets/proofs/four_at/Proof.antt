@@ -1,8 +1,8 @@
 -- `four_at` meets its contract: the number is that of the four bytes read.
-use Rattle.frames.specs.Bytes.{number4}
+use Rattle.octets.specs.Bytes.{number4}
 use borrow.Author.Needs.{needs}
-use Rattle.frames.proofs.reader.four_at.Statement.{statement}
-use Rattle.frames.proofs.reader.four_at.Tie as tie
+use Rattle.octets.proofs.four_at.Statement.{statement}
+use Rattle.octets.proofs.four_at.Tie as tie
 
 shared-slice-read-of-four : tie.Need-shared-slice-read-of-four
 shared-slice-read-of-four c = search needs

@@ -1,11 +1,11 @@
 -- `put_four` meets its contract: the bytes stored are those of the number.
 use native.Mathlib.Omega.{arith}
 use lib.ListN.{length-set}
-use Rattle.frames.specs.Bytes.{bytes4}
-use Rattle.frames.proofs.Laying.{stored-four}
+use Rattle.octets.specs.Bytes.{bytes4}
+use Rattle.octets.proofs.Laying.{stored-four}
 use borrow.Author.Needs.{needs}
-use Rattle.frames.proofs.writer.put_four.Statement.{statement}
-use Rattle.frames.proofs.writer.put_four.Tie as tie
+use Rattle.octets.proofs.put_four.Statement.{statement}
+use Rattle.octets.proofs.put_four.Tie as tie
 
 cast-out : tie.Need-cast-out
 cast-out c = search needs

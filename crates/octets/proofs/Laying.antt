@@ -7,7 +7,7 @@ use mathlib.Core.List.{List, [], _∷_, _++_, append-assoc}
 use lib.ListN.{length, take, drop, set, length-append}
 use lib.Seq.{take-at, drop-at, drop-drop, sets, sets-eq}
 use Rattle.lists.specs.Lists.{laid}
-use Rattle.frames.specs.Writing.{placed}
+use Rattle.octets.specs.Placed.{placed}
 
 -- bytes stored one after the other from a place on
 stored : (l : List ℕ) (at : ℕ) (out : List ℕ) → at + length l ≤ length out → sets out at l ≡ placed l at out

@@ -1,8 +1,8 @@
 -- `two_at` meets its contract: the number is that of the two bytes read.
-use Rattle.frames.specs.Bytes.{number2}
+use Rattle.octets.specs.Bytes.{number2}
 use borrow.Author.Needs.{needs}
-use Rattle.frames.proofs.reader.two_at.Statement.{statement}
-use Rattle.frames.proofs.reader.two_at.Tie as tie
+use Rattle.octets.proofs.two_at.Statement.{statement}
+use Rattle.octets.proofs.two_at.Tie as tie
 
 shared-slice-read-of-two : tie.Need-shared-slice-read-of-two
 shared-slice-read-of-two c = search needs
