@@ -22,6 +22,17 @@ pub record Swept : Type 0 where
   pub newest : ℕ
   pub lower : ℕ
 
+abbrev pub swept : List Bool → List ℕ → List ℕ → ℕ → ℕ → ℕ → ℕ → Swept
+swept kept positions lowers count gone newest lower = record {
+  kept = kept;
+  positions = positions;
+  lowerEnds = lowers;
+  count = count;
+  gone = gone;
+  newest = newest;
+  lower = lower;
+}
+
 -- before and after: the starts of the window before and after the quote
 module _ (s : Swept) (before after : ℕ) where
   -- the row at place i is on the list before

@@ -1,7 +1,8 @@
 -- `write_listed` meets its contract: after i turns the positions of the list at the places below i stand at the front of the output.
-use Prim.Native.Nat.{_-_}
+use Prim.Native.Nat.{_+_, _-_, _≤_}
 use mathlib.Core.Path.{refl}
 use native.Mathlib.Omega.{arith}
+use lib.ListN.{length}
 use borrow.Author.Needs.{needs}
 use Rattle.changes.proofs.Picking.{listedAt, bare-picked}
 use Rattle.changes.proofs.Writing.{one, cells-same, Writing, writing-start, writing-fits, writing-pass, writing-store, writing-all}
@@ -35,14 +36,18 @@ add-i c = search needs
 is-listed-requires : tie.Need-is-listed-requires Inv-loop μ-loop
 is-listed-requires c κs = search needs
 
+-- a position that is picked has room for its cell
+fits : (c : tie.Then1 Inv-loop μ-loop) → c .before .before .before .before .before .loop .at + 1 ≤ length (c .before .before .before .before .before .loop .out)
+fits c = writing-fits (c .before .before .before .before .before .loop .inv) (c .before .before .before .before .loop-test .taken) (c .before .is-listed .ensures) (c .if1 .taken)
+
 mul-out : tie.Need-mul-out Inv-loop μ-loop
-mul-out c = omega (arith, writing-fits (c .before .before .before .before .before .loop .inv) (c .before .before .before .before .loop-test .taken) (c .before .is-listed .ensures) (c .if1 .taken))
+mul-out c = omega (arith, fits c)
 
 slice-write-out : tie.Need-slice-write-out Inv-loop μ-loop
-slice-write-out c = omega (arith, writing-fits (c .before .before .before .before .before .loop .inv) (c .before .before .before .before .loop-test .taken) (c .before .is-listed .ensures) (c .if1 .taken))
+slice-write-out c = omega (arith, fits c)
 
 add-at : tie.Need-add-at Inv-loop μ-loop
-add-at c = omega (arith, writing-fits (c .before .before .before .before .before .loop .inv) (c .before .before .before .before .loop-test .taken) (c .before .is-listed .ensures) (c .if1 .taken))
+add-at c = omega (arith, fits c)
 
 loop-less : tie.Need-loop-less Inv-loop μ-loop
 loop-less c = search needs
