@@ -74,7 +74,7 @@ loop-again-2 : tie.Need-loop-again-2 Inv-loop μ-loop
 loop-again-2 c = writing-pass (c .before .before .before .before .before .loop .inv) (c .before .before .before .before .loop-test .taken) (c .before .is-listed .ensures) (c .if1 .left)
 
 same-length : tie.Need-same-length Inv-loop μ-loop
-same-length c = c .before .loop .inv .laying .long
+same-length c = c .before .loop .inv .laying .front .long
 
 returns : tie.Need-returns Inv-loop μ-loop
 returns c = rw (bare-picked, frames-cells) (writing-all (c .before .loop .inv) (c .loop-test .left))
