@@ -10,8 +10,8 @@ use Rattle.changes.specs.Swept.{swept, change, wasListed, nowListed, mov
 use Rattle.changes.proofs.Writing.{Writing, writing-start, writing-pass, writing-all}
 use Rattle.changes.proofs.Framing.{framing, frames-cells, change-length, frame-fits, frame-laid}
 use Rattle.changes.proofs.Moving.{differs, moves-test}
-use Rattle.changes.proofs.write_moves.Statement.{statement}
-use Rattle.changes.proofs.write_moves.Tie as tie
+use Rattle.changes.proofs.moves.write_moves.Statement.{statement}
+use Rattle.changes.proofs.moves.write_moves.Tie as tie
 
 abbrev Inv-loop : tie.InvT-loop
 Inv-loop joins n keep positions lower-ends count gone before after out₀ at₀ i₀ out at i =

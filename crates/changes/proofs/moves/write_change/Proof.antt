@@ -1,8 +1,8 @@
 -- `write_change` meets its contract: one of two frames.
 use Rattle.changes.specs.Swept.{change}
 use borrow.Author.Needs.{needs}
-use Rattle.changes.proofs.write_change.Statement.{statement}
-use Rattle.changes.proofs.write_change.Tie as tie
+use Rattle.changes.proofs.moves.write_change.Statement.{statement}
+use Rattle.changes.proofs.moves.write_change.Tie as tie
 
 write-join-requires : tie.Need-write-join-requires
 write-join-requires c κs = search needs

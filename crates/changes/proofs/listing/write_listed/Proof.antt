@@ -6,8 +6,8 @@ use lib.ListN.{length}
 use borrow.Author.Needs.{needs}
 use Rattle.changes.proofs.Picking.{listedAt, bare-picked}
 use Rattle.changes.proofs.Writing.{one, cells-same, Writing, writing-start, writing-fits, writing-pass, writing-store, writing-all}
-use Rattle.changes.proofs.write_listed.Statement.{statement}
-use Rattle.changes.proofs.write_listed.Tie as tie
+use Rattle.changes.proofs.listing.write_listed.Statement.{statement}
+use Rattle.changes.proofs.listing.write_listed.Tie as tie
 
 abbrev Inv-loop : tie.InvT-loop
 Inv-loop positions lower-ends count start out₀ at₀ i₀ out at i = Writing one (listedAt start positions lower-ends) positions count out₀ out at i

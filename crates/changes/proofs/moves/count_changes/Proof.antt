@@ -6,8 +6,8 @@ use borrow.Author.Needs.{needs}
 use Rattle.changes.specs.Swept.{swept, wasListed, nowListed}
 use Rattle.changes.proofs.Picking.{byte-small, Counted, counted-start, counted-more, counted-all}
 use Rattle.changes.proofs.Moving.{differs, changesAt, counted-changes}
-use Rattle.changes.proofs.count_changes.Statement.{statement}
-use Rattle.changes.proofs.count_changes.Tie as tie
+use Rattle.changes.proofs.moves.count_changes.Statement.{statement}
+use Rattle.changes.proofs.moves.count_changes.Tie as tie
 
 abbrev Inv-loop : tie.InvT-loop
 Inv-loop keep positions lower-ends count gone before after newest lower n₀ i₀ n i =

@@ -12,8 +12,8 @@ use Rattle.frames.specs.declared.Message.the-variants.{Join}
 use Rattle.frames.specs.Frames.{frame}
 use Rattle.changes.specs.Swept.{Swept, swept}
 use Rattle.changes.proofs.Framing.{leaveFrames, joinFrames, join-length, changed-listed, changed-unlisted, rows-fit}
-use Rattle.changes.proofs.write_changes.Statement.{statement}
-use Rattle.changes.proofs.write_changes.Tie as tie
+use Rattle.changes.proofs.moves.write_changes.Statement.{statement}
+use Rattle.changes.proofs.moves.write_changes.Tie as tie
 
 -- the rows and flags that the function is lent
 abbrev sweep : tie.Start → Swept
