@@ -1,0 +1,6 @@
+-- The laws of the crate.
+pub mod Laying
+pub mod ReadCases
+pub mod ReadColumns
+pub mod WriteCases
+pub mod WriteColumns
