@@ -1,5 +1,4 @@
 // The list that rows make by their lower ends, and the changes that a quote makes to the lists of the watches: counted and written.
-mod frame;
 mod listing;
 mod moves;
 mod watches;
