@@ -19,7 +19,7 @@ fn difference(x: u32, y: u32) -> u32
 }
 
 // x if the test passed, else y.
-fn chosen(test: bool, x: u32, y: u32) -> u32
+pub fn chosen(test: bool, x: u32, y: u32) -> u32
     ensures { λ r. ⌜ r ≡ cond test x y ⌝ }
 {
     if test { x } else { y }
