@@ -9,7 +9,7 @@ ghost use Prim.Native.Nat.{_-_, _*_, _≤_};
 ghost use mathlib.Core.List.{[], _++_, map};
 ghost use lib.ListN.{length, drop};
 ghost use Rattle.model.specs.Rows.{rowsIn, filled, remains, remaining, lowerEndAmong};
-ghost use Rattle.model.specs.Book.{tornRows, tornWatches, bookRows};
+ghost use Rattle.model.specs.Book.{tornRows, bookRows};
 ghost use Rattle.rows.specs.Order.{tornHead, inOrder};
 ghost use Rattle.rows.specs.Lent.{tables, rowsNext, Ready};
 
@@ -62,23 +62,6 @@ pub fn torn_rows(head: Head, positions: &[u32], lower_ends: &[u32]) -> bool
     let before = difference(head.newest, head.capacity);
     let count = head.rows as usize;
     !in_order(before, head.newest, count, positions, lower_ends)
-}
-
-// Whether the eight watch records could not be (01: torn).
-pub fn torn_watches(capacity: u32, watches: [u32; 8]) -> bool
-    ensures { λ r. ⌜ r ≡ tornWatches capacity watches ⌝ }
-{
-    let mut fair = true;
-    let mut last: u32 = 0;
-    let mut i = 0;
-    while i < 8 {
-        let n = watches[i];
-        let empty = n == 0;
-        fair = fair & (empty | ((last < n) & (n <= capacity)));
-        last = chosen(empty, capacity, n);
-        i += 1;
-    }
-    !fair
 }
 
 // Marks which of count rows remain when the quote comes and position gone expires; gives the quote's lower end among them.
