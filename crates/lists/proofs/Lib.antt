@@ -5,3 +5,4 @@ pub mod Members
 pub mod Runs
 pub mod Rising
 pub mod Writing
+pub mod Growing
