@@ -10,3 +10,4 @@ pub mod Laying
 pub mod Storing
 pub mod Apart
 pub mod Places
+pub mod Growing
