@@ -9,3 +9,5 @@ pub mod Writing
 pub mod Laying
 pub mod Storing
 pub mod Apart
+pub mod Places
+pub mod Growing
