@@ -10,3 +10,10 @@ pub use moves::count_changes;
 pub use moves::write_changes;
 pub use watches::count_all_changes;
 pub use watches::write_all_changes;
+
+// How the window of a watch moves at a quote: its start before and after it, and the position that expires.
+pub struct Shift {
+    pub before: u32,
+    pub after: u32,
+    pub gone: u32,
+}
