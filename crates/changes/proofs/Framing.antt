@@ -10,7 +10,7 @@ use Rattle.lists.specs.Lists.{flat, laid}
 use Rattle.lists.proofs.Filters.{flat-append, map-append, map-map}
 use Rattle.frames.specs.declared.Message.{Message}
 use Rattle.frames.specs.declared.Message.the-variants.{Leave, Join}
-use Rattle.frames.specs.Bytes.{bytes2, bytes4}
+use Rattle.octets.specs.Bytes.{bytes2, bytes4}
 use Rattle.frames.specs.Frames.{frame}
 use Rattle.model.specs.Changes.{frames}
 use Rattle.changes.specs.Flagged.{change}

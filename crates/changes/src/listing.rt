@@ -9,7 +9,7 @@ ghost use Rattle.frames.specs.declared.Message.the-variants.{Join};
 ghost use Rattle.model.specs.Rows.{listed};
 ghost use Rattle.model.specs.Changes.{frames};
 ghost use Rattle.changes.specs.Picked.{bareRows};
-use frames::write_join;
+use octets::lay_change;
 
 // Whether a row is on the list of the window that starts at start.
 pub fn is_listed(start: u32, lower: u32, position: u32) -> bool
@@ -83,7 +83,7 @@ pub fn write_joins(
         let lower = lower_ends[i];
         i += 1;
         if is_listed(start, lower, position) {
-            write_join(n, position, &mut out[at..]);
+            lay_change(33, n, position, &mut out[at..]);
             at += 7;
         }
     }

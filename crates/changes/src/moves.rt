@@ -12,8 +12,7 @@ ghost use Rattle.model.specs.Changes.{frames};
 ghost use Rattle.changes.specs.Flagged.{flagged, change, moving, joining, changed};
 use crate::Shift;
 use crate::listing::is_listed;
-use frames::write_join;
-use frames::write_leave;
+use octets::lay_change;
 
 // A lower end once position gone has expired: 0 if it named that position.
 fn rename(gone: u32, lower: u32) -> u32
@@ -66,9 +65,9 @@ fn write_change(joins: bool, n: u16, position: u32, out: &mut [u8])
     ensures { λ r. ⌜ now (out .exit) ≡ laid (frame (change joins n position) []) (now (out .entry)) ⌝ }
 {
     if joins {
-        write_join(n, position, out);
+        lay_change(33, n, position, out);
     } else {
-        write_leave(n, position, out);
+        lay_change(32, n, position, out);
     }
 }
 
@@ -140,6 +139,6 @@ pub fn write_changes(
     if shift.after <= lower {
         return at;
     }
-    write_join(n, newest, &mut out[at..]);
+    lay_change(33, n, newest, &mut out[at..]);
     at + 7
 }

@@ -4,6 +4,7 @@ use native.Mathlib.Omega.{arith}
 use lib.ListN.{length, length-take, length-drop}
 use borrow.Author.Needs.{needs}
 use Rattle.frames.specs.declared.Message.the-variants.{Join}
+use Rattle.frames.specs.Frames.{frame}
 use Rattle.changes.proofs.Picking.{listedAt, bare-picked}
 use Rattle.changes.proofs.Writing.{Writing, writing-start, writing-pass, writing-all}
 use Rattle.changes.proofs.Framing.{framing, join-length, frames-cells, joins-length, frame-fits, frame-laid}
@@ -43,17 +44,17 @@ is-listed-requires c κs = search needs
 fits : (c : tie.Then1 Inv-loop μ-loop) → c .before .before .before .before .before .loop .at + 7 ≤ length (c .before .before .before .before .before .loop .out)
 fits c = frame-fits (Join (c .before .before .before .before .before .before .before .before .before .args .n)) (join-length _) (c .before .before .before .before .before .loop .inv) (c .before .before .before .before .loop-test .taken) (c .before .is-listed .ensures) (c .if1 .taken)
 
-sub-write-join : tie.Need-sub-write-join Inv-loop μ-loop
-sub-write-join c = omega (arith, fits c)
+sub-lay-change : tie.Need-sub-lay-change Inv-loop μ-loop
+sub-lay-change c = omega (arith, fits c)
 
-part-write-join-start : tie.Need-part-write-join-start Inv-loop μ-loop
-part-write-join-start c = omega (arith, fits c)
+part-lay-change-start : tie.Need-part-lay-change-start Inv-loop μ-loop
+part-lay-change-start c = omega (arith, fits c)
 
-part-write-join-end : tie.Need-part-write-join-end Inv-loop μ-loop
-part-write-join-end c = search needs
+part-lay-change-end : tie.Need-part-lay-change-end Inv-loop μ-loop
+part-lay-change-end c = search needs
 
-write-join-requires : tie.Need-write-join-requires Inv-loop μ-loop
-write-join-requires c κs = simp (length-take, length-drop) (omega (arith, fits (c .before)))
+lay-change-requires : tie.Need-lay-change-requires Inv-loop μ-loop
+lay-change-requires c κs = simp (length-take, length-drop) (omega (arith, fits (c .before)))
 
 add-at : tie.Need-add-at Inv-loop μ-loop
 add-at c = omega (arith, fits (c .before .before .before .before))
@@ -62,7 +63,8 @@ loop-less : tie.Need-loop-less Inv-loop μ-loop
 loop-less c = search needs
 
 loop-again : tie.Need-loop-again Inv-loop μ-loop
-loop-again c = frame-laid (Join (c .before .before .before .before .before .before .before .before .before .before .before .before .before .args .n)) (join-length _) (c .before .before .before .before .before .before .before .before .before .loop .inv) (c .before .before .before .before .before .before .before .before .loop-test .taken) (c .before .before .before .before .before .is-listed .ensures) (c .before .before .write-join .ensures) (c .before .before .before .before .if1 .taken)
+unfolding frame
+loop-again c = frame-laid (Join (c .before .before .before .before .before .before .before .before .before .before .before .before .before .args .n)) (join-length _) (c .before .before .before .before .before .before .before .before .before .loop .inv) (c .before .before .before .before .before .before .before .before .loop-test .taken) (c .before .before .before .before .before .is-listed .ensures) (c .before .before .lay-change .ensures) (c .before .before .before .before .if1 .taken)
 
 loop-less-2 : tie.Need-loop-less-2 Inv-loop μ-loop
 loop-less-2 c = search needs
@@ -89,10 +91,10 @@ write-joins-spec =
     shared-slice-read-lower
     add-i
     is-listed-requires
-    sub-write-join
-    part-write-join-start
-    part-write-join-end
-    write-join-requires
+    sub-lay-change
+    part-lay-change-start
+    part-lay-change-end
+    lay-change-requires
     add-at
     loop-less
     loop-again

@@ -115,17 +115,17 @@ returns c =
     let b = c .before .before .before .before in
     rw (unlisted-frames (start2 b) (c .if1 .taken)) (second b .place, second b .cells)
 
-sub-write-join : tie.Need-sub-write-join
-sub-write-join c = omega (arith, fits c)
+sub-lay-change : tie.Need-sub-lay-change
+sub-lay-change c = omega (arith, fits c)
 
-part-write-join-start : tie.Need-part-write-join-start
-part-write-join-start c = omega (arith, fits c)
+part-lay-change-start : tie.Need-part-lay-change-start
+part-lay-change-start c = omega (arith, fits c)
 
-part-write-join-end : tie.Need-part-write-join-end
-part-write-join-end c = search needs
+part-lay-change-end : tie.Need-part-lay-change-end
+part-lay-change-end c = search needs
 
-write-join-requires : tie.Need-write-join-requires
-write-join-requires c κs = rw join-length at (front-rest (second (both (c .before))) (N (start2 (both (c .before)))) (all-room (c .before)))
+lay-change-requires : tie.Need-lay-change-requires
+lay-change-requires c κs = rw join-length at (front-rest (second (both (c .before))) (N (start2 (both (c .before)))) (all-room (c .before)))
 
 add-result : tie.Need-add-result
 add-result c = let b = c .before .before .before .before in omega (arith, fits b, second (both b) .long, start2 (both b) .good)
@@ -134,9 +134,10 @@ same-length-2 : tie.Need-same-length-2
 same-length-2 c = search needs
 
 returns-2 : tie.Need-returns-2
+unfolding frame
 returns-2 c =
     let b = c .before .before .before .before in
-    let v = front-more (second (both b)) (N (start2 (both b))) (all-room b) (sym (join-length _ _)) (c .before .before .write-join .ensures) in
+    let v = front-more (second (both b)) (N (start2 (both b))) (all-room b) (sym (join-length _ _)) (c .before .before .lay-change .ensures) in
     rw (listed-frames (start2 (both b)) (b .if1 .left)) (v .place, v .cells)
 
 pub write-changes-spec : {M : Type 1} → statement M
@@ -151,10 +152,10 @@ write-changes-spec =
     add-at
     same-length
     returns
-    sub-write-join
-    part-write-join-start
-    part-write-join-end
-    write-join-requires
+    sub-lay-change
+    part-lay-change-start
+    part-lay-change-end
+    lay-change-requires
     add-result
     same-length-2
     returns-2)
