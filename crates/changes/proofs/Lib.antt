@@ -3,6 +3,7 @@ pub mod Picking
 pub mod Writing
 pub mod Framing
 pub mod Moving
+pub mod Records
 pub mod Watching
 pub mod Distinct
 pub mod Quoting

@@ -1,24 +1,20 @@
 -- Laws of the frames of watch records: an empty record has none, and the frames of several stand one behind the other.
 use mathlib.Core.Path.{_≡_, refl, sym, ap, _∙_}
 use Prim.Native.Nat.{ℕ, zero, suc, _+_, _-_, _*_, _≤_, _<_}
-use native.Mathlib.Nat.{suc-add, le-refl}
+use native.Mathlib.Nat.{suc-add}
 use native.Mathlib.Decide.{decLt}
 use native.Mathlib.Omega.{arith}
-use mathlib.Core.Bool.{Bool, true, false, _&&_, not, cond}
+use mathlib.Core.Bool.{false}
 use mathlib.Core.List.{List, [], _∷_, _++_, append-assoc, append-nil}
-use lib.Dec.{ltb, leb, eqb}
 use lib.ListN.{length, getD, take, length-append}
-use lib.Seq.{take-nil, take-all, take-take, getD-take}
-use borrow.Author.Tests.{lt-ltb, ltb-false, leb-true, eqb-true, eq-eqb, ne-eqb, not-true, not-false}
+use lib.Seq.{take-nil, take-all}
+use borrow.Author.Tests.{lt-ltb, eq-eqb, ne-eqb}
 use borrow.Rule.Slice.PartMut.{midOf, putMid}
-use Rattle.lists.specs.Lists.{flat, any, laid}
-use Rattle.lists.proofs.Booleans.{and-left, and-right, none-left, none-right}
+use Rattle.lists.specs.Lists.{flat, laid}
 use Rattle.lists.proofs.Laying.{grows, Laying, laying-start, laying-room, laying-rest, laying-more, laying-all}
-use Rattle.skyline.specs.Skyline.{windowStart}
 use Rattle.head.specs.declared.Head.{Head}
 use Rattle.head.specs.Heads.{afterQuote, lastPosition}
 use Rattle.model.specs.Changes.{frames}
-use Rattle.model.specs.Book.{ordered, tornWatches}
 use Rattle.changes.specs.declared.Shift.{Shift}
 use Rattle.changes.specs.Flagged.{Flagged, moving, joining, changed}
 use Rattle.changes.specs.Watches.{shiftOf, watchFrames, allFrames}
@@ -122,31 +118,3 @@ summed-more {gone} {newest} {s} {lower} {ws} {sum} {i} {r} v h k e = record {
 pub summed-all : {gone newest : ℕ} {s : Flagged} {lower : ℕ} {ws : List ℕ} {sum i : ℕ} → Summed gone newest s lower ws sum i → 8 ≤ i → length ws ≡ 8
     → sum ≡ length (allFrames gone newest s lower ws)
 summed-all {ws = ws} {i = i} v h n = v .total ∙ rw (take-all i ws (omega arith))
-
-none-above : (ws : List ℕ) (i : ℕ) → any (ltb 0) ws ≡ false → getD ws i 0 ≡ 0
-unfolding any
-none-above [] i e = refl
-none-above (w ∷ ws) zero e = omega (arith, ltb-false 0 w (none-left (ltb 0 w) (any (ltb 0) ws) e))
-none-above (w ∷ ws) (suc i) e = none-above ws i (none-right (ltb 0 w) (any (ltb 0) ws) e)
-
-ordered-below : (lo N : ℕ) (ws : List ℕ) (i : ℕ) → ordered lo N ws ≡ true → getD ws i 0 ≤ N
-unfolding ordered
-ordered-below lo N [] i e = omega arith
-ordered-below lo N (w ∷ ws) i e = go (eqb w 0) refl e i (λ f j. ordered-below (suc w) N ws j f)
-  where
-    go : (b : Bool) → eqb w 0 ≡ b → cond b (not (any (ltb 0) ws)) (leb lo w && leb w N && ordered (suc w) N ws) ≡ true → (i : ℕ)
-        → (ordered (suc w) N ws ≡ true → (j : ℕ) → getD ws j 0 ≤ N) → getD (w ∷ ws) i 0 ≤ N
-    go true q f zero r = omega (arith, eqb-true w 0 q)
-    go true q f (suc j) r = omega (arith, none-above ws j (not-true (any (ltb 0) ws) f))
-    go false q f zero r = leb-true w N (and-right (leb lo w) (leb w N) (and-left (leb lo w && leb w N) (ordered (suc w) N ws) f))
-    go false q f (suc j) r = r (and-right (leb lo w && leb w N) (ordered (suc w) N ws) f) j
-
--- records past the eighth are not judged
-pub torn-eight : (N : ℕ) (ws : List ℕ) → tornWatches N (take 8 ws) ≡ tornWatches N ws
-unfolding tornWatches
-torn-eight N ws = rw (take-take 8 8 ws (le-refl 8))
-
--- no watch record is above N
-pub watch-below : (N : ℕ) (ws : List ℕ) (i : ℕ) → tornWatches N ws ≡ false → i < 8 → getD ws i 0 ≤ N
-unfolding tornWatches
-watch-below N ws i e h = rw (← getD-take 8 ws i 0 h) (ordered-below 1 N (take 8 ws) i (not-false (ordered 1 N (take 8 ws)) e))

@@ -35,6 +35,10 @@ is-listed-requires c κs = search needs
 cast-n : tie.Need-cast-n Inv-loop μ-loop
 cast-n c = search needs
 
+loop-again : tie.Need-loop-again Inv-loop μ-loop
+loop-again c =
+    counted-more (c .before .before .before .before .loop .inv) (c .before .before .before .loop-test .taken) (c .is-listed .result) (c .is-listed .ensures)
+
 add-n : tie.Need-add-n Inv-loop μ-loop
 add-n c = omega (arith, byte-small (c .is-listed .result))
 
@@ -43,10 +47,6 @@ add-i c = search needs
 
 loop-less : tie.Need-loop-less Inv-loop μ-loop
 loop-less c = search needs
-
-loop-again : tie.Need-loop-again Inv-loop μ-loop
-loop-again c =
-    counted-more (c .before .before .before .before .loop .inv) (c .before .before .before .loop-test .taken) (c .is-listed .result) (c .is-listed .ensures)
 
 returns : tie.Need-returns Inv-loop μ-loop
 returns c = counted-all (c .before .loop .inv) (c .loop-test .left) ∙ ap length (sym (bare-picked _ _ _ _))

@@ -43,6 +43,12 @@ stays-listed-requires c κs = search needs
 cast-n : tie.Need-cast-n Inv-loop μ-loop
 cast-n c = search needs
 
+loop-again : tie.Need-loop-again Inv-loop μ-loop
+unfolding wasListed nowListed
+loop-again c =
+    counted-more (c .before .before .before .before .before .before .loop .inv) (c .before .before .before .before .before .loop-test .taken) (differs (c .before .before .is-listed .result) (c .stays-listed .result))
+    (rw (c .before .before .is-listed .ensures, c .stays-listed .ensures))
+
 add-n : tie.Need-add-n Inv-loop μ-loop
 add-n c = omega (arith, byte-small (differs (c .before .before .is-listed .result) (c .stays-listed .result)))
 
@@ -52,20 +58,14 @@ add-i c = search needs
 loop-less : tie.Need-loop-less Inv-loop μ-loop
 loop-less c = search needs
 
-loop-again : tie.Need-loop-again Inv-loop μ-loop
-unfolding wasListed nowListed
-loop-again c =
-    counted-more (c .before .before .before .before .before .before .loop .inv) (c .before .before .before .before .before .loop-test .taken) (differs (c .before .before .is-listed .result) (c .stays-listed .result))
-    (rw (c .before .before .is-listed .ensures, c .stays-listed .ensures))
-
 cast-result : tie.Need-cast-result Inv-loop μ-loop
 cast-result c = search needs
 
-add-result : tie.Need-add-result Inv-loop μ-loop
-add-result c = omega (arith, byte-small (ltb (c .before .before .before .before .before .before .args .lower) (c .before .before .before .before .before .before .args .shift .after)))
-
 returns : tie.Need-returns Inv-loop μ-loop
 returns c = counted-changes _ _ _ _ _ (counted-all (c .before .before .loop .inv) (c .before .loop-test .left))
+
+add-result : tie.Need-add-result Inv-loop μ-loop
+add-result c = omega (arith, byte-small (ltb (c .before .before .before .before .before .before .args .lower) (c .before .before .before .before .before .before .args .shift .after)))
 
 pub count-changes-spec : {M : Type 1} → statement M
 count-changes-spec =

@@ -3,7 +3,8 @@ use Prim.Native.Nat.{_-_}
 use native.Mathlib.Omega.{arith}
 use borrow.Author.Needs.{needs}
 use Rattle.changes.specs.Flagged.{flagged}
-use Rattle.changes.proofs.Watching.{watch-below, Written, written-start, written-fits, written-rest, written-more, written-all}
+use Rattle.changes.proofs.Records.{watch-below}
+use Rattle.changes.proofs.Watching.{Written, written-start, written-fits, written-rest, written-more, written-all}
 use Rattle.changes.proofs.watches.write_all_changes.Statement.{statement}
 use Rattle.changes.proofs.watches.write_all_changes.Tie as tie
 
