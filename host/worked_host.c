@@ -1,19 +1,26 @@
-/* A worked C host: checks and compares frames, prints what each call answers, and exits with 1 if an
-   answer is not the one that the text of the format gives. */
+/* A worked C host: checks and compares frames and prints what the calls answer. It exits with 1 if an answer is not the one that the
+   text of the format gives. */
 #include <inttypes.h>
 #include <stdio.h>
 #include <string.h>
 
 #include "best_quote.h"
 
-static int wrong;
+static unsigned answers, wrong;
 
-static void say(const char *what, uint32_t got, uint32_t want) {
-    printf("%-58s %3" PRIu32 "%s\n", what, got, got == want ? "" : "   <- wrong");
+/* Counts an answer and complains of a wrong one. */
+static void expect(const char *what, uint32_t got, uint32_t want) {
+    answers++;
     if (got != want) {
+        wrong++;
         fprintf(stderr, "worked_host: %s: %" PRIu32 ", not %" PRIu32 "\n", what, got, want);
-        wrong = 1;
     }
+}
+
+/* The same, with a line of print. */
+static void say(const char *what, uint32_t got, uint32_t want) {
+    printf("%-58s %3" PRIu32 "\n", what, got);
+    expect(what, got, want);
 }
 
 /* Writes the quote frame of count columns into frame and gives its length. */
@@ -39,12 +46,11 @@ static size_t body_length(int kind) {
 /* Every kind with every length from 0 to 64. */
 static void check_every_kind(void) {
     uint8_t bytes[64];
-    unsigned wrong_checks = 0;
+    memset(bytes, 0xff, sizeof bytes);
     for (int kind = 0; kind < 256; kind++) {
-        memset(bytes, 0xff, sizeof bytes);
         bytes[0] = (uint8_t)kind;
+        size_t body = body_length(kind);
         for (size_t length = 0; length <= sizeof bytes; length++) {
-            size_t body = body_length(kind);
             uint32_t want = BQB_WHOLE;
             if (length == 0) {
                 want = BQB_CUT;
@@ -53,10 +59,47 @@ static void check_every_kind(void) {
             } else if (length < 1 + body) {
                 want = BQB_CUT;
             }
-            wrong_checks += bqb_check_frame(bytes, length) != want;
+            expect("every kind at every length to 64", bqb_check_frame(bytes, length), want);
         }
     }
-    say("wrong checks of every kind at every length to 64", wrong_checks, 0);
+}
+
+/* Every pair of kinds, each frame whole, every column alike. */
+static void compare_every_pair_of_kinds(void) {
+    uint8_t a[64], b[64];
+    memset(a, 0xff, sizeof a);
+    memset(b, 0xff, sizeof b);
+    for (int i = 0; i < 256; i++) {
+        for (int j = 0; j < 256; j++) {
+            a[0] = (uint8_t)i;
+            b[0] = (uint8_t)j;
+            uint32_t want = i == j && 1 <= i && i <= 6 ? BQB_BEATS_NOT : BQB_KINDS;
+            expect("every pair of kinds", bqb_compare_quotes(a, sizeof a, b, sizeof b, 0), want);
+        }
+    }
+}
+
+/* Every directions byte with every way in which the columns of two quotes can stand to each other: lower, equal or higher. */
+static void compare_every_standing(uint8_t count) {
+    uint8_t a[32], b[32];
+    unsigned standings = 1;
+    for (uint8_t i = 0; i < count; i++) standings *= 3;
+    size_t m = quote(b, count, (const uint32_t[]){300, 300, 300, 300, 300, 300});
+    for (unsigned standing = 0; standing < standings; standing++) {
+        for (unsigned directions = 0; directions < 256; directions++) {
+            uint32_t columns[6];
+            int better = 0, worse = 0;
+            unsigned left = standing;
+            for (uint8_t i = 0; i < count; i++, left /= 3) {
+                columns[i] = 200 + 100 * (left % 3);
+                better |= left % 3 == (directions >> i & 1 ? 2 : 0);
+                worse |= left % 3 == (directions >> i & 1 ? 0 : 2);
+            }
+            uint32_t want = directions >> count ? BQB_DIRECTIONS : better && !worse ? BQB_BEATS : BQB_BEATS_NOT;
+            size_t n = quote(a, count, columns);
+            expect("every standing of the columns", bqb_compare_quotes(a, n, b, m, (uint8_t)directions), want);
+        }
+    }
 }
 
 static void check_frames(void) {
@@ -71,7 +114,6 @@ static void check_frames(void) {
     say("look 5 without its last byte", bqb_check_frame(look, 2), BQB_CUT);
     say("open 2, 5, 0", bqb_check_frame(open, sizeof open), BQB_WHOLE);
     say("open 2, 5, 0 without its last byte", bqb_check_frame(open, 4), BQB_CUT);
-    check_every_kind();
 }
 
 static void compare_frames(void) {
@@ -110,5 +152,9 @@ static void compare_frames(void) {
 int main(void) {
     check_frames();
     compare_frames();
-    return wrong;
+    check_every_kind();
+    compare_every_pair_of_kinds();
+    for (uint8_t count = 1; count <= 6; count++) compare_every_standing(count);
+    printf("%u answers, %u wrong\n", answers, wrong);
+    return wrong != 0;
 }

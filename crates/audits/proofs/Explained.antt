@@ -18,7 +18,7 @@ use Rattle.model.specs.Book.{tornRows}
 use Rattle.model.specs.Audit.{isWorst, unexplained}
 use Rattle.model.proofs.Rules.{untorn-whole}
 use Rattle.rows.specs.Order.{tornHead}
-use Rattle.rows.specs.Selected.{tables}
+use Rattle.rows.specs.Lent.{tables}
 use Rattle.audits.specs.Parts.{openGap}
 
 -- a test that does not look passes in a run exactly if the run is not empty and it passes

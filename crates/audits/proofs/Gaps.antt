@@ -11,7 +11,7 @@ use lib.ListN.{length, getD, take, drop}
 use Rattle.lists.specs.Lists.{run}
 use Rattle.model.specs.Rows.{rowAt, rowsIn}
 use Rattle.model.specs.Audit.{isWorst}
-use Rattle.rows.specs.Selected.{tables}
+use Rattle.rows.specs.Lent.{tables}
 use Rattle.rows.proofs.Reading.{next-start, row-within}
 use Rattle.audits.specs.Parts.{openGap}
 

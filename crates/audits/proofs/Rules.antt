@@ -11,7 +11,7 @@ use Rattle.model.specs.Rows.{rowsIn}
 use Rattle.model.specs.Book.{tornRows, bookRows}
 use Rattle.model.specs.Audit.{zeroFrom, passes}
 use Rattle.model.proofs.Rules.{untorn-whole}
-use Rattle.rows.specs.Selected.{tables}
+use Rattle.rows.specs.Lent.{tables}
 use Rattle.rows.proofs.Torn.{torn-columns}
 use Rattle.audits.specs.Parts.{rightRows, openGap}
 use Rattle.audits.proofs.Explained.{gap-ends, gap-unexplained}

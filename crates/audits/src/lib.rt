@@ -1,9 +1,9 @@
 // The audit of a saved book: whether some tape leaves exactly this head and these tables.
+use cells::chosen;
 use dominance::compare;
 use head::Head;
 use head::Refusal;
 use head::Verdict;
-use rows::chosen;
 use rows::torn_rows;
 ghost use mathlib.Core.Path.{_≡_};
 ghost use Prim.Native.Nat.{_+_, _*_, _≤_, _<_};
@@ -14,7 +14,7 @@ ghost use Rattle.head.specs.Heads.{settingsHold};
 ghost use Rattle.model.specs.Rows.{rowAt, rowsIn};
 ghost use Rattle.model.specs.Book.{shortTables};
 ghost use Rattle.model.specs.Audit.{worstAt, isWorst, zeroFrom, passes, auditVerdict};
-ghost use Rattle.rows.specs.Selected.{tables};
+ghost use Rattle.rows.specs.Lent.{tables};
 ghost use Rattle.audits.specs.Parts.{rightRow, rightRows, openGap};
 
 // Whether a table is shorter than the settings ask.

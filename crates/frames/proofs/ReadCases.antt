@@ -1,19 +1,18 @@
 -- The cases of the reader: what is read at a place, and the message of a kind that is no quote's.
-use mathlib.Core.Path.{_≡_, refl, sym, ap, _∙_}
+use mathlib.Core.Path.{_≡_, refl}
 use Prim.Native.Nat.{ℕ, zero, suc, _+_, _*_, _≤_, _<_}
 use native.Mathlib.Omega.{arith}
-use mathlib.Core.Bool.{Bool, true, false, _&&_, cond}
+use mathlib.Core.Bool.{Bool, true, false, cond}
 use mathlib.Core.List.{List}
 use lib.Dec.{leb, eqb}
 use lib.ListN.{length, getD}
 use borrow.Author.Tests.{lt-ltb, le-ltb, lt-leb, le-leb, eq-eqb, ne-eqb, leb-true}
 use Rattle.lists.proofs.Booleans.{and-false, and-left, and-right}
 use Rattle.head.specs.declared.Refusal.the-variants.{UnknownKind, CutFrame}
-use Rattle.frames.specs.Bytes.{number2}
+use Rattle.octets.specs.Bytes.{number2}
 use Rattle.frames.specs.Frames.{within, bodyLength, messageAt, columnsAt, stays, readAt}
 use Rattle.frames.specs.declared.Message.{Message}
 use Rattle.frames.specs.declared.Message.the-variants.{Quote, Open, End, Refused}
-use Rattle.frames.specs.declared.Read.{Read}
 
 module _ (tape : List ℕ) (place : ℕ) where
   pub beyond : length tape < place → stays (Refused CutFrame) place ≡ readAt tape place
@@ -52,10 +51,6 @@ pub some-column : (kind : ℕ) → (bodyLength kind ≡ 255 → ⊥) → 1 ≤ k
 unfolding bodyLength
 some-column zero known = absurd (known refl)
 some-column (suc k) known = omega arith
-
-pub quote-length : (kind : ℕ) → 1 ≤ kind → kind ≤ 6 → bodyLength kind ≡ 4 * kind
-unfolding bodyLength
-quote-length kind some few = simp (le-leb 1 kind some, le-leb kind 6 few)
 
 pub quote-message : (tape : List ℕ) (body kind : ℕ) → 1 ≤ kind → kind ≤ 6 → Quote kind ≡ messageAt tape body kind
 unfolding messageAt

@@ -4,7 +4,7 @@ use mathlib.Core.Logic.{_⊎_, inl, inr}
 use Prim.Native.Nat.{ℕ, _+_, _*_, _≤_, _<_}
 use native.Mathlib.Omega.{arith}
 use native.Mathlib.Nat.{zero-add}
-use mathlib.Core.Bool.{Bool, _&&_, cond}
+use mathlib.Core.Bool.{cond}
 use mathlib.Core.List.{List, [], _∷_, map}
 use lib.Dec.{ltb}
 use lib.ListN.{length, getD, set, length-set, length-map}
@@ -13,7 +13,7 @@ use borrow.Author.Tests.{lt-ltb, le-ltb, le-leb, lt-leb}
 use Rattle.lists.specs.Lists.{run}
 use Rattle.lists.proofs.Booleans.{and-false}
 use Rattle.lists.proofs.Runs.{order, length-run, getD-run}
-use Rattle.frames.specs.Bytes.{number4}
+use Rattle.octets.specs.Bytes.{number4}
 use Rattle.frames.specs.Frames.{columnsAt}
 
 module _ (tape : List ℕ) (body : ℕ) where

@@ -1,71 +1,26 @@
--- Laws of reading: numbers of bytes and back, what is read at a place as what is read at the front of the rest, the columns of a quote,
+-- Laws of reading: what is read at a place as what is read at the front of the rest, the columns of a quote,
 -- the kinds that have frames, and what a place of a tape holds.
-use mathlib.Core.Path.{_≡_, refl, sym, ap, ap₂, _∙_}
+use mathlib.Core.Path.{_≡_, refl, ap, ap₂, _∙_}
 use mathlib.Core.Logic.{_⊎_, inl, inr}
-use Prim.Native.Nat.{ℕ, zero, suc, _+_, _-_, _*_, _/_, _%_, _≤_, _<_}
-use native.Mathlib.Nat.{add-zero, zero-add, add-assoc, suc-add, mod-eq-of-lt, div-eq-of-lt, add-mul-div-left, add-mul-mod-self-left, div-div-eq-div-mul}
-use native.Mathlib.Numerals.{towards-suc}
+use Prim.Native.Nat.{ℕ, _+_, _-_, _*_, _≤_, _<_}
+use native.Mathlib.Nat.{add-zero, zero-add, add-assoc}
 use native.Mathlib.Omega.{arith}
 use mathlib.Core.Bool.{Bool, true, false, _&&_, cond}
-use mathlib.Core.List.{List, [], _∷_, _++_, map}
+use mathlib.Core.List.{List, _++_, map}
 use lib.Dec.{ltb, leb, eqb}
-use lib.ListN.{length, getD, take, drop, replicate}
-use lib.Seq.{getD-drop, take-add, drop-drop}
+use lib.ListN.{length, getD, drop, replicate}
+use lib.Seq.{getD-drop}
 use borrow.Author.Tests.{leb-true, le-leb, ltb-true, ltb-false, lt-ltb, le-ltb, eqb-true}
-use Rattle.lists.specs.Lists.{flat, run}
+use Rattle.lists.specs.Lists.{run}
 use Rattle.lists.proofs.Booleans.{either, clash, and-left, and-right, and-false}
 use Rattle.lists.proofs.Filters.{map-append}
 use Rattle.lists.proofs.Runs.{order, run-append}
-use Rattle.lists.proofs.Cells.{cells-part, map-run, map-one}
+use Rattle.lists.proofs.Cells.{map-run, map-one}
 use Rattle.head.specs.declared.Refusal.the-variants.{UnknownKind, CutFrame}
-use Rattle.frames.specs.Bytes.{bytes2, bytes4, number2, number4}
+use Rattle.octets.specs.Bytes.{number2, number4}
 use Rattle.frames.specs.Frames.{within, bodyLength, messageAt, columnsAt, stays, readAt}
 use Rattle.frames.specs.declared.Message.the-variants.{End, Refused}
 use Rattle.frames.specs.declared.Read.{Read}
-
--- ---- numbers of bytes and back
-
--- the low byte of a number
-low : (a b : ℕ) → a < 256 → (a + 256 * b) % 256 ≡ a
-low a b h = add-mul-mod-self-left a 256 b ∙ mod-eq-of-lt h
-
--- the number above the low byte
-high : (a b : ℕ) → a < 256 → (a + 256 * b) / 256 ≡ b
-high a b h = omega (arith, add-mul-div-left a b {y = 256} (omega arith), div-eq-of-lt h)
-
--- two bytes taken off, and three
-by-two : (n : ℕ) → n / 65536 ≡ n / 256 / 256
-by-two n = sym (div-div-eq-div-mul n 256 256)
-
-by-three : (n : ℕ) → n / 16777216 ≡ n / 256 / 256 / 256
-by-three n = sym (div-div-eq-div-mul n 65536 256) ∙ ap (λ (m : ℕ). m / 256) (by-two n)
-
--- the two bytes of a number that fits, read again
-pub two-bytes : (n : ℕ) → n < 65536 → n % 256 + 256 * (n / 256 % 256) ≡ n
-two-bytes n h = omega arith
-
--- the four bytes of a number that fits, read again
-pub four-bytes : (n : ℕ) → n < 4294967296 → n % 256 + 256 * (n / 256 % 256) + 65536 * (n / 65536 % 256) + 16777216 * (n / 16777216 % 256) ≡ n
-four-bytes n h = simp (by-two, by-three) (go (n / 256) (n / 256 / 256) (n / 256 / 256 / 256) refl refl refl)
-  where
-    go : (a b c : ℕ) → n / 256 ≡ a → a / 256 ≡ b → b / 256 ≡ c → n % 256 + 256 * (a % 256) + 65536 * (b % 256) + 16777216 * (c % 256) ≡ n
-    go a b c u v w = let z : c % 256 ≡ c = omega arith in omega arith
-
--- the number of two bytes, written again
-pub bytes2-again : (l : List ℕ) (at : ℕ) → ((i : ℕ) → getD l i 0 < 256) → bytes2 (number2 l at) ≡ getD l at 0 ∷ getD l (at + 1) 0 ∷ []
-unfolding bytes2 number2
-bytes2-again l at h = simp (low, high, mod-eq-of-lt, h)
-
--- the number of four bytes, written again
-pub bytes4-again : (l : List ℕ) (at : ℕ) → ((i : ℕ) → getD l i 0 < 256)
-    → bytes4 (number4 l at) ≡ getD l at 0 ∷ getD l (at + 1) 0 ∷ getD l (at + 2) 0 ∷ getD l (at + 3) 0 ∷ []
-unfolding bytes4 number4
-bytes4-again l at h = go (getD l at 0) (getD l (at + 1) 0) (getD l (at + 2) 0) (getD l (at + 3) 0) (h at) (h (at + 1)) (h (at + 2)) (h (at + 3))
-  where
-    go : (a b c d : ℕ) → a < 256 → b < 256 → c < 256 → d < 256 → bytes4 (a + 256 * b + 65536 * c + 16777216 * d) ≡ a ∷ b ∷ c ∷ d ∷ []
-    go a b c d p q r s =
-        let e : a + 256 * b + 65536 * c + 16777216 * d ≡ a + 256 * (b + 256 * (c + 256 * d)) = omega arith in
-        simp (e, by-two, by-three, low, high, mod-eq-of-lt)
 
 -- ---- what is read at a place is what is read at the front of the rest
 
@@ -80,32 +35,6 @@ unfolding columnsAt number4
 columns-drop tape at kind = simp (getD-drop, zero-add, add-assoc)
 
 -- ---- the columns of a quote
-
--- the four bytes of each cell, one cell behind the other
-pub length-cells : (l : List ℕ) → length (flat (map bytes4 l)) ≡ 4 * length l
-unfolding flat bytes4
-length-cells [] = refl
-length-cells (c ∷ l) = omega (arith, length-cells l)
-
--- a cell read from its four bytes
-pub cell-again : (l after : List ℕ) (i : ℕ) → i < length l → getD l i 0 < 4294967296 → number4 (flat (map bytes4 l) ++ after) (4 * i) ≡ getD l i 0
-unfolding flat bytes4 number4
-cell-again [] after i h u = absurd (omega arith)
-cell-again (c ∷ l) after zero h u = four-bytes c u
-cell-again (c ∷ l) after (suc i) h u =
-    let e : 4 * suc i ≡ suc (suc (suc (suc (4 * i)))) = omega arith in
-    rw e (simp suc-add (cell-again l after i (omega arith) u))
-
--- the numbers of four bytes each, written again
-pub cells-again : (l : List ℕ) (a k : ℕ) → ((i : ℕ) → getD l i 0 < 256) → 4 * a + 4 * k ≤ length l
-    → flat (map bytes4 (map (λ i. number4 l (4 * i)) (run a k))) ≡ take (4 * k) (drop (4 * a) l)
-unfolding flat run
-cells-again l a zero b h = refl
-cells-again l a (suc k) b h =
-    let size : 4 * suc k ≡ 4 + 4 * k = omega arith in
-    let next : 4 * a + 4 ≡ 4 * suc a = omega arith in
-    let one : bytes4 (number4 l (4 * a)) ≡ take 4 (drop (4 * a) l) = bytes4-again l (4 * a) b ∙ simp towards-suc (cells-part 0 l (4 * a) 4 (omega arith)) in
-    rw (size, take-add 4 (4 * k) (drop (4 * a) l), drop-drop 4 (4 * a) l, next) (ap₂ {C = List ℕ} (λ (x y : List ℕ). x ++ y) one (cells-again l (suc a) k b (omega arith)))
 
 -- the columns read at the front of the rest: those of the quote, then zeros
 pub quote-columns : (l : List ℕ) (k : ℕ) → 1 ≤ k → k ≤ 6 → columnsAt l 0 k ≡ map (λ i. number4 l (4 * i)) (run 0 k) ++ replicate (6 - k) 0

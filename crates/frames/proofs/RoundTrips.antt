@@ -14,12 +14,14 @@ use Rattle.lists.specs.Lists.{flat, run}
 use Rattle.lists.proofs.Booleans.{clash}
 use Rattle.lists.proofs.Runs.{length-run}
 use Rattle.lists.proofs.Cells.{cells-part, map-run, map-one}
-use Rattle.frames.specs.Bytes.{bytes2, bytes4, number2, number4}
+use Rattle.octets.specs.Bytes.{bytes2, bytes4, number2, number4}
+use Rattle.octets.proofs.Numbers.{two-bytes, four-bytes, bytes2-again, bytes4-again}
+use Rattle.octets.proofs.Cells.{length-cells, cell-again, cells-again}
 use Rattle.frames.specs.Frames.{bodyLength, framed, frame, messageAt, columnsAt, stays, readAt}
 use Rattle.frames.specs.declared.Message.{Message}
 use Rattle.frames.specs.declared.Message.the-variants.{Quote, Look, Watch, Unwatch, Leave, Join, Open, End, Refused}
 use Rattle.frames.specs.declared.Read.{Read}
-use Rattle.frames.proofs.Reading.{two-bytes, four-bytes, bytes2-again, bytes4-again, message-drop, columns-drop, length-cells, cell-again, cells-again, quote-columns, quote-body, within-bounds, Kind, quotes, looks, watches, unwatches, leaves, joins, opens, Found, beyond, at-end, unknown, cut, whole, found}
+use Rattle.frames.proofs.Reading.{message-drop, columns-drop, quote-columns, quote-body, within-bounds, Kind, quotes, looks, watches, unwatches, leaves, joins, opens, Found, beyond, at-end, unknown, cut, whole, found}
 
 -- ---- what can be written
 

@@ -1,5 +1,5 @@
 -- Frames: the body length of a kind, the frame of a message, and what reading and writing one gives.
-use Prim.Native.Nat.{ℕ, _+_, _-_, _*_}
+use Prim.Native.Nat.{ℕ, _+_, _*_}
 use mathlib.Core.Bool.{Bool, true, false, _&&_, not, cond}
 use mathlib.Core.List.{List, [], _∷_, _++_, map}
 use lib.Dec.{ltb, leb, eqb}
@@ -8,7 +8,7 @@ use Rattle.lists.specs.Lists.{flat, run, laid}
 use Rattle.head.specs.declared.Answer.{Answer}
 use Rattle.head.specs.declared.Refusal.the-variants.{UnknownKind, CutFrame, ShortOutput}
 use Rattle.head.specs.Refusals.{first, settled}
-use Rattle.frames.specs.Bytes.{bytes2, bytes4, number2, number4}
+use Rattle.octets.specs.Bytes.{bytes2, bytes4, number2, number4}
 use Rattle.frames.specs.declared.Message.{Message}
 use Rattle.frames.specs.declared.Message.the-variants.{Quote, Look, Watch, Unwatch, Leave, Join, Open, End, Refused}
 use Rattle.frames.specs.declared.Read.{Read}

@@ -1,4 +1,3 @@
 -- The definitions of the crate.
-pub mod Bytes
 pub mod Frames
 pub mod Writing

@@ -1,10 +1,9 @@
--- What the writer leaves: the length of a message's frame, bytes placed within an output, and the writer's promise.
+-- What the writer leaves: the length of a message's frame, and the writer's promise.
 use Prim.Native.Nat.{ℕ, _+_, _*_}
 use mathlib.Core.Path.{_≡_}
 use mathlib.Core.Bool.{cond}
-use mathlib.Core.List.{List, _++_}
-use lib.ListN.{length, take, drop}
-use Rattle.lists.specs.Lists.{laid}
+use mathlib.Core.List.{List}
+use lib.ListN.{length}
 use Rattle.frames.specs.Frames.{within, writeReply, writeOut}
 use Rattle.frames.specs.declared.Message.{Message}
 use Rattle.frames.specs.declared.Message.the-variants.{Quote, Look, Watch, Unwatch, Leave, Join, Open, End, Refused}
@@ -21,10 +20,6 @@ frameLength (Join n p) = 7
 frameLength (Open d N directions) = 5
 frameLength End = 0
 frameLength (Refused k) = 0
-
--- l from a place on, over what stood there
-unfoldable pub placed : List ℕ → ℕ → List ℕ → List ℕ
-placed l at before = take at before ++ laid l (drop at before)
 
 -- what the writer promises of its reply and of what it leaves in the output
 pub record Wrote (message : Message) (columns before : List ℕ) (r : Written) (after : List ℕ) : Type 0 where

@@ -8,8 +8,6 @@ use head::Refusal;
 pub use lengths::body_length;
 pub use reader::read_at;
 pub use writer::write;
-pub use writer::write_join;
-pub use writer::write_leave;
 
 // A message: what a frame says, or that there is none to read. A quote's columns stand beside it.
 pub enum Message {

@@ -2,42 +2,13 @@
 ghost use mathlib.Core.Path.{_≡_};
 ghost use Prim.Native.Nat.{_+_, _*_, _≤_, _<_};
 ghost use lib.ListN.{length};
-ghost use Rattle.frames.specs.Bytes.{number2, number4};
 ghost use Rattle.frames.specs.Frames.{bodyLength, messageAt, columnsAt, stays, readAt};
 use crate::Message;
 use crate::Read;
 use crate::lengths::body_length;
 use head::Refusal;
-
-// The number of two bytes, the low one first.
-fn of_two(a: u8, b: u8) -> u16
-    ensures { λ r. ⌜ r ≡ a + 256 * b ⌝ }
-{
-    a as u16 + 256 * (b as u16)
-}
-
-// The number of four bytes, the low one first.
-fn of_four(a: u8, b: u8, c: u8, d: u8) -> u32
-    ensures { λ r. ⌜ r ≡ a + 256 * b + 65536 * c + 16777216 * d ⌝ }
-{
-    a as u32 + 256 * (b as u32) + 65536 * (c as u32) + 16777216 * (d as u32)
-}
-
-// The number in the two bytes from a place on.
-fn two_at(tape: &[u8], at: usize) -> u16
-    requires { ⌜ at + 2 ≤ length (now tape) ⌝ }
-    ensures { λ r. ⌜ r ≡ number2 (now (tape .entry)) at ⌝ }
-{
-    of_two(tape[at], tape[at + 1])
-}
-
-// The number in the four bytes from a place on.
-fn four_at(tape: &[u8], at: usize) -> u32
-    requires { ⌜ at + 4 ≤ length (now tape) ⌝ }
-    ensures { λ r. ⌜ r ≡ number4 (now (tape .entry)) at ⌝ }
-{
-    of_four(tape[at], tape[at + 1], tape[at + 2], tape[at + 3])
-}
+use octets::four_at;
+use octets::two_at;
 
 // The message of a known kind that is no quote's, its whole body from a place on.
 fn message_at(tape: &[u8], body: usize, kind: u8) -> Message

@@ -1,72 +1,20 @@
 // The writer: the frame of a message, over the front of a lent output.
 ghost use mathlib.Core.Path.{_≡_};
 ghost use Prim.Native.Nat.{_+_, _*_, _≤_};
-ghost use mathlib.Core.List.{_∷_, _++_, []};
+ghost use mathlib.Core.List.{[]};
 ghost use mathlib.Core.Bool.{true};
 ghost use lib.ListN.{length};
 ghost use Rattle.lists.specs.Lists.{laid};
-ghost use Rattle.frames.specs.Bytes.{bytes2, bytes4};
-ghost use Rattle.frames.specs.Frames.{framed, frame, writeReply, writeOut};
-ghost use Rattle.frames.specs.Writing.{frameLength, placed, Wrote};
+ghost use Rattle.frames.specs.Frames.{framed, frame};
+ghost use Rattle.frames.specs.Writing.{frameLength, Wrote};
 use crate::Message;
 use crate::Written;
 use head::Answer;
 use head::Refusal;
-
-// Stores the two bytes of a number from a place on.
-fn put_two(n: u16, at: usize, out: &mut [u8])
-    requires { ⌜ at + 2 ≤ length (now out) ⌝ }
-    ensures { λ r. ⌜ now (out .exit) ≡ placed (bytes2 n) at (now (out .entry)) ⌝ }
-{
-    out[at] = (n % 256) as u8;
-    out[at + 1] = (n / 256 % 256) as u8;
-}
-
-// Stores the four bytes of a number from a place on.
-fn put_four(n: u32, at: usize, out: &mut [u8])
-    requires { ⌜ at + 4 ≤ length (now out) ⌝ }
-    ensures { λ r. ⌜ now (out .exit) ≡ placed (bytes4 n) at (now (out .entry)) ⌝ }
-{
-    out[at] = (n % 256) as u8;
-    out[at + 1] = (n / 256 % 256) as u8;
-    out[at + 2] = (n / 65536 % 256) as u8;
-    out[at + 3] = (n / 16777216 % 256) as u8;
-}
-
-// Lays a frame of this kind whose body is one number.
-fn lay_number(kind: u8, n: u16, out: &mut [u8])
-    requires { ⌜ 3 ≤ length (now out) ⌝ }
-    ensures { λ r. ⌜ now (out .exit) ≡ laid (kind ∷ bytes2 n) (now (out .entry)) ⌝ }
-{
-    out[0] = kind;
-    put_two(n, 1, out);
-}
-
-// Lays a change frame of this kind.
-fn lay_change(kind: u8, n: u16, position: u32, out: &mut [u8])
-    requires { ⌜ 7 ≤ length (now out) ⌝ }
-    ensures { λ r. ⌜ now (out .exit) ≡ laid (kind ∷ (bytes2 n ++ bytes4 position)) (now (out .entry)) ⌝ }
-{
-    out[0] = kind;
-    put_two(n, 1, out);
-    put_four(position, 3, out);
-}
-
-// Lays the frame of a leave.
-pub fn write_leave(n: u16, position: u32, out: &mut [u8])
-    requires { ⌜ 7 ≤ length (now out) ⌝ }
-    ensures { λ r. ⌜ now (out .exit) ≡ laid (frame (Message.Leave n position) []) (now (out .entry)) ⌝ }
-{
-    lay_change(32, n, position, out);
-}
-
-// Lays the frame of a join.
-pub fn write_join(n: u16, position: u32, out: &mut [u8])
-    requires { ⌜ 7 ≤ length (now out) ⌝ }
-    ensures { λ r. ⌜ now (out .exit) ≡ laid (frame (Message.Join n position) []) (now (out .entry)) ⌝ }
-{
-    lay_change(33, n, position, out);
-}
+use octets::lay_change;
+use octets::lay_number;
+use octets::put_four;
+use octets::put_two;
 
 // Lays the frame of an opening.
 fn lay_open(dimensions: u8, capacity: u16, directions: u8, out: &mut [u8])
@@ -129,8 +77,8 @@ fn lay(message: Message, columns: [u32; 6], out: &mut [u8])
         Message::Look(n) => lay_number(16, n, out),
         Message::Watch(n) => lay_number(17, n, out),
         Message::Unwatch(n) => lay_number(18, n, out),
-        Message::Leave(n, position) => write_leave(n, position, out),
-        Message::Join(n, position) => write_join(n, position, out),
+        Message::Leave(n, position) => lay_change(32, n, position, out),
+        Message::Join(n, position) => lay_change(33, n, position, out),
         Message::Open(d, n, directions) => lay_open(d, n, directions, out),
         Message::End => {}
         Message::Refused(_) => {}

@@ -6,5 +6,8 @@ pub mod Runs
 pub mod Cells
 pub mod Rising
 pub mod Writing
+pub mod Laying
 pub mod Storing
 pub mod Apart
+pub mod Places
+pub mod Growing

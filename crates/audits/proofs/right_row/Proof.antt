@@ -3,7 +3,7 @@ use Prim.Native.Nat.{_-_}
 use native.Mathlib.Omega.{arith}
 use lib.ListN.{length-take, length-drop}
 use borrow.Author.Needs.{needs}
-use Rattle.rows.specs.Selected.{tables}
+use Rattle.rows.specs.Lent.{tables}
 use Rattle.rows.proofs.Reading.{row-within}
 use Rattle.audits.proofs.Comparing.{Comparing, begin, row-in, more, finish}
 use Rattle.audits.proofs.right_row.Statement.{statement}

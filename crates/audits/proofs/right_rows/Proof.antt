@@ -1,7 +1,7 @@
 -- `right_rows` meets its contract: each turn judges one row.
 use Prim.Native.Nat.{_-_}
 use borrow.Author.Needs.{needs}
-use Rattle.rows.specs.Selected.{tables}
+use Rattle.rows.specs.Lent.{tables}
 use Rattle.audits.proofs.Judging.{Judging, start, more, finish}
 use Rattle.audits.proofs.right_rows.Statement.{statement}
 use Rattle.audits.proofs.right_rows.Tie as tie

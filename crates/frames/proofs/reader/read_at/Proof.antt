@@ -3,8 +3,8 @@ use mathlib.Core.Path.{_∙_}
 use Prim.Native.Nat.{_≤_}
 use native.Mathlib.Omega.{arith}
 use lib.ListN.{getD}
-use Rattle.frames.specs.Frames.{bodyLength}
-use Rattle.frames.proofs.ReadCases.{beyond, at-end, unknown, cut, whole, some-column, quote-length, quote-message}
+use Rattle.frames.proofs.ReadCases.{beyond, at-end, unknown, cut, whole, some-column, quote-message}
+use Rattle.frames.proofs.Reading.{quote-body}
 use Rattle.frames.proofs.ReadColumns.{no-columns}
 use borrow.Author.Needs.{needs}
 use Rattle.frames.proofs.reader.read_at.Statement.{statement}
@@ -60,7 +60,7 @@ quote-at-requires c κs =
     let args = c .before .before .before .before .before .before .before .before .args in
     let kind = getD (args .tape .now) (args .place) 0 in
     let some : 1 ≤ kind = some-column kind (λ e. omega arith) in
-    (some, (omega arith, omega (arith, quote-length kind some (omega arith))))
+    (some, (omega arith, omega (arith, quote-body kind some (omega arith))))
 
 returns-6 : tie.Need-returns-6
 returns-6 c =

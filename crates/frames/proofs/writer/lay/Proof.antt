@@ -1,5 +1,4 @@
 -- `lay` meets its contract: each message by the function that lays its frame.
-use mathlib.Core.Path.{refl}
 use Rattle.lists.specs.Lists.{laid}
 use Rattle.frames.specs.Frames.{frame}
 use Rattle.frames.proofs.WriteCases.{quote-fits}
@@ -11,7 +10,7 @@ enum-known-message : tie.Need-enum-known-message
 enum-known-message c = search needs
 
 lay-quote-requires : tie.Need-lay-quote-requires
-lay-quote-requires c κs = quote-fits _ _ (c .before .before .message .given .1) (c .before .before .before .before .before .pre .0) (c .before .before .before .before .before .pre .1)
+lay-quote-requires c κs = quote-fits _ (c .before .before .message .given .1) _ (c .before .before .before .before .before .pre .0) (c .before .before .before .before .before .pre .1)
 
 enum-known-message-2 : tie.Need-enum-known-message-2
 enum-known-message-2 c = search needs
@@ -34,14 +33,14 @@ lay-number-requires-3 c κs = rw (c .before .before .message4 .given .1) at (c .
 enum-known-message-5 : tie.Need-enum-known-message-5
 enum-known-message-5 c = search needs
 
-write-leave-requires : tie.Need-write-leave-requires
-write-leave-requires c κs = rw (c .before .before .message5 .given .1) at (c .before .before .before .before .before .pre .1)
+lay-change-requires : tie.Need-lay-change-requires
+lay-change-requires c κs = rw (c .before .before .message5 .given .1) at (c .before .before .before .before .before .pre .1)
 
 enum-known-message-6 : tie.Need-enum-known-message-6
 enum-known-message-6 c = search needs
 
-write-join-requires : tie.Need-write-join-requires
-write-join-requires c κs = rw (c .before .before .message6 .given .1) at (c .before .before .before .before .before .pre .1)
+lay-change-requires-2 : tie.Need-lay-change-requires-2
+lay-change-requires-2 c κs = rw (c .before .before .message6 .given .1) at (c .before .before .before .before .before .pre .1)
 
 enum-known-message-7 : tie.Need-enum-known-message-7
 enum-known-message-7 c = search needs
@@ -88,14 +87,14 @@ same-length-5 c = search needs
 
 returns-5 : tie.Need-returns-5
 unfolding frame
-returns-5 c = rw (c .before .before .before .before .before .message5 .given .1) (c .before .before .write-leave .ensures)
+returns-5 c = rw (c .before .before .before .before .before .message5 .given .1) (c .before .before .lay-change .ensures)
 
 same-length-6 : tie.Need-same-length-6
 same-length-6 c = search needs
 
 returns-6 : tie.Need-returns-6
 unfolding frame
-returns-6 c = rw (c .before .before .before .before .before .message6 .given .1) (c .before .before .write-join .ensures)
+returns-6 c = rw (c .before .before .before .before .before .message6 .given .1) (c .before .before .lay-change2 .ensures)
 
 same-length-7 : tie.Need-same-length-7
 same-length-7 c = search needs
@@ -125,9 +124,9 @@ lay-spec =
     enum-known-message-4
     lay-number-requires-3
     enum-known-message-5
-    write-leave-requires
+    lay-change-requires
     enum-known-message-6
-    write-join-requires
+    lay-change-requires-2
     enum-known-message-7
     lay-open-requires
     enum-told

@@ -5,9 +5,9 @@ use mathlib.Core.List.{List, [], _∷_}
 use native.Mathlib.Omega.{arith}
 use lib.ListN.{length, set, length-set}
 use Rattle.lists.specs.Lists.{laid}
-use Rattle.frames.specs.Bytes.{bytes2}
+use Rattle.octets.specs.Bytes.{bytes2}
 use Rattle.frames.specs.Frames.{frame}
-use Rattle.frames.proofs.Laying.{stored-one, laid-one, laid-next}
+use Rattle.octets.proofs.Laying.{stored-one, laid-one, laid-next}
 use borrow.Author.Needs.{needs}
 use Rattle.frames.proofs.writer.lay_open.Statement.{statement}
 use Rattle.frames.proofs.writer.lay_open.Tie as tie

@@ -1,0 +1,4 @@
+-- The definitions of the crate.
+pub mod Picked
+pub mod Flagged
+pub mod Watches
