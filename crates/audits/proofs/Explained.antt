@@ -13,7 +13,7 @@ use Rattle.lists.proofs.Runs.{run-append, any-same}
 use Rattle.lists.proofs.Rising.{Rises, rising-cons, cons-rising, rising-above}
 use Rattle.skyline.specs.Skyline.{windowStart}
 use Rattle.head.specs.declared.Head.{Head}
-use Rattle.model.specs.Rows.{Row, rowAt, rowsIn}
+use Rattle.model.specs.Rows.{Row, rowAt}
 use Rattle.model.specs.Book.{tornRows}
 use Rattle.model.specs.Audit.{isWorst, unexplained}
 use Rattle.model.proofs.Rules.{untorn-whole}
@@ -121,11 +121,11 @@ module _ (d directions : ℕ) where
       go false true false t u = refl
       go false false w t u = refl
 
-  -- the last row stands at M wherever the first is sought from
-  last-from : (z M : ℕ) (rs : List Row) → z ≤ M → lastOr 0 (map Row.position rs) ≡ M → lastOr z (map Row.position rs) ≡ M
-  unfolding lastOr
-  last-from z M [] h e = omega arith
-  last-from z M (r ∷ rs) h e = e
+-- the last row stands at M wherever the first is sought from
+last-from : (z M : ℕ) (rs : List Row) → z ≤ M → lastOr 0 (map Row.position rs) ≡ M → lastOr z (map Row.position rs) ≡ M
+unfolding lastOr
+last-from z M [] h e = omega arith
+last-from z M (r ∷ rs) h e = e
 
 -- the lower ends do not matter to a gap
 pub gap-ends : (d directions : ℕ) (gap : Bool) (next : ℕ) (cs ps ls ls' l : List ℕ)
@@ -156,4 +156,4 @@ module _ (h : Head) (rs : List Row) (untorn : tornRows h rs ≡ false) where
       let s : max 1 (M + 1 - h .capacity) ≡ suc z = omega arith in
       let n : suc M - suc z ≡ M - z = omega arith in
       rw (s, n)
-      (gap-or-unexplained (h .dimensions) (h .directions) z M false rs (rw s at (untorn-whole h rs untorn .rises)) (last-from (h .dimensions) (h .directions) z M rs (omega arith) newest-last))
+      (gap-or-unexplained (h .dimensions) (h .directions) z M false rs (rw s at (untorn-whole h rs untorn .rises)) (last-from z M rs (omega arith) newest-last))

@@ -1,5 +1,5 @@
 -- The rules of the audit by what the parts found.
-use mathlib.Core.Path.{_≡_, refl, sym, ap, _∙_}
+use mathlib.Core.Path.{_≡_, _∙_}
 use Prim.Native.Nat.{ℕ, _*_, _≤_}
 use native.Mathlib.Nat.{mul-le-mul-right}
 use mathlib.Core.Bool.{Bool, true, false, _&&_, not}
@@ -7,7 +7,7 @@ use mathlib.Core.List.{List, []}
 use Rattle.lists.specs.Lists.{run}
 use Rattle.skyline.specs.Skyline.{windowStart}
 use Rattle.head.specs.declared.Head.{Head}
-use Rattle.model.specs.Rows.{Tables, rowsIn}
+use Rattle.model.specs.Rows.{rowsIn}
 use Rattle.model.specs.Book.{tornRows, bookRows}
 use Rattle.model.specs.Audit.{zeroFrom, passes}
 use Rattle.model.proofs.Rules.{untorn-whole}
