@@ -1,3 +1,4 @@
 -- The laws of the crate.
 pub mod Columns
 pub mod Laws
+pub mod Comparing

@@ -1,2 +1,3 @@
 -- The definitions of the crate.
 pub mod Dominance
+pub mod Compared

@@ -1,1 +1,56 @@
 // Dominance of one quote over another (01: beats).
+ghost use mathlib.Core.Path.{_≡_};
+ghost use Prim.Native.Nat.{_+_, _≤_, min};
+ghost use lib.ListN.{length, drop};
+ghost use Rattle.dominance.specs.Dominance.{better, higher, dominates};
+ghost use Rattle.dominance.specs.Compared.{compared};
+
+// How a quote stands to another: whether it is better in some column, and whether it is worse in some column.
+pub struct Comparison {
+    pub better: bool,
+    pub worse: bool,
+}
+
+// Whether x is better than y in a column whose direction bit is the lowest of bits.
+fn is_better(bits: u32, x: u32, y: u32) -> bool
+    ensures { λ r. ⌜ r ≡ better (higher bits 0) x y ⌝ }
+{
+    if bits & 1 == 1 { y < x } else { x < y }
+}
+
+// The smaller of two numbers.
+fn smaller(x: usize, y: usize) -> usize
+    ensures { λ r. ⌜ r ≡ min x y ⌝ }
+{
+    if x < y { x } else { y }
+}
+
+// Compares the first d columns of a quote with the d cells from start on.
+pub fn compare(directions: u32, d: usize, quote: &[u32], cells: &[u32], start: usize) -> Comparison
+    requires { ⌜ d ≤ length (now quote) ⌝ }
+    requires { ⌜ start + d ≤ length (now cells) ⌝ }
+    ensures { λ r. ⌜ r ≡ compared d directions (now (quote .entry)) (drop start (now (cells .entry))) ⌝ }
+{
+    let mut bits = directions;
+    let mut better = false;
+    let mut worse = false;
+    let mut i = 0;
+    while i < d {
+        let x = quote[i];
+        let y = cells[start + i];
+        better = better | is_better(bits, x, y);
+        worse = worse | is_better(bits, y, x);
+        bits = bits >> 1;
+        i += 1;
+    }
+    Comparison { better, worse }
+}
+
+// Whether the first quote dominates the second, over the columns that both have.
+pub fn dominates(directions: u32, first: &[u32], second: &[u32]) -> bool
+    ensures { λ r. ⌜ r ≡ dominates (min (length (now (first .entry))) (length (now (second .entry)))) directions (now (first .entry)) (now (second .entry)) ⌝ }
+{
+    let d = smaller(first.len(), second.len());
+    let c = compare(directions, d, first, second, 0);
+    c.better & !c.worse
+}

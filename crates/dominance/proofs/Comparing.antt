@@ -1,0 +1,77 @@
+-- A turn of the loop that compares two quotes column by column, and dominance by what it finds.
+use mathlib.Core.Path.{_≡_, refl, sym}
+use Prim.Native.Nat.{ℕ, zero, suc, _+_, _/_, _^_, _≤_, _<_}
+use native.Mathlib.Nat.{le-antisymm, div-one, div-div-eq-div-mul, pow-suc}
+use native.Mathlib.Numerals.{add-one}
+use native.Mathlib.Omega.{arith}
+use mathlib.Core.Bool.{Bool, true, false, _&&_, _||_, not}
+use mathlib.Core.List.{List}
+use lib.Bits.{bitAnd, and-mask}
+use lib.Dec.{eqb}
+use lib.ListN.{getD, drop}
+use lib.Seq.{getD-drop}
+use Rattle.dominance.specs.Dominance.{higher, better, betterAt, noWorse, someBetter, dominates}
+use Rattle.dominance.specs.Compared.{compared}
+
+-- the lowest bit by a mask
+pub lowest : (bits : ℕ) → higher bits 0 ≡ eqb (bitAnd bits 1) 1
+unfolding higher
+lowest bits = rw (div-one, ← and-mask bits 1)
+
+-- bit i is the lowest once the bits below it are shifted out
+shifted : (directions bits i : ℕ) → bits ≡ directions / 2 ^ i → higher bits 0 ≡ higher directions i
+unfolding higher
+shifted directions bits i e = rw (div-one, e)
+
+-- one more shift
+halved : (directions i : ℕ) → directions / 2 ^ i / 2 ≡ directions / 2 ^ (i + 1)
+halved directions i = rw (add-one, pow-suc) (div-div-eq-div-mul directions (2 ^ i) 2)
+
+-- i columns of a quote p and of the cells from place s on have been compared
+pub record Comparing (d directions : ℕ) (p cells : List ℕ) (s bits : ℕ) (b w : Bool) (i : ℕ) : Type 0 where
+  pub within : i ≤ d
+  pub bits≡ : bits ≡ directions / 2 ^ i
+  pub better≡ : b ≡ someBetter i directions p (drop s cells)
+  pub worse≡ : w ≡ someBetter i directions (drop s cells) p
+
+pub start : (d directions : ℕ) (p cells : List ℕ) (s : ℕ) → Comparing d directions p cells s directions false false 0
+unfolding someBetter
+start d directions p cells s = record { within = omega arith; bits≡ = sym (div-one directions); better≡ = refl; worse≡ = refl }
+
+pub more : {d directions : ℕ} {p cells : List ℕ} {s bits : ℕ} {b w : Bool} {i : ℕ} → Comparing d directions p cells s bits b w i → i < d
+    → (x y : Bool) → x ≡ better (higher bits 0) (getD p i 0) (getD cells (s + i) 0) → y ≡ better (higher bits 0) (getD cells (s + i) 0) (getD p i 0)
+    → Comparing d directions p cells s (bits / 2) (b || x) (w || y) (i + 1)
+unfolding someBetter betterAt
+more {d} {directions} {p} {cells} {s} {bits} {b} {w} {i} v l x y e f =
+    let bit = shifted directions bits i (v .bits≡) in
+    record {
+      within = omega arith;
+      bits≡ = rw (v .bits≡) (halved directions i);
+      better≡ = rw (add-one, v .better≡, e, bit, getD-drop);
+      worse≡ = rw (add-one, v .worse≡, f, bit, getD-drop);
+    }
+
+pub finish : {d directions : ℕ} {p cells : List ℕ} {s bits : ℕ} {b w : Bool} {i : ℕ} → Comparing d directions p cells s bits b w i → d ≤ i
+    → record { better = b; worse = w } ≡ compared d directions p (drop s cells)
+unfolding compared
+finish v h = let e = le-antisymm (v .within) h in rw (← e, ← v .better≡, ← v .worse≡)
+
+no-worse-not : (d directions : ℕ) (p q : List ℕ) → noWorse d directions p q ≡ not (someBetter d directions q p)
+unfolding noWorse someBetter
+no-worse-not zero directions p q = refl
+no-worse-not (suc i) directions p q = rw (no-worse-not i directions p q) (go (someBetter i directions q p) (betterAt directions i q p))
+  where
+    go : (a b : Bool) → not a && not b ≡ not (a || b)
+    go true b = refl
+    go false b = refl
+
+-- p dominates q exactly if it is better in some column and worse in none
+pub dominates-by : (d directions : ℕ) (p q : List ℕ) → dominates d directions p q ≡ compared d directions p q .better && not (compared d directions p q .worse)
+unfolding dominates compared
+dominates-by d directions p q = rw (no-worse-not d directions p q) (swap (not (someBetter d directions q p)) (someBetter d directions p q))
+  where
+    swap : (a b : Bool) → a && b ≡ b && a
+    swap true true = refl
+    swap true false = refl
+    swap false true = refl
+    swap false false = refl

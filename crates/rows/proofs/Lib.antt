@@ -1,0 +1,4 @@
+-- The laws of the crate.
+pub mod Reading
+pub mod Torn
+pub mod Watches

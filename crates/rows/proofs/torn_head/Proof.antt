@@ -1,0 +1,12 @@
+-- `torn_head` meets its contract: each test is one of the definition's.
+use borrow.Author.Needs.{needs}
+use Rattle.rows.specs.Order.{tornHead}
+use Rattle.rows.proofs.torn_head.Statement.{statement}
+use Rattle.rows.proofs.torn_head.Tie as tie
+
+returns : tie.Need-returns
+unfolding tornHead
+returns c = search needs
+
+pub torn-head-spec : {M : Type 1} → statement M
+torn-head-spec = tie.close (tie.spec returns)

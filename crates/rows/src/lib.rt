@@ -1,0 +1,86 @@
+// Code on the lent tables: torn rows, the rows that a quote leaves, and the tables after it.
+use head::Head;
+ghost use mathlib.Core.Path.{_≡_};
+ghost use mathlib.Core.Bool.{cond};
+ghost use Prim.Native.Nat.{_-_, _≤_};
+ghost use mathlib.Core.List.{[]};
+ghost use lib.ListN.{length};
+ghost use Rattle.model.specs.Rows.{rowsIn};
+ghost use Rattle.model.specs.Book.{tornRows, tornWatches, bookRows};
+ghost use Rattle.rows.specs.Order.{tornHead, inOrder};
+ghost use Rattle.rows.specs.Selected.{tables};
+
+// x less y, and 0 where y is larger.
+fn difference(x: u32, y: u32) -> u32
+    ensures { λ r. ⌜ r ≡ x - y ⌝ }
+{
+    if x < y { 0 } else { x - y }
+}
+
+// x if the test passed, else y.
+fn chosen(test: bool, x: u32, y: u32) -> u32
+    ensures { λ r. ⌜ r ≡ cond test x y ⌝ }
+{
+    if test { x } else { y }
+}
+
+// Whether no rows could stand under this head.
+fn torn_head(head: Head) -> bool
+    ensures { λ r. ⌜ r ≡ tornHead head ⌝ }
+{
+    let capacity = head.capacity;
+    let newest = head.newest;
+    let rows = head.rows;
+    let uneven = ((rows == 0) & (0 < newest)) | ((0 < rows) & (newest == 0));
+    (capacity < rows) | (Head::MAX_POSITION < newest) | uneven
+}
+
+// Whether the positions rise from behind a first one up to the newest, which is the last, each above its lower end.
+fn in_order(before: u32, newest: u32, count: usize, positions: &[u32], lower_ends: &[u32]) -> bool
+    requires { ⌜ count ≤ length (now positions) ⌝ }
+    requires { ⌜ count ≤ length (now «lower_ends») ⌝ }
+    ensures { λ r. ⌜ r ≡ inOrder before newest (rowsIn 0 count (tables [] (now (positions .entry)) (now («lower_ends» .entry)))) ⌝ }
+{
+    let mut fair = true;
+    let mut last = before;
+    let mut i = 0;
+    while i < count {
+        let position = positions[i];
+        let lower = lower_ends[i];
+        fair = fair & (last < position) & (position <= newest) & (lower < position);
+        last = position;
+        i += 1;
+    }
+    fair & (last == newest)
+}
+
+// Whether the rows of a book, or its head, could not be (01: torn).
+pub fn torn_rows(head: Head, positions: &[u32], lower_ends: &[u32]) -> bool
+    requires { ⌜ head .capacity ≤ length (now positions) ⌝ }
+    requires { ⌜ head .capacity ≤ length (now «lower_ends») ⌝ }
+    ensures { λ r. ⌜ r ≡ tornRows head (bookRows head (tables [] (now (positions .entry)) (now («lower_ends» .entry)))) ⌝ }
+{
+    if torn_head(head) {
+        return true;
+    }
+    let before = difference(head.newest, head.capacity);
+    let count = head.rows as usize;
+    !in_order(before, head.newest, count, positions, lower_ends)
+}
+
+// Whether the eight watch records could not be (01: torn).
+pub fn torn_watches(capacity: u32, watches: [u32; 8]) -> bool
+    ensures { λ r. ⌜ r ≡ tornWatches capacity watches ⌝ }
+{
+    let mut fair = true;
+    let mut last: u32 = 0;
+    let mut i = 0;
+    while i < 8 {
+        let n = watches[i];
+        let empty = n == 0;
+        fair = fair & (empty | ((last < n) & (n <= capacity)));
+        last = chosen(empty, capacity, n);
+        i += 1;
+    }
+    !fair
+}
