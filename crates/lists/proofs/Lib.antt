@@ -6,3 +6,4 @@ pub mod Runs
 pub mod Cells
 pub mod Rising
 pub mod Writing
+pub mod Laying

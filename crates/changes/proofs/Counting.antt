@@ -1,0 +1,63 @@
+-- How many positions leave and join: the rows whose test changes, and the new row.
+use mathlib.Core.Path.{_≡_, refl, sym, ap, _∙_}
+use Prim.Native.Nat.{ℕ, suc, _+_}
+use native.Mathlib.Omega.{arith}
+use mathlib.Core.Bool.{Bool, true, false, _&&_, not, Bool·beq}
+use mathlib.Core.List.{List, [], _∷_}
+use lib.Dec.{ltb}
+use lib.ListN.{length, getD, length-append, length-map}
+use mir.Val.{boolByte}
+use Rattle.lists.specs.Lists.{keep, filter, run}
+use Rattle.changes.specs.Picked.{picked}
+use Rattle.changes.specs.Swept.{Swept, wasListed, nowListed, leaving, joining}
+
+-- the tests differ
+abbrev pub differs : Bool → Bool → Bool
+differs a b = not (Bool·beq a b)
+
+-- where two tests differ, one passes and the other does not
+filter-differs : (f g : ℕ → Bool) (l : List ℕ)
+    → length (filter (λ i. differs (f i) (g i)) l) ≡ length (filter (λ i. f i && not (g i)) l) + length (filter (λ i. g i && not (f i)) l)
+unfolding filter
+filter-differs f g [] = refl
+filter-differs f g (x ∷ xs) = go (f x) (g x) (filter-differs f g xs)
+  where
+    D : List ℕ
+    D = filter (λ i. differs (f i) (g i)) xs
+
+    F : List ℕ
+    F = filter (λ i. f i && not (g i)) xs
+
+    G : List ℕ
+    G = filter (λ i. g i && not (f i)) xs
+
+    go : (a b : Bool) → length D ≡ length F + length G → length (keep (differs a b) x D) ≡ length (keep (a && not b) x F) + length (keep (b && not a) x G)
+    go true true h = h
+    go true false h = omega arith
+    go false true h = omega arith
+    go false false h = h
+
+pub picked-differs : (f g : ℕ → Bool) (positions : List ℕ) (count : ℕ)
+    → length (picked (λ i. differs (f i) (g i)) positions count) ≡ length (picked (λ i. f i && not (g i)) positions count) + length (picked (λ i. g i && not (f i)) positions count)
+unfolding picked
+picked-differs f g positions count = simp length-map (filter-differs f g (run 0 count))
+
+module _ (s : Swept) (before after : ℕ) where
+  -- the row at place i leaves or joins
+  abbrev pub changesAt : ℕ → Bool
+  changesAt i = differs (wasListed s before after i) (nowListed s before after i)
+
+  -- the rows that leave or join, and the new row where it is listed, are the changes
+  pub counted-changes : (n : ℕ) → n ≡ length (picked changesAt (s .positions) (s .count)) → n + boolByte (ltb (s .lower) after) ≡ length (leaving s before after) + length (joining s before after)
+  unfolding leaving joining
+  counted-changes n e = rw (length-append, e, picked-differs (wasListed s before after) (nowListed s before after)) (go (ltb (s .lower) after))
+    where
+      L : ℕ
+      L = length (leaving s before after)
+
+      J : ℕ
+      J = length (picked (λ i. nowListed s before after i && not (wasListed s before after i)) (s .positions) (s .count))
+
+      go : (b : Bool) → L + J + boolByte b ≡ L + (J + length (keep b (s .newest) []))
+      go true = omega arith
+      go false = omega arith

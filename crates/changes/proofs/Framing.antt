@@ -1,0 +1,52 @@
+-- Laws of the frames of changes: seven bytes each, one behind the other.
+use mathlib.Core.Path.{_≡_, refl, sym, ap, _∙_}
+use Prim.Native.Nat.{ℕ, _+_, _-_, _*_, _≤_, _<_}
+use native.Mathlib.Omega.{arith}
+use mathlib.Core.Bool.{Bool, true}
+use mathlib.Core.List.{List, [], _∷_, _++_, map}
+use lib.ListN.{length, getD, length-append}
+use borrow.Rule.Slice.PartMut.{midOf, putMid}
+use Rattle.lists.specs.Lists.{flat, laid}
+use Rattle.lists.proofs.Filters.{flat-append, map-append, map-map}
+use Rattle.frames.specs.declared.Message.{Message}
+use Rattle.frames.specs.declared.Message.the-variants.{Leave, Join}
+use Rattle.frames.specs.Bytes.{bytes2, bytes4}
+use Rattle.frames.specs.Frames.{frame}
+use Rattle.model.specs.Changes.{frames}
+use Rattle.changes.proofs.Writing.{cells, Writing, writing-fits, writing-more}
+
+pub leave-length : (n p : ℕ) → length (frame (Leave n p) []) ≡ 7
+unfolding frame bytes2 bytes4
+leave-length n p = refl
+
+pub join-length : (n p : ℕ) → length (frame (Join n p) []) ≡ 7
+unfolding frame bytes2 bytes4
+join-length n p = refl
+
+pub frames-append : (a b : List Message) → frames (a ++ b) ≡ frames a ++ frames b
+unfolding frames
+frames-append a b = ap flat (map-append (λ m. frame m []) a b) ∙ flat-append (map (λ m. frame m []) a) (map (λ m. frame m []) b)
+
+module _ (m : ℕ → Message) where
+  -- the frame of a position's message
+  abbrev pub framing : ℕ → List ℕ
+  framing p = frame (m p) []
+
+  pub frames-cells : (l : List ℕ) → frames (map m l) ≡ cells framing l
+  unfolding frames
+  frames-cells l = ap flat (map-map (λ k. frame k []) m l)
+
+  pub cells-length : ((p : ℕ) → length (framing p) ≡ 7) → (l : List ℕ) → length (cells framing l) ≡ 7 * length l
+  unfolding flat
+  cells-length e [] = refl
+  cells-length e (p ∷ l) = rw (length-append, e p, cells-length e l) (omega arith)
+
+-- a turn of a loop that writes the frame of each position it picks; e says that each has seven bytes
+module _ (m : ℕ → Message) (e : (p : ℕ) → length (framing m p) ≡ 7) {test : ℕ → Bool} {positions : List ℕ} {count : ℕ} {entry out : List ℕ} {at i : ℕ} {b : Bool}
+    (v : Writing (framing m) test positions count entry out at i) (h : i < count) (q : b ≡ test i) where
+  pub frame-fits : b ≡ true → at + 7 ≤ length out
+  frame-fits t = rw e at (writing-fits v h q t)
+
+  pub frame-laid : {last : List ℕ} → last ≡ laid (framing m (getD positions i 0)) (midOf at (length out - at) out) → b ≡ true
+      → Writing (framing m) test positions count entry (putMid at (length out - at) out last) (at + 7) (i + 1)
+  frame-laid l t = writing-more v h q (sym (e (getD positions i 0))) l t

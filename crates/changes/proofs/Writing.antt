@@ -1,0 +1,88 @@
+-- A loop that writes the positions it picks, each as cells, one behind the other: its invariant and its turns.
+use mathlib.Core.Path.{_≡_, refl, sym, ap, _∙_}
+use Prim.Native.Nat.{ℕ, _+_, _-_, _≤_, _<_}
+use native.Mathlib.Decide.{le-ind}
+use native.Mathlib.Numerals.{add-one}
+use native.Mathlib.Omega.{arith}
+use mathlib.Core.Bool.{Bool, true, false}
+use mathlib.Core.List.{List, [], _∷_, _++_, map, append-nil}
+use lib.ListN.{length, getD, set, length-append}
+use borrow.Rule.Slice.PartMut.{midOf, putMid}
+use Rattle.lists.specs.Lists.{flat, laid}
+use Rattle.lists.proofs.Filters.{flat-append, map-append}
+use Rattle.lists.proofs.Laying.{Laying, laying-start, laying-pass, laying-room, laying-store, laying-more, laying-all}
+use Rattle.changes.specs.Picked.{picked}
+use Rattle.changes.proofs.Picking.{picked-none, picked-more, picked-took, picked-passed}
+
+module _ (encode : ℕ → List ℕ) where
+  -- the cells of these positions
+  abbrev pub cells : List ℕ → List ℕ
+  cells l = flat (map encode l)
+
+  pub cells-append : (l m : List ℕ) → cells (l ++ m) ≡ cells l ++ cells m
+  cells-append l m = ap flat (map-append encode l m) ∙ flat-append (map encode l) (map encode m)
+
+  cells-one : (p : ℕ) → cells (p ∷ []) ≡ encode p
+  unfolding flat
+  cells-one p = append-nil (encode p)
+
+-- a position as one cell
+abbrev pub one : ℕ → List ℕ
+one p = p ∷ []
+
+pub cells-same : (l : List ℕ) → cells one l ≡ l
+unfolding flat
+cells-same [] = refl
+cells-same (p ∷ l) = ap (λ (r : List ℕ). p ∷ r) (cells-same l)
+
+cells-grow : (encode : ℕ → List ℕ) (test : ℕ → Bool) (positions : List ℕ) (i n : ℕ) → i ≤ n
+    → length (cells encode (picked test positions i)) ≤ length (cells encode (picked test positions n))
+cells-grow encode test positions i n h =
+    le-ind (λ (k : ℕ). length (cells encode (picked test positions i)) ≤ length (cells encode (picked test positions k))) (omega arith)
+    (λ k _ q. rw (← add-one, picked-more, cells-append, length-append) (omega arith)) n h
+
+-- the positions picked at the places below i stand as cells at the front of the output
+pub record Writing (encode : ℕ → List ℕ) (test : ℕ → Bool) (positions : List ℕ) (count : ℕ) (entry out : List ℕ) (at i : ℕ) : Type 0 where
+  pub laying : Laying (λ k. cells encode (picked test positions k)) count entry out at i
+
+pub writing-start : (encode : ℕ → List ℕ) (test : ℕ → Bool) (positions : List ℕ) (count : ℕ) (entry : List ℕ)
+    → length (cells encode (picked test positions count)) ≤ length entry → Writing encode test positions count entry entry 0 0
+unfolding flat
+writing-start encode test positions count entry h =
+    record { laying = laying-start (λ k. cells encode (picked test positions k)) count entry h (rw (picked-none test positions)) }
+
+module _ {encode : ℕ → List ℕ} {test : ℕ → Bool} {positions : List ℕ} {count : ℕ} {entry out : List ℕ} {at i : ℕ} {b : Bool}
+    (v : Writing encode test positions count entry out at i) (h : i < count) (e : b ≡ test i) where
+  abbrev next : List ℕ
+  next = encode (getD positions i 0)
+
+  took : b ≡ true → cells encode (picked test positions (i + 1)) ≡ cells encode (picked test positions i) ++ next
+  took t =
+      ap (cells encode) (picked-took test positions i (sym e ∙ t))
+      ∙ cells-append encode (picked test positions i) (getD positions i 0 ∷ [])
+      ∙ ap (λ (r : List ℕ). cells encode (picked test positions i) ++ r) (cells-one encode (getD positions i 0))
+
+  grown : length (cells encode (picked test positions (i + 1))) ≤ length (cells encode (picked test positions count))
+  grown = cells-grow encode test positions (i + 1) count (omega arith)
+
+  -- where the position at i is picked, there is room for its cells
+  pub writing-fits : b ≡ true → at + length next ≤ length out
+  writing-fits t = laying-room (v .laying) h next (took t) grown
+
+  -- the turn of a position that is not picked
+  pub writing-pass : b ≡ false → Writing encode test positions count entry out at (i + 1)
+  writing-pass t = record { laying = laying-pass (v .laying) h (ap (cells encode) (picked-passed test positions i (sym e ∙ t))) }
+
+  -- the turn of a position that is one cell, stored
+  pub writing-store : (x : ℕ) → next ≡ x ∷ [] → b ≡ true → Writing encode test positions count entry (set out at x) (at + 1) (i + 1)
+  writing-store x s t = record { laying = laying-store (v .laying) h x (rw s at (took t)) grown }
+
+  -- the turn of a position whose cells are laid into the rest of the output
+  pub writing-more : {last : List ℕ} {used : ℕ} → used ≡ length next → last ≡ laid next (midOf at (length out - at) out) → b ≡ true
+      → Writing encode test positions count entry (putMid at (length out - at) out last) (at + used) (i + 1)
+  writing-more u l t = record { laying = laying-more (v .laying) h next (took t) grown u l }
+
+pub writing-all : {encode : ℕ → List ℕ} {test : ℕ → Bool} {positions : List ℕ} {count : ℕ} {entry out : List ℕ} {at i : ℕ}
+    → Writing encode test positions count entry out at i → count ≤ i
+    → (at ≡ length (cells encode (picked test positions count))) × (out ≡ laid (cells encode (picked test positions count)) entry)
+writing-all v h = laying-all (v .laying) h
