@@ -1,0 +1,37 @@
+// The judgements that the calls begin with: settings, lengths, torn.
+ghost use mathlib.Core.Path.{_≡_};
+ghost use Prim.Native.Nat.{_≤_};
+ghost use mathlib.Core.List.{[]};
+ghost use Rattle.model.specs.Book.{shortTables, answerOf};
+ghost use Rattle.book.specs.Left.{tables};
+use head::Answer;
+use head::Head;
+use head::Refusal;
+use rows::torn_rows;
+
+// Whether a table is shorter than the settings ask.
+fn short_tables(d: u32, capacity: u32, columns: &[u32], positions: &[u32], lower_ends: &[u32]) -> bool
+    requires { ⌜ d ≤ 6 ⌝ }
+    requires { ⌜ capacity ≤ 1024 ⌝ }
+    ensures { λ r. ⌜ r ≡ shortTables (tables (now (columns .entry)) (now (positions .entry)) (now («lower_ends» .entry))) d capacity ⌝ }
+{
+    let n = capacity as usize;
+    let cells = n * (d as usize);
+    (columns.len() < cells) | (positions.len() < n) | (lower_ends.len() < n)
+}
+
+// The answer of a call on the tables alone, before what the call adds: 3, 11, 12.
+pub fn judge(head: Head, columns: &[u32], positions: &[u32], lower_ends: &[u32]) -> Answer
+    ensures { λ r. ⌜ r ≡ answerOf head (tables (now (columns .entry)) (now (positions .entry)) (now («lower_ends» .entry))) [] ⌝ }
+{
+    if !head.settings_hold() {
+        return Answer::Refused(Refusal::Settings);
+    }
+    if short_tables(head.dimensions, head.capacity, columns, positions, lower_ends) {
+        return Answer::Refused(Refusal::ShortLoan);
+    }
+    if torn_rows(head, positions, lower_ends) {
+        return Answer::Refused(Refusal::Torn);
+    }
+    Answer::Accepted
+}
