@@ -1,26 +1,26 @@
 -- How the two models stand between two calls of a list, and what the book model then reads and judges.
 use mathlib.Core.Path.{_≡_, refl, sym, ap, _∙_}
-use mathlib.Core.Logic.{_⊎_, inr}
+use mathlib.Core.Logic.{_⊎_, inl, inr}
 use Prim.Native.Nat.{ℕ, _≤_}
 use mathlib.Core.Bool.{Bool, true, false, _&&_, not}
 use mathlib.Core.List.{List, _∷_}
 use lib.Dec.{ltb, leb}
 use lib.ListN.{length}
-use borrow.Author.Tests.{leb-true, not-false}
-use Rattle.lists.specs.Lists.{rising, padded}
-use Rattle.lists.proofs.Booleans.{and-left, and-right, none-left}
+use borrow.Author.Tests.{ltb-false, leb-true, not-false}
+use Rattle.lists.specs.Lists.{run, rising, padded}
+use Rattle.lists.proofs.Booleans.{and-left, and-right, none-left, none-right}
 use Rattle.head.specs.declared.Refusal.{Refusal}
 use Rattle.head.specs.declared.Refusal.the-variants.{Settings}
 use Rattle.head.specs.Refusals.{first}
 use Rattle.head.specs.Heads.{lastPosition}
 use Rattle.head.proofs.Settings.{settings-within}
-use Rattle.model.specs.Rows.{rowsIn, filled}
+use Rattle.model.specs.Rows.{Tables, rowsIn, filled}
 use Rattle.model.specs.Reference.{Reference, unopened, newest, skylineOf, rowsOf, headOf, opened, outside}
 use Rattle.model.specs.Book.{shortTables, shortLoan, tornRows, tornWatches, standing, bookRows, listOf, answerOf, watchfulAnswer}
 use Rattle.model.specs.Calls.{Call, Lent, World, bookStep, shown, Desk, deskStep}
 use Rattle.model.proofs.Quotes.{skyline-listed}
 use Rattle.model.proofs.Tables.{rows-filled}
-use Rattle.model.proofs.Sound.{Wide, rows-few, rows-wide, rows-sound, standing-padded, watches-sound}
+use Rattle.model.proofs.Sound.{Wide, rows-none, rows-few, rows-wide, rows-sound, standing-padded, watches-sound}
 
 -- from the first accepted opening on: what is lent is filled from the reference model, whose settings hold, whose quotes have d
 -- columns each and are not too many, and whose watched n rise from 1 to N and are at most eight
@@ -41,18 +41,29 @@ pub record Joined (k : Desk) (w : World) : Type 0 where
   pub lent : w .lent ≡ k .lent
   pub since : (k .reference ≡ unopened) ⊎ Faithful (k .reference) (k .lent)
 
+-- what is lent is long enough: the tables
+pub long-tables : (t : Tables) (ws : List ℕ) (d N : ℕ) → shortLoan t ws d N ≡ false → shortTables t d N ≡ false
+unfolding shortLoan
+long-tables t ws d N e = none-left (shortTables t d N) (ltb (length ws) 8) e
+
+-- and the records
+pub long-records : (t : Tables) (ws : List ℕ) (d N : ℕ) → shortLoan t ws d N ≡ false → 8 ≤ length ws
+unfolding shortLoan
+long-records t ws d N e = ltb-false (length ws) 8 (none-right (shortTables t d N) (ltb (length ws) 8) e)
+
 -- what is seen of a call is the same in both models, and they stand joined after it
 abbrev pub Agree : Call → Desk → World → Type 0
 Agree c k w = (bookStep c w .0 ≡ deskStep c k .0) × Joined (deskStep c k .1) (bookStep c w .1)
 
--- the two models, joined
-abbrev pub desk : Reference → Lent → Desk
-desk s l = record { reference = s; lent = l }
+-- the reference model, with what is lent
+abbrev pub referenceWith : Reference → Lent → Desk
+referenceWith s l = record { reference = s; lent = l }
 
-abbrev pub world : Reference → Lent → World
-world s l = record { head = headOf s; lent = l }
+-- the book with the reference model's head, and the same lent
+abbrev pub bookWith : Reference → Lent → World
+bookWith s l = record { head = headOf s; lent = l }
 
--- n is from 1 to N
+-- an n that is not refused with 5 is from 1 to N
 pub in-range : (s : Reference) (n : ℕ) → outside s n ≡ false → (1 ≤ n) × (n ≤ s .capacity)
 unfolding outside
 in-range s n e =
@@ -71,7 +82,8 @@ unfolding shown
 shown-opened s l e = rw e
 
 module _ (s : Reference) (l : Lent) (f : Faithful s l) where
-  pub joined : Joined (desk s l) (world s l)
+  -- the two models then stand joined
+  pub joined : Joined (referenceWith s l) (bookWith s l)
   joined = record { head = refl; lent = refl; since = inr f }
 
   -- what is lent is as the reference model shows it
@@ -105,11 +117,19 @@ module _ (s : Reference) (l : Lent) (f : Faithful s l) where
 
   -- neither 3 nor 11 nor 12 is said: the answer is by what the call adds
   pub judged : (more more' : List (Bool × Refusal)) → first more ≡ first more' → answerOf (headOf s) (l .tables) more ≡ first ((not (opened s), Settings) ∷ more')
-  unfolding answerOf first headOf opened shortLoan
-  judged more more' e =
-      rw (f .settings, none-left (shortTables (l .tables) (s .dimensions) (s .capacity)) (ltb (length (l .watches)) 8) (f .long), rows-read, rows-whole) e
+  unfolding answerOf first headOf opened
+  judged more more' e = rw (f .settings, long-tables (l .tables) (l .watches) (s .dimensions) (s .capacity) (f .long), rows-read, rows-whole) e
 
   -- and no more so if the watches are judged too
   pub judged-watchful : (more more' : List (Bool × Refusal)) → first more ≡ first more' → watchfulAnswer (headOf s) (l .tables) (l .watches) more ≡ first ((not (opened s), Settings) ∷ more')
   unfolding watchfulAnswer first headOf opened
   judged-watchful more more' e = rw (f .settings, f .long, rows-read, rows-whole, watches-whole) e
+
+-- the book model reads the reference model's rows, opened or not
+pub joined-rows : (k : Desk) (w : World) → Joined k w → bookRows (w .head) (w .lent .tables) ≡ rowsOf (k .reference)
+unfolding bookRows headOf rowsIn run
+joined-rows k w j = rw (j .head, j .lent) (go (k .reference) (j .since))
+  where
+    go : (s : Reference) → (s ≡ unopened) ⊎ Faithful s (k .lent) → bookRows (headOf s) (k .lent .tables) ≡ rowsOf s
+    go s (inl e) = rw (e, rows-none unopened refl)
+    go s (inr f) = rows-read s (k .lent) f

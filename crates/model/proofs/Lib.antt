@@ -14,3 +14,4 @@ pub mod Rules
 pub mod RulesToTape
 pub mod TapeToRules
 pub mod Audit
+pub mod Kept

@@ -5,11 +5,8 @@ use Prim.Native.Nat.{ℕ, zero-le}
 use native.Mathlib.Omega.{arith}
 use mathlib.Core.Bool.{true, false}
 use mathlib.Core.List.{[], List·Memᴰ·not-nil}
-use lib.Dec.{ltb}
-use lib.ListN.{length}
-use borrow.Author.Tests.{ltb-false, not-false}
+use borrow.Author.Tests.{not-false}
 use Rattle.lists.specs.Lists.{rising, laid, padded}
-use Rattle.lists.proofs.Booleans.{none-left, none-right}
 use Rattle.lists.proofs.Writing.{length-padded, padded-again}
 use Rattle.head.specs.declared.Answer.{Answer}
 use Rattle.head.specs.declared.Answer.the-variants.{Accepted, Refused}
@@ -22,15 +19,16 @@ use Rattle.model.specs.Book.{shortTables, shortLoan, replyOf, openAnswer
 use Rattle.model.specs.Calls.{Open, Lent, bookStep, deskStep, fed, outputOf, shown}
 use Rattle.model.proofs.Tables.{Fit, filled-again, filled-long}
 use Rattle.model.proofs.Sound.{rows-none}
-use Rattle.model.proofs.Joined.{Faithful, Agree, desk, world, shown-opened, shown-still}
+use Rattle.model.proofs.Joined.{Faithful, Agree, referenceWith, bookWith, long-tables, long-records, shown-opened, shown-still}
 
 -- what is lent stays as it is where no opening was accepted, too
-pub still : (s : Reference) (l : Lent) → (s ≡ unopened) ⊎ Faithful s l → shown s l ≡ l
+still : (s : Reference) (l : Lent) → (s ≡ unopened) ⊎ Faithful s l → shown s l ≡ l
 unfolding shown opened settingsHold
 still s l (inl e) = rw e
 still s l (inr f) = shown-still s l f
 
 module _ (d N directions : ℕ) (l : Lent) where
+  -- the reference model, just opened
   abbrev fresh : Reference
   fresh = opening d N directions
 
@@ -54,6 +52,7 @@ module _ (d N directions : ℕ) (l : Lent) where
     unfolding opening opened
     shown-cleared = shown-opened fresh l holds ∙ rw no-rows
 
+    -- an accepted opening leaves what is lent faithful
     faithful : Faithful fresh cleared
     unfolding opening opened rising shortLoan
     faithful = record {
@@ -62,8 +61,8 @@ module _ (d N directions : ℕ) (l : Lent) where
       within = zero-le;
       long =
           rw (
-            filled-long d N [] (l .tables) zero-le nothing (none-left (shortTables (l .tables) d N) (ltb (length (l .watches)) 8) long) d N,
-            length-padded 8 [] (l .watches) zero-le (ltb-false (length (l .watches)) 8 (none-right (shortTables (l .tables) d N) (ltb (length (l .watches)) 8) long)),
+            filled-long d N [] (l .tables) zero-le nothing (long-tables (l .tables) (l .watches) d N long) d N,
+            length-padded 8 [] (l .watches) zero-le (long-records (l .tables) (l .watches) d N long),
           )
           long;
       tables = rw no-rows (filled-again d N [] (l .tables) zero-le nothing []);
@@ -73,14 +72,16 @@ module _ (d N directions : ℕ) (l : Lent) where
     }
 
   module _ (s : Reference) (since : (s ≡ unopened) ⊎ Faithful s l) where
+    -- the answer, in both models
     abbrev answer : Answer
     answer = openAnswer d N directions (l .tables) (l .watches)
 
-    pub opens : Agree (Open d N directions) (desk s l) (world s l)
+    -- the opening is seen alike
+    pub opens : Agree (Open d N directions) (referenceWith s l) (bookWith s l)
     unfolding bookStep deskStep referenceStep tells fed outputOf openReply openTables openWatches replyOf settled laid tooShort shortLoan shortTables openAnswer
     opens = go answer refl
       where
-        go : (a : Answer) → answer ≡ a → Agree (Open d N directions) (desk s l) (world s l)
+        go : (a : Answer) → answer ≡ a → Agree (Open d N directions) (referenceWith s l) (bookWith s l)
         go Accepted e =
             let a = accepted-passed _ _ _ e in
             let holds = not-false (settingsHold d N directions) (a .0) in

@@ -39,6 +39,12 @@ pub quote-within : (quotes more : List (List ℕ)) (p : ℕ) → 1 ≤ p → p �
 unfolding quoteAt
 quote-within quotes more p h k = List·getD-append quotes more [] (p - 1) (omega arith)
 
+-- and they leave dominance between positions that were there
+pub over-within : (d directions : ℕ) (quotes more : List (List ℕ)) (p q : ℕ) → 1 ≤ p → p ≤ length quotes → 1 ≤ q → q ≤ length quotes
+    → dominatesAt d directions (quotes ++ more) p q ≡ dominatesAt d directions quotes p q
+unfolding dominatesAt
+over-within d directions quotes more p q a b u v = rw (quote-within quotes more p a b, quote-within quotes more q u v)
+
 -- what the lower end of a row is, over any strict partial order
 pub row-lower : (dom : ℕ → ℕ → Bool) (irr : (p : ℕ) → dom p p ≡ false) (tra : (p q r : ℕ) → dom p q ≡ true → dom q r ≡ true → dom p r ≡ true) (S M p : ℕ)
     → S ≤ p → p ≤ M → undominated dom M p ≡ true → Lower dom S p (lowerEnd dom S M p)
@@ -83,15 +89,19 @@ module _ (M N : ℕ) where
 -- ---- one more quote
 
 module _ (s : Reference) (x : List ℕ) (some : 1 ≤ s .capacity) where
+  -- the newest position before the quote
   abbrev M : ℕ
   M = newest s
 
+  -- the first position of the window of N before the quote
   abbrev S : ℕ
   S = windowStart M (s .capacity)
 
+  -- and after it
   abbrev S' : ℕ
   S' = windowStart (suc M) (s .capacity)
 
+  -- the position that expires
   abbrev g : ℕ
   g = expiring M (s .capacity)
 
@@ -128,17 +138,20 @@ module _ (s : Reference) (x : List ℕ) (some : 1 ≤ s .capacity) where
   unfolding quoteAt
   quote-new = let e : suc M - 1 ≡ M = omega arith in rw e (getD-append-seam (s .quotes) x [] [])
 
+  -- the quote changes no dominance in the window before it
   unchanged : (p q : ℕ) → S ≤ p → p ≤ M → S ≤ q → q ≤ M → D p q ≡ over s p q
-  unfolding dominatesAt windowStart
-  unchanged p q a b u v = rw (quote-within (s .quotes) (x ∷ []) p (omega arith) b, quote-within (s .quotes) (x ∷ []) q (omega arith) v)
+  unfolding windowStart
+  unchanged p q a b u v = over-within (s .dimensions) (s .directions) (s .quotes) (x ∷ []) p q (omega arith) b (omega arith) v
 
   -- the positions that keep their row
   L : List ℕ
   L = filter (undominated D (suc M)) (between S' M)
 
+  -- the rows that stay, by the book model's rule
   abbrev left : List Row
   left = remaining (s .dimensions) (s .directions) x g (rowsOf s)
 
+  -- they are those positions' rows
   left-is : left ≡ map (rowOf s) L
   unfolding L remaining remains rowsOf rowOf rows between dominatesAt
   left-is =
@@ -191,7 +204,7 @@ module _ (s : Reference) (x : List ℕ) (some : 1 ≤ s .capacity) where
           ∙ sym seek
           ∙ ap (lowerEndAmong (s .dimensions) (s .directions) x) (sym left-is)
 
-  -- the rows with one more quote
+  -- the rows of the quotes with one more are the book model's step of the rows before
   pub rows-after-quote : rowsOf (withQuote s x) ≡ rowsAfter (s .dimensions) (s .directions) (s .capacity) (newest s) x (rowsOf s)
   unfolding L rowsOf withQuote rowsAfter between
   rows-after-quote =

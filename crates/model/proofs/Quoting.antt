@@ -11,7 +11,6 @@ use lib.Dec.{ltb, leb, eqb}
 use lib.ListN.{length}
 use borrow.Author.Tests.{lt-ltb, leb-false, eqb-true, not-false}
 use Rattle.lists.specs.Lists.{flat, rising, laid}
-use Rattle.lists.proofs.Booleans.{none-left}
 use Rattle.lists.proofs.Members.{map-same-mem}
 use Rattle.lists.proofs.Rising.{rising-bounds}
 use Rattle.head.specs.declared.Answer.{Answer}
@@ -24,12 +23,12 @@ use Rattle.head.proofs.Answers.{accepted-passed, first-alike}
 use Rattle.model.specs.Rows.{filled}
 use Rattle.model.specs.Changes.{changes, allChanges, frames}
 use Rattle.model.specs.Reference.{Reference, quoteAt, newest, skylineOf, rowsOf, headOf, opened, withQuote, tells, referenceStep}
-use Rattle.model.specs.Book.{shortTables, shortLoan, bookRows, listOf, replyOf, quoteRows, quoteHead, quoteBytes, quoteAnswer, quoteReply, quoteTables, quoteOut}
+use Rattle.model.specs.Book.{shortLoan, bookRows, listOf, replyOf, quoteRows, quoteHead, quoteBytes, quoteAnswer, quoteReply, quoteTables, quoteOut}
 use Rattle.model.specs.Calls.{Quote, Lent, bookStep, deskStep, fed, outputOf, shown}
 use Rattle.model.proofs.Quotes.{newest-after, quote-within, quote-new, rows-after-quote}
 use Rattle.model.proofs.Tables.{filled-again, filled-long}
 use Rattle.model.proofs.Sound.{Wide, rows-few, rows-wide}
-use Rattle.model.proofs.Joined.{Faithful, Agree, desk, world, list-is, joined, some-capacity, shown-opened, shown-still, rows-read, watches-read, skyline-read, judged-watchful}
+use Rattle.model.proofs.Joined.{Faithful, Agree, referenceWith, bookWith, long-tables, list-is, joined, some-capacity, shown-opened, shown-still, rows-read, watches-read, skyline-read, judged-watchful}
 
 -- watches whose lists before and after are equal have equal changes
 changes-alike : (watched : List ℕ) (before before' after after' : ℕ → List ℕ) (N : ℕ) → rising 1 N watched ≡ true
@@ -41,6 +40,7 @@ changes-alike watched before before' after after' N risen b a =
     (λ n m. let r = rising-bounds 1 N n watched risen m in ap₂ (changes n) (b n (r .0) (r .1)) (a n (r .0) (r .1))))
 
 module _ (s : Reference) (l : Lent) (f : Faithful s l) (x : List ℕ) where
+  -- the reference model with the quote
   abbrev s' : Reference
   s' = withQuote s x
 
@@ -56,6 +56,7 @@ module _ (s : Reference) (l : Lent) (f : Faithful s l) (x : List ℕ) where
       go (yes u) = rw (quote-within (s .quotes) (x ∷ []) p h u) (f .wide p h u)
       go (no u) = let z : p ≡ suc (newest s) = omega (arith, newest-after s x some) in rw (z, quote-new s x some) e
 
+  -- the book model's rows and head after the quote are the reference model's
   rows-are : quoteRows (headOf s) x (l .tables) (l .watches) ≡ rowsOf s'
   unfolding quoteRows headOf
   rows-are = rw (rows-read s l f) (sym (rows-after-quote s x (some-capacity s l f)))
@@ -72,6 +73,7 @@ module _ (s : Reference) (l : Lent) (f : Faithful s l) (x : List ℕ) where
   unfolding withQuote
   list-after n u v = list-is s' n u v
 
+  -- the book model writes the same
   bytes-are : newest s < lastPosition → quoteBytes (headOf s) x (l .tables) (l .watches) ≡ written
   unfolding quoteBytes
   bytes-are h =
@@ -81,25 +83,26 @@ module _ (s : Reference) (l : Lent) (f : Faithful s l) (x : List ℕ) where
 
   -- ---- what is left
 
-  -- what is lent, with the rows after the quote
+  -- what is lent, with the book model's rows after the quote
   abbrev relent : Lent
-  relent = record { tables = filled (s .dimensions) (s .capacity) (rowsOf s') (l .tables); watches = l .watches }
+  relent = record { tables = filled (s .dimensions) (s .capacity) (quoteRows (headOf s) x (l .tables) (l .watches)) (l .tables); watches = l .watches }
 
   shown-after : shown s' l ≡ relent
   unfolding withQuote opened
-  shown-after = shown-opened s' l (f .settings) ∙ rw (f .records)
+  shown-after = shown-opened s' l (f .settings) ∙ rw (f .records, rows-are)
 
   module _ (wide : length x ≡ s .dimensions) (room : newest s < lastPosition) where
+    -- an accepted quote leaves what is lent faithful
     faithful : Faithful s' relent
     unfolding withQuote opened shortLoan
     faithful =
         let few = rows-few s' (some-capacity s l f) in
         let fit = rows-wide s' (wide-after wide) in
-        record {
+        rw rows-are record {
           settings = f .settings;
           wide = wide-after wide;
           within = omega (arith, newest-after s x (some-capacity s l f));
-          long = rw (filled-long (s .dimensions) (s .capacity) (rowsOf s') (l .tables) few fit (none-left (shortTables (l .tables) (s .dimensions) (s .capacity)) (ltb (length (l .watches)) 8) (f .long)) (s .dimensions) (s .capacity)) (f .long);
+          long = rw (filled-long (s .dimensions) (s .capacity) (rowsOf s') (l .tables) few fit (long-tables (l .tables) (l .watches) (s .dimensions) (s .capacity) (f .long)) (s .dimensions) (s .capacity)) (f .long);
           tables = filled-again (s .dimensions) (s .capacity) (rowsOf s') (l .tables) few fit (rowsOf s');
           records = f .records;
           risen = f .risen;
@@ -116,9 +119,11 @@ module _ (s : Reference) (l : Lent) (f : Faithful s l) (x : List ℕ) where
     abbrev more : List ℕ → List (Bool × Refusal)
     more bytes = (leb lastPosition (newest s), TapeFull) ∷ short bytes
 
+    -- the reference model's answer
     abbrev answer : Answer
     answer = first ((not (opened s), Settings) ∷ (not (eqb (length x) (s .dimensions)), ColumnCount) ∷ more written)
 
+    -- the book model's answer is the same
     answers : quoteAnswer (headOf s) x (l .tables) (l .watches) (length out) ≡ answer
     unfolding quoteAnswer headOf
     answers =
@@ -129,14 +134,15 @@ module _ (s : Reference) (l : Lent) (f : Faithful s l) (x : List ℕ) where
         bytes : List ℕ
         bytes = quoteBytes (headOf s) x (l .tables) (l .watches)
 
-    pub quotes : Agree (Quote x out) (desk s l) (world s l)
+    -- the quote is seen alike
+    pub quotes : Agree (Quote x out) (referenceWith s l) (bookWith s l)
     unfolding bookStep deskStep referenceStep tells fed outputOf quoteReply quoteTables quoteOut replyOf settled laid headOf
     quotes = go answer refl
       where
-        go : (a : Answer) → answer ≡ a → Agree (Quote x out) (desk s l) (world s l)
+        go : (a : Answer) → answer ≡ a → Agree (Quote x out) (referenceWith s l) (bookWith s l)
         go Accepted e =
             let a = accepted-passed _ _ _ (accepted-passed _ _ _ e .1) in
             let wide = eqb-true (length x) (s .dimensions) (not-false (eqb (length x) (s .dimensions)) (a .0)) in
             let room = leb-false lastPosition (newest s) (accepted-passed _ _ _ (a .1) .0) in
-            rw (answers, e, bytes-are room, head-is room, rows-are, shown-after) (refl, record { head = refl; lent = refl; since = inr (faithful wide room) })
+            rw (answers, e, bytes-are room, head-is room, shown-after) (refl, record { head = refl; lent = refl; since = inr (faithful wide room) })
         go (Refused k) e = rw (answers, e, shown-still s l f) (refl, joined s l f)

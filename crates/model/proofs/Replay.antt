@@ -11,13 +11,13 @@ use Rattle.model.specs.Reference.{Reference, unopened, headOf, opened, t
 use Rattle.model.specs.Book.{answerOf, watchfulAnswer, replyOf, quoteAnswer, quoteReply, quoteTables, quoteOut, lookAnswer, lookReply, lookOut, watchAnswer, watchReply, watchWatches, watchOut, endAnswer, endReply, endWatches}
 use Rattle.model.specs.Calls.{Call, Open, Quote, Look, Watch, End, Lent, Seen, World, bookStep, fed, outputOf, shown, Desk, deskStep, runs}
 use Rattle.model.proofs.Sound.{rows-none}
-use Rattle.model.proofs.Joined.{Faithful, Joined, Agree, desk, world}
+use Rattle.model.proofs.Joined.{Faithful, Joined, Agree, referenceWith, bookWith}
 use Rattle.model.proofs.Opening.{opens}
 use Rattle.model.proofs.Quoting.{quotes}
 use Rattle.model.proofs.Watching.{looks, watches, ends}
 
 -- before the first accepted opening every call but an opening is refused by both models
-unopened-agrees : (c : Call) (l : Lent) → Agree c (desk unopened l) (world unopened l)
+unopened-agrees : (c : Call) (l : Lent) → Agree c (referenceWith unopened l) (bookWith unopened l)
 unfolding bookStep deskStep referenceStep tells fed outputOf laid shown opened settingsHold headOf first settled answerOf watchfulAnswer replyOf quoteAnswer quoteReply quoteTables quoteOut lookAnswer lookReply lookOut watchAnswer watchReply watchWatches watchOut endAnswer endReply endWatches
 unopened-agrees (Open d N directions) l = opens d N directions l unopened (inl refl)
 unopened-agrees (Quote x out) l = (refl, record { head = refl; lent = refl; since = inl refl })
@@ -25,7 +25,7 @@ unopened-agrees (Look n out) l = (refl, record { head = refl; lent = refl; since
 unopened-agrees (Watch n out) l = (refl, record { head = refl; lent = refl; since = inl refl })
 unopened-agrees (End n) l = (refl, record { head = refl; lent = refl; since = inl refl })
 
-faithful-agrees : (c : Call) (s : Reference) (l : Lent) → Faithful s l → Agree c (desk s l) (world s l)
+faithful-agrees : (c : Call) (s : Reference) (l : Lent) → Faithful s l → Agree c (referenceWith s l) (bookWith s l)
 faithful-agrees (Open d N directions) s l f = opens d N directions l s (inr f)
 faithful-agrees (Quote x out) s l f = quotes s l f x out
 faithful-agrees (Look n out) s l f = looks s l f n out
@@ -36,10 +36,10 @@ faithful-agrees (End n) s l f = ends s l f n
 pub call-agrees : (c : Call) (k : Desk) (w : World) → Joined k w → Agree c k w
 call-agrees c k w j = rw same (go (k .reference) (j .since))
   where
-    same : w ≡ world (k .reference) (k .lent)
+    same : w ≡ bookWith (k .reference) (k .lent)
     same = ap₂ (λ (h : Head) (l : Lent). let v : World = record { head = h; lent = l } in v) (j .head) (j .lent)
 
-    go : (s : Reference) → (s ≡ unopened) ⊎ Faithful s (k .lent) → Agree c (desk s (k .lent)) (world s (k .lent))
+    go : (s : Reference) → (s ≡ unopened) ⊎ Faithful s (k .lent) → Agree c (referenceWith s (k .lent)) (bookWith s (k .lent))
     go s (inl e) = rw e (unopened-agrees c (k .lent))
     go s (inr f) = faithful-agrees c s (k .lent) f
 
@@ -56,15 +56,15 @@ run-agrees (c ∷ cs) k w j =
 abbrev atFirst : Lent → World
 atFirst l = record { head = freshHead 0 0 0; lent = l }
 
-start : (l : Lent) → Joined (desk unopened l) (atFirst l)
+start : (l : Lent) → Joined (referenceWith unopened l) (atFirst l)
 unfolding headOf
 start l = record { head = rw (rows-none unopened refl); lent = refl; since = inl refl }
 
 -- over every list of calls both models show the same
 pub replay : (cs : List Call) (l : Lent) → runs bookStep cs (record { head = freshHead 0 0 0; lent = l }) .0 ≡ runs deskStep cs (record { reference = unopened; lent = l }) .0
-replay cs l = run-agrees cs (desk unopened l) (atFirst l) (start l) .0
+replay cs l = run-agrees cs (referenceWith unopened l) (atFirst l) (start l) .0
 
 -- and stand joined at the end
 pub replay-ends : (cs : List Call) (l : Lent)
     → Joined (runs deskStep cs (record { reference = unopened; lent = l }) .1) (runs bookStep cs (record { head = freshHead 0 0 0; lent = l }) .1)
-replay-ends cs l = run-agrees cs (desk unopened l) (atFirst l) (start l) .1
+replay-ends cs l = run-agrees cs (referenceWith unopened l) (atFirst l) (start l) .1

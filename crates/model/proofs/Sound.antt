@@ -13,12 +13,12 @@ use Rattle.lists.specs.Lists.{filter, any, lastOr, run, between, rising, padded
 use Rattle.lists.proofs.Booleans.{and-false}
 use Rattle.lists.proofs.Filters.{filter-append, length-filter, last-snoc, map-map, map-id}
 use Rattle.lists.proofs.Members.{of-map}
-use Rattle.lists.proofs.Runs.{length-run, between-snoc, any-run}
+use Rattle.lists.proofs.Runs.{length-run, any-run}
 use Rattle.lists.proofs.Rising.{rising-cons, rising-between, rising-filter}
 use Rattle.lists.proofs.Writing.{take-padded}
 use Rattle.skyline.specs.Skyline.{windowStart, undominated, rows, lowerEnd}
 use Rattle.skyline.proofs.Stabbing.{Lower, unbounded, bounded}
-use Rattle.skyline.proofs.Steps
+use Rattle.skyline.proofs.Steps.{stays, rows-step}
 use Rattle.skyline.proofs.Listed.{of-rows}
 use Rattle.head.specs.Heads.{lastPosition}
 use Rattle.model.specs.Rows.{Row}
@@ -28,23 +28,22 @@ use Rattle.model.proofs.Quotes.{at-irreflexive, at-transitive, row-lowe
 use Rattle.model.proofs.Tables.{Fit}
 
 module _ (dom : ℕ → ℕ → Bool) (N : ℕ) where
+  -- a window of N has at most N rows
   few : (M : ℕ) → 1 ≤ N → length (rows dom (windowStart M N) M) ≤ N
   unfolding rows between windowStart
   few M h = omega (arith, length-filter (undominated dom M) (between (windowStart M N) M), length-run (windowStart M N) (suc M - windowStart M N))
 
+  -- an empty tape has none
   none : rows dom (windowStart 0 N) 0 ≡ []
   unfolding rows between windowStart filter run
   none = let e : 1 - windowStart 0 N ≡ 0 = omega arith in rw e
 
   -- the newest position has the last row
   some : (M : ℕ) → 1 ≤ N → (l : List ℕ) × (rows dom (windowStart (suc M) N) (suc M) ≡ l ++ (suc M ∷ []))
-  unfolding rows filter windowStart
-  some M h = (
-    filter (undominated dom (suc M)) (between (windowStart (suc M) N) M),
-    rw (between-snoc (windowStart (suc M) N) M (omega arith))
-        (filter-append (undominated dom (suc M)) (between (windowStart (suc M) N) M) (suc M ∷ []) ∙ rw (Steps.newest dom (suc M))),
-  )
+  unfolding windowStart
+  some M h = let S = windowStart (suc M) N in (filter (stays dom S (suc M)) (rows dom S M), rows-step dom S S M (le-refl S) (omega arith))
 
+  -- the last of the rows is the newest position, or 0
   last : (M : ℕ) → 1 ≤ N → lastOr 0 (rows dom (windowStart M N) M) ≡ M
   unfolding lastOr
   last zero h = rw none
@@ -59,6 +58,7 @@ module _ (dom : ℕ → ℕ → Bool) (N : ℕ) where
       rw (t .1, z, ne-eqb (suc (length (t .0))) 0 (λ e. omega arith), ne-eqb (suc M) 0 (λ e. omega arith)) (and-false (ltb 0 (suc (length (t .0)))))
 
 module _ (s : Reference) where
+  -- the first position of the window of N
   abbrev S : ℕ
   S = windowStart (newest s) (s .capacity)
 
@@ -67,7 +67,8 @@ module _ (s : Reference) where
   unfolding rowsOf rowOf
   positions-are = rw (map-map, map-id)
 
-  pub rows-counted : length (rowsOf s) ≡ length (rows (over s) S (newest s))
+  -- as many rows as positions
+  rows-counted : length (rowsOf s) ≡ length (rows (over s) S (newest s))
   unfolding rowsOf
   rows-counted = length-map (rows (over s) S (newest s)) (rowOf s)
 
@@ -93,6 +94,7 @@ module _ (s : Reference) where
     pub rows-few : length (rowsOf s) ≤ s .capacity
     rows-few = rw rows-counted (few (over s) (s .capacity) (newest s) hN)
 
+    -- the lower end of a row is below its position
     lower-below : (p : ℕ) → S ≤ p → p < S + (suc (newest s) - S) → undominated (over s) (newest s) p ≡ true → not (ltb (rowOf s p .lowerEnd) (rowOf s p .position)) ≡ false
     unfolding rowOf windowStart
     lower-below p u v t =

@@ -27,6 +27,7 @@ begun rs t = record {
   lowerEnds = map Row.lowerEnd rs ++ t .lowerEnds;
 }
 
+-- a run from one further on
 run-shift : {A : Type 0} (f : ℕ → A) (a k : ℕ) → map f (run (suc a) k) ≡ map (λ i. f (suc i)) (run a k)
 unfolding run
 run-shift f a zero = refl
@@ -40,6 +41,7 @@ module _ (d : ℕ) where
       ap (λ (c : List ℕ). record { position = getD (begun rs t .positions) i 0; lowerEnd = getD (begun rs t .lowerEnds) i 0; columns = take d c })
       (rw (append-assoc, suc-mul, add-comm, ← h) (drop-append-add (r .columns) (flat (map Row.columns rs) ++ t .columns) (i * length (r .columns))))
 
+  -- the first row of the tables
   first-row : (r : Row) (rs : List Row) (t : Tables) → length (r .columns) ≡ d → rowAt d (begun (r ∷ rs) t) 0 ≡ r
   unfolding rowAt flat
   first-row r rs t h =
@@ -57,8 +59,13 @@ module _ (d : ℕ) where
       ∙ map-same-mem (λ i. rowAt d (begun (r ∷ rs) t) (suc i)) (rowAt d (begun rs t)) (run 0 (length rs)) (λ i m. next-row r rs t i h)
       ∙ begun-read rs t (λ q m. fit q (List·Memᴰ·tail m)))
 
+<<<<<<< HEAD
   -- rows of d columns fill d cells each
   pub cells-counted : (rs : List Row) → Fit d rs → length (flat (map Row.columns rs)) ≡ length rs * d
+=======
+  -- d cells a row
+  cells-counted : (rs : List Row) → Fit d rs → length (flat (map Row.columns rs)) ≡ length rs * d
+>>>>>>> replay
   unfolding flat
   cells-counted [] fit = sym (zero-mul d)
   cells-counted (r ∷ rs) fit =

@@ -7,9 +7,8 @@ use mathlib.Core.Bool.{Bool, true, false, not}
 use mathlib.Core.List.{List, [], _∷_, map}
 use lib.Dec.{ltb, leb, eqb}
 use lib.ListN.{length}
-use borrow.Author.Tests.{ltb-false, leb-false}
+use borrow.Author.Tests.{leb-false}
 use Rattle.lists.specs.Lists.{contains, rising, insert, without, laid, padded}
-use Rattle.lists.proofs.Booleans.{none-right}
 use Rattle.lists.proofs.Filters.{length-filter}
 use Rattle.lists.proofs.Rising.{rising-filter, length-insert, rising-insert}
 use Rattle.lists.proofs.Writing.{length-padded, padded-again}
@@ -22,12 +21,12 @@ use Rattle.head.proofs.Answers.{accepted-passed, first-alike}
 use Rattle.frames.specs.declared.Message.the-variants.{Join}
 use Rattle.model.specs.Changes.{frames}
 use Rattle.model.specs.Reference.{Reference, skylineOf, rowOf, rowsOf, headOf, opened, outside, withWatched, tells, referenceStep}
-use Rattle.model.specs.Book.{shortTables, shortLoan, bookRows, listOf, replyOf, outOfRange, lookCells, lookAnswer, lookReply, lookOut, watchBytes, watchAnswer, watchReply, watchWatches, watchOut, endAnswer, endReply, endWatches}
+use Rattle.model.specs.Book.{shortLoan, bookRows, listOf, replyOf, outOfRange, lookCells, lookAnswer, lookReply, lookOut, watchBytes, watchAnswer, watchReply, watchWatches, watchOut, endAnswer, endReply, endWatches}
 use Rattle.model.specs.Calls.{Look, Watch, End, Lent, bookStep, deskStep, fed, outputOf, shown}
-use Rattle.model.proofs.Joined.{Faithful, Joined, Agree, desk, world, in-range, joined, shown-opened, shown-still, watches-read, skyline-read, judged, judged-watchful}
+use Rattle.model.proofs.Joined.{Faithful, Joined, Agree, referenceWith, bookWith, long-records, in-range, joined, shown-opened, shown-still, watches-read, skyline-read, judged, judged-watchful}
 
 -- the watches are no part of the head
-pub head-rewatched : (s : Reference) (ns : List ℕ) → headOf (withWatched s ns) ≡ headOf s
+head-rewatched : (s : Reference) (ns : List ℕ) → headOf (withWatched s ns) ≡ headOf s
 unfolding headOf withWatched rowsOf rowOf
 head-rewatched s ns = refl
 
@@ -42,6 +41,7 @@ module _ (s : Reference) (l : Lent) (f : Faithful s l) (n : ℕ) where
   -- ---- look
 
   module _ (out : List ℕ) where
+    -- the reference model's answer
     abbrev look-answer : Answer
     look-answer = first ((not (opened s), Settings) ∷ (outside s n, WindowSize) ∷ short out (skylineOf s n))
 
@@ -55,11 +55,12 @@ module _ (s : Reference) (l : Lent) (f : Faithful s l) (n : ℕ) where
         judged s l f ((outside s n, WindowSize) ∷ short out (lookCells (headOf s) n (l .tables))) ((outside s n, WindowSize) ∷ short out (skylineOf s n))
         (first-alike (outside s n) WindowSize (short out (lookCells (headOf s) n (l .tables))) (short out (skylineOf s n)) (λ e. ap (λ (c : List ℕ). first (short out c)) (look-cells e)))
 
-    pub looks : Agree (Look n out) (desk s l) (world s l)
+    -- the look is seen alike
+    pub looks : Agree (Look n out) (referenceWith s l) (bookWith s l)
     unfolding bookStep deskStep referenceStep tells fed outputOf lookReply lookOut replyOf settled laid
     looks = go look-answer refl
       where
-        go : (a : Answer) → look-answer ≡ a → Agree (Look n out) (desk s l) (world s l)
+        go : (a : Answer) → look-answer ≡ a → Agree (Look n out) (referenceWith s l) (bookWith s l)
         go Accepted e = rw (look-answers, e, look-cells (accepted-passed _ _ _ (accepted-passed _ _ _ e .1) .0), shown-still s l f) (refl, joined s l f)
         go (Refused k) e = rw (look-answers, e, shown-still s l f) (refl, joined s l f)
 
@@ -70,13 +71,14 @@ module _ (s : Reference) (l : Lent) (f : Faithful s l) (n : ℕ) where
     abbrev relent : Lent
     relent = record { tables = l .tables; watches = padded 8 ns (l .watches) }
 
+    -- other watches leave what is lent faithful
     rewatched : Faithful (withWatched s ns) relent
     unfolding withWatched opened rowsOf rowOf shortLoan
     rewatched = record {
       settings = f .settings;
       wide = f .wide;
       within = f .within;
-      long = rw (length-padded 8 ns (l .watches) few (ltb-false (length (l .watches)) 8 (none-right (shortTables (l .tables) (s .dimensions) (s .capacity)) (ltb (length (l .watches)) 8) (f .long)))) (f .long);
+      long = rw (length-padded 8 ns (l .watches) few (long-records (l .tables) (l .watches) (s .dimensions) (s .capacity) (f .long))) (f .long);
       tables = f .tables;
       records = padded-again 8 ns ns (l .watches) few;
       risen = risen;
@@ -87,7 +89,7 @@ module _ (s : Reference) (l : Lent) (f : Faithful s l) (n : ℕ) where
     unfolding withWatched opened rowsOf rowOf
     shown-rewatched = shown-opened (withWatched s ns) l (f .settings) ∙ rw (f .tables)
 
-    joined-rewatched : Joined (desk (withWatched s ns) relent) (world s relent)
+    joined-rewatched : Joined (referenceWith (withWatched s ns) relent) (bookWith s relent)
     joined-rewatched = record { head = sym (head-rewatched s ns); lent = refl; since = inr rewatched }
 
   -- ---- watch
@@ -97,6 +99,7 @@ module _ (s : Reference) (l : Lent) (f : Faithful s l) (n : ℕ) where
     abbrev joins : List ℕ
     joins = frames (map (Join n) (skylineOf s n))
 
+    -- the reference model's answer
     abbrev watch-answer : Answer
     watch-answer =
         first ((not (opened s), Settings) ∷ (outside s n, WindowSize) ∷ (contains n (s .watched), AlreadyWatched) ∷ (leb 8 (length (s .watched)), NoFreeRecord)
@@ -119,11 +122,12 @@ module _ (s : Reference) (l : Lent) (f : Faithful s l) (n : ℕ) where
         more : List ℕ → List (Bool × Refusal)
         more written = (contains n (s .watched), AlreadyWatched) ∷ (leb 8 (length (s .watched)), NoFreeRecord) ∷ short out written
 
-    pub watches : Agree (Watch n out) (desk s l) (world s l)
+    -- the watch is seen alike
+    pub watches : Agree (Watch n out) (referenceWith s l) (bookWith s l)
     unfolding bookStep deskStep referenceStep tells fed outputOf watchReply watchWatches watchOut replyOf settled laid
     watches = go watch-answer refl
       where
-        go : (a : Answer) → watch-answer ≡ a → Agree (Watch n out) (desk s l) (world s l)
+        go : (a : Answer) → watch-answer ≡ a → Agree (Watch n out) (referenceWith s l) (bookWith s l)
         go Accepted e =
             let a = accepted-passed _ _ _ (accepted-passed _ _ _ e .1) in
             let r = in-range s n (a .0) in
@@ -137,6 +141,7 @@ module _ (s : Reference) (l : Lent) (f : Faithful s l) (n : ℕ) where
 
   -- ---- end
 
+  -- the reference model's answer
   abbrev end-answer : Answer
   end-answer = first ((not (opened s), Settings) ∷ (outside s n, WindowSize) ∷ (not (contains n (s .watched)), NotWatched) ∷ [])
 
@@ -144,7 +149,8 @@ module _ (s : Reference) (l : Lent) (f : Faithful s l) (n : ℕ) where
   unfolding endAnswer outOfRange headOf outside
   end-answers = rw (watches-read s l f) (judged-watchful s l f ((outside s n, WindowSize) ∷ (not (contains n (s .watched)), NotWatched) ∷ []) _ refl)
 
-  pub ends : Agree (End n) (desk s l) (world s l)
+  -- the end of a watch is seen alike
+  pub ends : Agree (End n) (referenceWith s l) (bookWith s l)
   unfolding bookStep deskStep referenceStep tells fed outputOf endReply endWatches replyOf settled laid without
   ends = go end-answer refl
     where
@@ -157,6 +163,6 @@ module _ (s : Reference) (l : Lent) (f : Faithful s l) (n : ℕ) where
       risen : rising 1 (s .capacity) ns ≡ true
       risen = rising-filter (λ m. not (eqb n m)) 1 (s .capacity) (s .watched) (f .risen)
 
-      go : (a : Answer) → end-answer ≡ a → Agree (End n) (desk s l) (world s l)
+      go : (a : Answer) → end-answer ≡ a → Agree (End n) (referenceWith s l) (bookWith s l)
       go Accepted e = rw (end-answers, e, watches-read s l f, shown-rewatched ns few risen, head-rewatched s ns) (refl, joined-rewatched ns few risen)
       go (Refused k) e = rw (end-answers, e, shown-still s l f) (refl, joined s l f)
