@@ -59,13 +59,8 @@ module _ (d : ℕ) where
       ∙ map-same-mem (λ i. rowAt d (begun (r ∷ rs) t) (suc i)) (rowAt d (begun rs t)) (run 0 (length rs)) (λ i m. next-row r rs t i h)
       ∙ begun-read rs t (λ q m. fit q (List·Memᴰ·tail m)))
 
-<<<<<<< HEAD
   -- rows of d columns fill d cells each
   pub cells-counted : (rs : List Row) → Fit d rs → length (flat (map Row.columns rs)) ≡ length rs * d
-=======
-  -- d cells a row
-  cells-counted : (rs : List Row) → Fit d rs → length (flat (map Row.columns rs)) ≡ length rs * d
->>>>>>> replay
   unfolding flat
   cells-counted [] fit = sym (zero-mul d)
   cells-counted (r ∷ rs) fit =
