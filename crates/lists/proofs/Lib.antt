@@ -7,3 +7,4 @@ pub mod Cells
 pub mod Rising
 pub mod Writing
 pub mod Laying
+pub mod Growing

@@ -1,0 +1,5 @@
+-- The laws of the crate: the invariants of its passes over the eight watches.
+pub mod Counting
+pub mod Judging
+pub mod Inserting
+pub mod Removing

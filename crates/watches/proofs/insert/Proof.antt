@@ -1,0 +1,67 @@
+-- `insert` meets its contract.
+use Prim.Native.Nat.{_-_}
+use native.Mathlib.Omega.{arith}
+use borrow.Author.Needs.{needs}
+use Rattle.watches.proofs.Inserting.{goesHere, Inserting, start, more, finish}
+use Rattle.watches.proofs.insert.Statement.{statement}
+use Rattle.watches.proofs.insert.Tie as tie
+
+abbrev Inv-loop : tie.InvT-loop
+Inv-loop n watches after₀ carried₀ i₀ after carried i = Inserting watches n after carried i
+
+abbrev μ-loop : tie.MeasureT-loop
+μ-loop n watches after₀ carried₀ i₀ after carried i = 8 - i
+
+loop-holds : tie.Need-loop-holds Inv-loop μ-loop
+loop-holds c = start _ _ (omega arith)
+
+mul-watch : tie.Need-mul-watch Inv-loop μ-loop
+mul-watch c = omega arith
+
+array-read-watch : tie.Need-array-read-watch Inv-loop μ-loop
+array-read-watch c = omega arith
+
+choose-requires : tie.Need-choose-requires Inv-loop μ-loop
+choose-requires c κs = search needs
+
+mul-after : tie.Need-mul-after Inv-loop μ-loop
+mul-after c = omega arith
+
+array-write-after : tie.Need-array-write-after Inv-loop μ-loop
+array-write-after c = omega arith
+
+choose-requires-2 : tie.Need-choose-requires-2 Inv-loop μ-loop
+choose-requires-2 c κs = search needs
+
+add-i : tie.Need-add-i Inv-loop μ-loop
+add-i c = omega arith
+
+loop-less : tie.Need-loop-less Inv-loop μ-loop
+loop-less c = omega arith
+
+loop-again : tie.Need-loop-again Inv-loop μ-loop
+unfolding goesHere
+loop-again c = rw (c .before .choose .ensures, c .choose2 .ensures) (more _ _ _ _ _ (c .before .before .before .loop .inv) (c .before .before .loop-test .taken))
+
+returns : tie.Need-returns Inv-loop μ-loop
+returns c =
+    let p = c .before .before .pre in
+    finish _ _ _ _ _ (c .before .loop .inv) (p .0 .0) (c .loop-test .left) (p .0 .1) (p .1)
+
+pub insert-spec : {M : Type 1} → statement M
+insert-spec =
+    tie.close
+    (tie.spec
+    Inv-loop
+    μ-loop
+    loop-holds
+    mul-watch
+    array-read-watch
+    choose-requires
+    mul-after
+    array-write-after
+    choose-requires-2
+    add-i
+    loop-less
+    loop-again
+    returns)

@@ -1,0 +1,98 @@
+// The eight watches of a book as numbers: the standing ones counted, sought, judged, inserted and removed.
+ghost use mathlib.Core.Path.{_≡_};
+ghost use mathlib.Core.Bool.{false, cond};
+ghost use Prim.Native.Nat.{ℕ, _<_};
+ghost use lib.ListN.{length};
+ghost use Rattle.lists.specs.Lists.{contains, insert, without, padded};
+ghost use Rattle.model.specs.Book.{standing, tornWatches};
+
+// How many watches stand.
+pub fn standing_count(watches: [u32; 8]) -> usize
+    ensures { λ r. ⌜ r ≡ length (standing watches) ⌝ }
+{
+    let mut count: usize = 0;
+    let mut seen: usize = 0;
+    while seen < 8 {
+        let watch = watches[seen];
+        seen += 1;
+        if 0 < watch {
+            count += 1;
+        }
+    }
+    count
+}
+
+// Whether n is watched.
+pub fn find(watches: [u32; 8], n: u32) -> bool
+    ensures { λ r. ⌜ r ≡ contains n (standing watches) ⌝ }
+{
+    let mut found = false;
+    let mut i: usize = 0;
+    while i < 8 {
+        found = found | (n == watches[i]);
+        i += 1;
+    }
+    found & (0 < n)
+}
+
+// Whether the watches do not rise, do not end in empties, or go above the capacity.
+pub fn torn(capacity: u32, watches: [u32; 8]) -> bool
+    ensures { λ r. ⌜ r ≡ tornWatches capacity watches ⌝ }
+{
+    let mut torn = false;
+    let mut ended = false;
+    let mut last: u32 = 0;
+    let mut i: usize = 0;
+    while i < 8 {
+        let watch = watches[i];
+        torn = torn | ((0 < watch) & (ended | (watch <= last) | (capacity < watch)));
+        ended = ended | (watch == 0);
+        last = watch;
+        i += 1;
+    }
+    torn
+}
+
+// The first number where the test passed, else the second.
+fn choose(test: bool, first: u32, second: u32) -> u32
+    ensures { λ r. ⌜ r ≡ cond test first second ⌝ }
+{
+    if test { first } else { second }
+}
+
+// The watches with n put into its place: from there on each moves up by one.
+pub fn insert(watches: [u32; 8], n: u32) -> [u32; 8]
+    requires untorn { ⌜ ((N : ℕ) × (tornWatches N watches ≡ false)) ⌝ }
+    requires free { ⌜ length (standing watches) < 8 ⌝ }
+    ensures { λ r. ⌜ r ≡ padded 8 (insert n (standing watches)) watches ⌝ }
+{
+    let mut after = [0u32; 8];
+    let mut carried = n;
+    let mut i: usize = 0;
+    while i < 8 {
+        let watch = watches[i];
+        let here = (watch == 0) | (carried < watch);
+        after[i] = choose(here, carried, watch);
+        carried = choose(here, watch, carried);
+        i += 1;
+    }
+    after
+}
+
+// The watches without n, with no gap, and empties behind them.
+pub fn remove(watches: [u32; 8], n: u32) -> [u32; 8]
+    ensures { λ r. ⌜ r ≡ padded 8 (without n (standing watches)) watches ⌝ }
+{
+    let mut kept = [0u32; 8];
+    let mut count: usize = 0;
+    let mut i: usize = 0;
+    while i < 8 {
+        let watch = watches[i];
+        i += 1;
+        if (0 < watch) & (n != watch) {
+            kept[count] = watch;
+            count += 1;
+        }
+    }
+    kept
+}
