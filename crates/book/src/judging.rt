@@ -1,16 +1,18 @@
 // The judgements that the calls begin with: settings, lengths, torn.
 ghost use mathlib.Core.Path.{_≡_};
 ghost use Prim.Native.Nat.{_≤_};
-ghost use mathlib.Core.List.{[]};
-ghost use Rattle.model.specs.Book.{shortTables, answerOf};
+ghost use mathlib.Core.List.{[], _∷_};
+ghost use Rattle.head.specs.Refusals.{first, settled};
+ghost use Rattle.model.specs.Book.{shortTables, answerOf, watchfulAnswer, outOfRange};
 ghost use Rattle.book.specs.Left.{tables};
 use head::Answer;
 use head::Head;
 use head::Refusal;
 use rows::torn_rows;
+use watches::torn;
 
 // Whether a table is shorter than the settings ask.
-fn short_tables(d: u32, capacity: u32, columns: &[u32], positions: &[u32], lower_ends: &[u32]) -> bool
+pub fn short_tables(d: u32, capacity: u32, columns: &[u32], positions: &[u32], lower_ends: &[u32]) -> bool
     requires { ⌜ d ≤ 6 ⌝ }
     requires { ⌜ capacity ≤ 1024 ⌝ }
     ensures { λ r. ⌜ r ≡ shortTables (tables (now (columns .entry)) (now (positions .entry)) (now («lower_ends» .entry))) d capacity ⌝ }
@@ -18,6 +20,29 @@ fn short_tables(d: u32, capacity: u32, columns: &[u32], positions: &[u32], lower
     let n = capacity as usize;
     let cells = n * (d as usize);
     (columns.len() < cells) | (positions.len() < n) | (lower_ends.len() < n)
+}
+
+// Whether n is 0 or above the capacity.
+pub fn out_of_range(head: Head, n: u32) -> bool
+    ensures { λ r. ⌜ r ≡ outOfRange head n ⌝ }
+{
+    !((1 <= n) & (n <= head.capacity))
+}
+
+// An answer with one more test behind it: an acceptance becomes this refusal if the test holds.
+pub fn with_test(answer: Answer, test: bool, refusal: Refusal) -> Answer
+    ensures { λ r. ⌜ r ≡ settled answer (first ((test, refusal) ∷ [])) answer ⌝ }
+{
+    match answer {
+        Answer::Accepted => {}
+        Answer::Refused(_) => {
+            return answer;
+        }
+    }
+    if test {
+        return Answer::Refused(refusal);
+    }
+    answer
 }
 
 // The answer of a call on the tables alone, before what the call adds: 3, 11, 12.
@@ -34,4 +59,11 @@ pub fn judge(head: Head, columns: &[u32], positions: &[u32], lower_ends: &[u32])
         return Answer::Refused(Refusal::Torn);
     }
     Answer::Accepted
+}
+
+// The answer of a call on the tables and the watches, before what the call adds: 3, 11, 12.
+pub fn judge_watchful(head: Head, columns: &[u32], positions: &[u32], lower_ends: &[u32], watches: [u32; 8]) -> Answer
+    ensures { λ r. ⌜ r ≡ watchfulAnswer head (tables (now (columns .entry)) (now (positions .entry)) (now («lower_ends» .entry))) watches [] ⌝ }
+{
+    with_test(judge(head, columns, positions, lower_ends), torn(head.capacity, watches), Refusal::Torn)
 }
