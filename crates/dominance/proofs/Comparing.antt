@@ -1,15 +1,15 @@
 -- A turn of the loop that compares two quotes column by column, and dominance by what it finds.
 use mathlib.Core.Path.{_≡_, refl, sym}
 use Prim.Native.Nat.{ℕ, zero, suc, _+_, _/_, _^_, _≤_, _<_}
-use native.Mathlib.Nat.{le-antisymm, div-one, div-div-eq-div-mul, pow-suc}
+use native.Mathlib.Nat.{le-refl, le-antisymm, div-one, div-div-eq-div-mul, pow-suc}
 use native.Mathlib.Numerals.{add-one}
 use native.Mathlib.Omega.{arith}
 use mathlib.Core.Bool.{Bool, true, false, _&&_, _||_, not}
 use mathlib.Core.List.{List}
 use lib.Bits.{bitAnd, and-mask}
 use lib.Dec.{eqb}
-use lib.ListN.{getD, drop}
-use lib.Seq.{getD-drop}
+use lib.ListN.{getD, take, drop}
+use lib.Seq.{getD-take, getD-drop}
 use Rattle.dominance.specs.Dominance.{higher, better, betterAt, noWorse, someBetter, dominates}
 use Rattle.dominance.specs.Compared.{compared}
 
@@ -75,3 +75,24 @@ dominates-by d directions p q = rw (no-worse-not d directions p q) (swap (not (s
     swap true false = refl
     swap false true = refl
     swap false false = refl
+
+-- q dominates p exactly if p is worse in some column and better in none
+pub dominated-by : (d directions : ℕ) (p q : List ℕ) → dominates d directions q p ≡ compared d directions p q .worse && not (compared d directions p q .better)
+unfolding compared
+dominated-by d directions p q = dominates-by d directions q p
+
+some-better-same : (d directions : ℕ) (p p' q q' : List ℕ) → ((i : ℕ) → i < d → getD p i 0 ≡ getD p' i 0) → ((i : ℕ) → i < d → getD q i 0 ≡ getD q' i 0)
+    → someBetter d directions p q ≡ someBetter d directions p' q'
+unfolding someBetter betterAt
+some-better-same zero directions p p' q q' e f = refl
+some-better-same (suc i) directions p p' q q' e f =
+    rw (some-better-same i directions p p' q q' (λ j h. e j (omega arith)) (λ j h. f j (omega arith)), e i (le-refl (suc i)), f i (le-refl (suc i)))
+
+-- the first d columns decide
+pub compared-take : (d directions : ℕ) (p q : List ℕ) → compared d directions p (take d q) ≡ compared d directions p q
+unfolding compared
+compared-take d directions p q =
+    rw (
+      some-better-same d directions p p (take d q) q (λ i h. refl) (λ i h. getD-take d q i 0 h),
+      some-better-same d directions (take d q) q p p (λ i h. getD-take d q i 0 h) (λ i h. refl),
+    )

@@ -1,9 +1,15 @@
 // Frames: reading a message from a tape at a place, and writing one into a lent output.
-ghost use mathlib.Core.Path.{_≡_};
-ghost use lib.ListN.{length};
-ghost use Rattle.frames.specs.Frames.{readAt, writeReply, writeOut};
+mod lengths;
+mod reader;
+mod writer;
+
 use head::Answer;
 use head::Refusal;
+pub use lengths::body_length;
+pub use reader::read_at;
+pub use writer::write;
+pub use writer::write_join;
+pub use writer::write_leave;
 
 // A message: what a frame says, or that there is none to read. A quote's columns stand beside it.
 pub enum Message {

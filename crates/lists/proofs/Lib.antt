@@ -8,3 +8,5 @@ pub mod Rising
 pub mod Writing
 pub mod Laying
 pub mod Growing
+pub mod Storing
+pub mod Apart

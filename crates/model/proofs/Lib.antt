@@ -7,6 +7,8 @@ pub mod Opening
 pub mod Quoting
 pub mod Watching
 pub mod Replay
+pub mod Kept
+pub mod Marked
 pub mod Worst
 pub mod Plays
 pub mod AuditTables
@@ -14,4 +16,9 @@ pub mod Rules
 pub mod RulesToTape
 pub mod TapeToRules
 pub mod Audit
-pub mod Kept
+pub mod ChangeFrames
+pub mod ChangesFit
+pub mod Heeding
+pub mod ReadBack
+pub mod Following
+pub mod Watcher

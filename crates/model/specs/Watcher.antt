@@ -4,11 +4,12 @@ use mathlib.Core.Bool.{cond}
 use mathlib.Core.List.{List, [], _∷_}
 use lib.Dec.{eqb}
 use lib.ListN.{length, take}
-use Rattle.lists.specs.Lists.{insert, without}
+use Rattle.lists.specs.Lists.{contains, insert, without}
 use Rattle.head.specs.Refusals.{settled}
 use Rattle.frames.specs.declared.Message.{Message}
 use Rattle.frames.specs.declared.Message.the-variants.{Quote, Look, Watch, Unwatch, Leave, Join, Open, End, Refused}
 use Rattle.frames.specs.Frames.{framed, readAt}
+use Rattle.model.specs.Reference.{Reference, skylineOf}
 use Rattle.model.specs.Calls.{Call, Seen, World, bookStep}
 
 -- the messages read from a place on, at most k, up to the end of the tape or what cannot be read
@@ -61,3 +62,7 @@ watcher n [] w held = held
 watcher n (c ∷ cs) w held =
     let one = bookStep c w in
     watcher n cs (one .1) (watcherStep n c (one .0) held)
+
+-- what a watcher of n is to hold by the reference model: nothing while n is not watched, else the skyline of n
+unfoldable pub heldBy : ℕ → Reference → Held
+heldBy n s = cond (contains n (s .watched)) (Holding (skylineOf s n)) Nothing

@@ -2,3 +2,4 @@
 pub mod Reading
 pub mod Torn
 pub mod Watches
+pub mod Marking

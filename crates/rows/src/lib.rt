@@ -1,11 +1,12 @@
 // Code on the lent tables: torn rows, the rows that a quote leaves, and the tables after it.
+use dominance::compare;
 use head::Head;
 ghost use mathlib.Core.Path.{_≡_};
 ghost use mathlib.Core.Bool.{cond};
-ghost use Prim.Native.Nat.{_-_, _≤_};
-ghost use mathlib.Core.List.{[]};
-ghost use lib.ListN.{length};
-ghost use Rattle.model.specs.Rows.{rowsIn};
+ghost use Prim.Native.Nat.{_-_, _*_, _≤_};
+ghost use mathlib.Core.List.{[], _++_, map};
+ghost use lib.ListN.{length, drop};
+ghost use Rattle.model.specs.Rows.{rowsIn, remains, remaining, lowerEndAmong};
 ghost use Rattle.model.specs.Book.{tornRows, tornWatches, bookRows};
 ghost use Rattle.rows.specs.Order.{tornHead, inOrder};
 ghost use Rattle.rows.specs.Selected.{tables};
@@ -83,4 +84,37 @@ pub fn torn_watches(capacity: u32, watches: [u32; 8]) -> bool
         i += 1;
     }
     !fair
+}
+
+// Marks which of count rows remain when the quote comes and position gone expires; gives the quote's lower end among them.
+pub fn mark(
+    directions: u32,
+    d: usize,
+    columns: &[u32],
+    positions: &[u32],
+    count: usize,
+    quote: &[u32],
+    gone: u32,
+    keep: &mut [bool],
+) -> u32
+    requires { ⌜ d ≤ length (now quote) ⌝ }
+    requires { ⌜ count * d ≤ length (now columns) ⌝ }
+    requires { ⌜ count ≤ length (now positions) ⌝ }
+    requires { ⌜ count ≤ length (now keep) ⌝ }
+    ensures { λ _. ⌜ now (keep .exit) ≡ map (remains d directions (now (quote .entry)) gone) (rowsIn d count (tables (now (columns .entry)) (now (positions .entry)) [])) ++ drop count (now (keep .entry)) ⌝ }
+    ensures { λ r. ⌜ r ≡ lowerEndAmong d directions (now (quote .entry)) (remaining d directions (now (quote .entry)) gone (rowsIn d count (tables (now (columns .entry)) (now (positions .entry)) []))) ⌝ }
+{
+    let mut lower: u32 = 0;
+    let mut start: usize = 0;
+    let mut i = 0;
+    while i < count {
+        let c = compare(directions, d, quote, columns, start);
+        let position = positions[i];
+        let stays = position != gone;
+        keep[i] = stays & !(c.better & !c.worse);
+        lower = chosen(stays & c.worse & !c.better, position, lower);
+        start += d;
+        i += 1;
+    }
+    lower
 }

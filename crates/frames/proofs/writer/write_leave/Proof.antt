@@ -1,0 +1,18 @@
+-- `write_leave` meets its contract: a change frame of its kind is the frame of the leave.
+use Rattle.frames.specs.Frames.{frame}
+use borrow.Author.Needs.{needs}
+use Rattle.frames.proofs.writer.write_leave.Statement.{statement}
+use Rattle.frames.proofs.writer.write_leave.Tie as tie
+
+lay-change-requires : tie.Need-lay-change-requires
+lay-change-requires c κs = search needs
+
+same-length : tie.Need-same-length
+same-length c = search needs
+
+returns : tie.Need-returns
+unfolding frame
+returns c = c .before .before .lay-change .ensures
+
+pub write-leave-spec : {M : Type 1} → statement M
+write-leave-spec = tie.close (tie.spec lay-change-requires same-length returns)

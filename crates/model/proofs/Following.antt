@@ -1,0 +1,208 @@
+-- A watcher that reads what the reference model writes holds, after each call, what the reference model says.
+use mathlib.Core.Path.{_≡_, refl, sym, ap, _∙_}
+use mathlib.Core.Logic.{_⊎_, inl, inr}
+use Prim.Native.Nat.{ℕ, _≤_, _<_}
+use native.Mathlib.Nat.{le-refl}
+use native.Mathlib.Omega.{arith}
+use mathlib.Core.Bool.{Bool, true, false, _&&_, not, cond}
+use mathlib.Core.List.{List, [], _∷_, map}
+use lib.Dec.{eqb}
+use lib.ListN.{length, drop, length-append}
+use lib.Seq.{take-append-seam}
+use borrow.Author.Tests.{leb-false, eqb-true, eqb-false, eq-eqb, ne-eqb}
+use Rattle.lists.specs.Lists.{any, contains, rising, insert, without, laid, between}
+use Rattle.lists.proofs.Booleans.{either}
+use Rattle.lists.proofs.Members.{contains-filter}
+use Rattle.lists.proofs.Rising.{rising-between, rising-weak, rising-filter, contains-insert}
+use Rattle.lists.proofs.Apart.{rising-wide}
+use Rattle.skyline.specs.Skyline.{windowStart, dominatedIn, skyline}
+use Rattle.head.specs.declared.Answer.{Answer}
+use Rattle.head.specs.declared.Answer.the-variants.{Accepted, Refused}
+use Rattle.head.specs.Refusals.{settled}
+use Rattle.head.specs.Heads.{lastPosition}
+use Rattle.head.proofs.Answers.{accepted-passed}
+use Rattle.frames.specs.declared.Message.{Message}
+use Rattle.frames.specs.declared.Message.the-variants.{Join}
+use Rattle.model.specs.Changes.{allChanges, frames}
+use Rattle.model.specs.Reference.{Reference, newest, over, skylineOf, withQuote, withWatched, opening, tells, referenceStep}
+use Rattle.model.specs.Calls.{Call, Open, Quote, Look, Watch, End, Lent, Seen, fed, outputOf, deskStep}
+use Rattle.model.specs.Watcher.{Held, Nothing, Holding, messagesFrom, heedsAll, reads, watcherStep, heldBy}
+use Rattle.model.proofs.Joined.{in-range}
+use Rattle.model.proofs.Heeding.{first-heeded, other-joins, all-heeded}
+use Rattle.model.proofs.ReadBack.{Sent, read-back, sent-joins, sent-all}
+
+-- what is held after messages
+heldAfter : ℕ → List Message → Held → Held
+heldAfter n ms Nothing = Nothing
+heldAfter n ms (Holding held) = Holding (heedsAll n held ms)
+
+-- frames at the start of an output are read as their messages
+reads-frames : (n : ℕ) (ms : List Message) → Sent ms → (seen : Seen) (before : List ℕ) → seen .reply .count ≡ length (frames ms) → seen .out ≡ laid (frames ms) before
+    → (held : Held) → reads n seen held ≡ heldAfter n ms held
+unfolding heldAfter reads laid
+reads-frames n ms s seen before c o Nothing = refl
+reads-frames n ms s seen before c o (Holding held) =
+    rw (c, o, take-append-seam (frames ms) (drop (length (frames ms)) before))
+    (ap (λ (l : List Message). Holding (heedsAll n held l)) (read-back ms s [] (length (frames ms)) (le-refl (length (frames ms)))))
+
+-- where nothing is written, nothing changes
+reads-nothing : (n : ℕ) (seen : Seen) → seen .reply .count ≡ 0 → (held : Held) → reads n seen held ≡ held
+unfolding reads messagesFrom heedsAll
+reads-nothing n seen c Nothing = refl
+reads-nothing n seen c (Holding held) = rw c
+
+-- messages that lead from the skyline before to the one after
+held-on : (n : ℕ) (s next : Reference) (ms : List Message) → contains n (next .watched) ≡ contains n (s .watched)
+    → (contains n (s .watched) ≡ true → heedsAll n (skylineOf s n) ms ≡ skylineOf next n) → heldAfter n ms (heldBy n s) ≡ heldBy n next
+unfolding heldAfter heldBy
+held-on n s next ms e f = rw e (go (contains n (s .watched)) f)
+  where
+    go : (b : Bool) → (b ≡ true → heedsAll n (skylineOf s n) ms ≡ skylineOf next n) → heldAfter n ms (cond b (Holding (skylineOf s n)) Nothing) ≡ cond b (Holding (skylineOf next n)) Nothing
+    go true h = ap Holding (h refl)
+    go false h = refl
+
+-- a reference model whose positions and watched n fit the frames of changes, and whose watched n rise
+pub record Bounded (s : Reference) : Type 0 where
+  pub short : newest s ≤ lastPosition
+  pub small : s .capacity ≤ 1024
+  pub risen : rising 1 (s .capacity) (s .watched) ≡ true
+
+-- a skyline rises
+skyline-rises : (s : Reference) (n hi : ℕ) → newest s ≤ hi → rising 1 hi (skylineOf s n) ≡ true
+unfolding skylineOf skyline windowStart
+skyline-rises s n hi h =
+    rising-wide 1 (newest s) hi (skylineOf s n) h
+    (rising-weak 1 start (newest s) (skylineOf s n) (omega arith)
+    (rising-filter (λ p. not (dominatedIn (over s) start (newest s) p)) start (newest s) (between start (newest s)) (rising-between start (newest s) (omega arith))))
+  where
+    start : ℕ
+    start = windowStart (newest s) n
+
+module _ (n : ℕ) (s : Reference) (l : Lent) (ok : Bounded s) where
+  -- the watcher of n after a call of the reference model
+  abbrev Follows : Call → Type 0
+  Follows c = let one = deskStep c (record { reference = s; lent = l }) in watcherStep n c (one .0) (heldBy n s) ≡ heldBy n (one .1 .reference)
+
+  -- the answer of the reference model
+  abbrev answered : Call → Answer
+  answered c = deskStep c (record { reference = s; lent = l }) .0 .reply .answer
+
+  -- an accepted opening ends every watch
+  opens : (d N directions : ℕ) → Follows (Open d N directions)
+  unfolding deskStep referenceStep tells fed watcherStep settled heldBy opening contains any
+  opens d N directions = go (answered (Open d N directions))
+    where
+      go : (a : Answer) → settled a Nothing (heldBy n s) ≡ heldBy n (settled a (opening d N directions) s)
+      go Accepted = refl
+      go (Refused k) = refl
+
+  -- a look changes nothing
+  looks : (m : ℕ) (out : List ℕ) → Follows (Look m out)
+  unfolding deskStep referenceStep tells fed watcherStep settled
+  looks m out = go (answered (Look m out))
+    where
+      go : (a : Answer) → heldBy n s ≡ heldBy n (settled a s s)
+      go Accepted = refl
+      go (Refused k) = refl
+
+  -- an accepted end ends the watch of its n
+  ends : (m : ℕ) → Follows (End m)
+  unfolding deskStep referenceStep tells fed watcherStep settled heldBy withWatched skylineOf without
+  ends m = go (answered (End m))
+    where
+      dropped : (b c : Bool) → cond b Nothing (cond c (Holding (skylineOf s n)) Nothing) ≡ cond (c && not b) (Holding (skylineOf s n)) Nothing
+      dropped true true = refl
+      dropped true false = refl
+      dropped false true = refl
+      dropped false false = refl
+
+      go : (a : Answer) → settled a (cond (eqb m n) Nothing (heldBy n s)) (heldBy n s) ≡ heldBy n (settled a (withWatched s (without m (s .watched))) s)
+      go Accepted = rw (contains-filter (λ y. not (eqb m y)) n (s .watched)) (dropped (eqb m n) (contains n (s .watched)))
+      go (Refused k) = refl
+
+  -- ---- watch
+
+  module _ (m : ℕ) (out : List ℕ) where
+    -- the joins of an accepted watch, and the model with it
+    abbrev joins : List Message
+    joins = map (Join m) (skylineOf s m)
+
+    abbrev watching : Reference
+    watching = withWatched s (insert m (s .watched))
+
+    -- a watch changes no skyline and no other watch
+    still : skylineOf watching n ≡ skylineOf s n
+    unfolding withWatched skylineOf
+    still = refl
+
+    others-stand : eqb m n ≡ false → contains n (watching .watched) ≡ contains n (s .watched)
+    unfolding withWatched
+    others-stand t = rw (contains-insert, ne-eqb n m (λ e. eqb-false m n t (sym e)))
+
+    -- the watcher of m begins with the empty list and comes to hold the skyline; the others hold what they held
+    begun : heldAfter n joins (cond (eqb m n) (Holding []) (heldBy n s)) ≡ heldBy n watching
+    unfolding heldAfter heldBy withWatched
+    begun = pick (either (eqb m n))
+      where
+        pick : (eqb m n ≡ true) ⊎ (eqb m n ≡ false) → heldAfter n joins (cond (eqb m n) (Holding []) (heldBy n s)) ≡ heldBy n watching
+        pick (inl t) =
+            rw (contains-insert, eq-eqb n m (sym (eqb-true m n t)), t, still, eqb-true m n t) (ap Holding (first-heeded 1 lastPosition n (skylineOf s n) (skyline-rises s n lastPosition (ok .short))))
+        pick (inr t) = rw t (held-on n s watching joins (others-stand t) (λ u. other-joins n m t (skylineOf s m) (skylineOf s n) ∙ sym still))
+
+    -- the joins of an accepted watch are read
+    watches : Follows (Watch m out)
+    unfolding deskStep referenceStep tells fed outputOf watcherStep settled
+    watches = go (answered (Watch m out)) refl
+      where
+        go : (a : Answer) → answered (Watch m out) ≡ a → Follows (Watch m out)
+        go Accepted e =
+            let r = in-range s m (accepted-passed _ _ _ (accepted-passed _ _ _ e .1) .0) in
+            let small : m < 65536 = omega (arith, ok .small) in
+            rw e (reads-frames n joins (sent-joins 1 lastPosition (omega arith) m (skylineOf s m) small (skyline-rises s m lastPosition (ok .short))) _ out refl refl _ ∙ begun)
+        go (Refused k) e = rw e (reads-nothing n _ refl (heldBy n s))
+
+  -- ---- quote
+
+  module _ (x out : List ℕ) where
+    -- the model with the quote, and its changes
+    abbrev next : Reference
+    next = withQuote s x
+
+    abbrev messages : List Message
+    messages = allChanges (s .watched) (skylineOf s) (skylineOf next)
+
+    module _ (room : newest s < lastPosition) where
+      -- the skylines before and after rise, and their changes have frames
+      before-rises : (m : ℕ) → rising 1 lastPosition (skylineOf s m) ≡ true
+      before-rises m = skyline-rises s m lastPosition (ok .short)
+
+      after-rises : (m : ℕ) → rising 1 lastPosition (skylineOf next m) ≡ true
+      unfolding withQuote
+      after-rises m = skyline-rises next m lastPosition (omega (arith, length-append (s .quotes) (x ∷ [])))
+
+      fits : Sent messages
+      fits = sent-all 1 lastPosition (omega arith) (skylineOf s) (skylineOf next) before-rises after-rises 1 (s .capacity) (omega (arith, ok .small)) (s .watched) (ok .risen)
+
+      -- they lead from what is held before to what is to be held after
+      moved : heldAfter n messages (heldBy n s) ≡ heldBy n next
+      unfolding withQuote
+      moved = held-on n s next messages refl (λ t. all-heeded n (skylineOf s) (skylineOf next) 1 lastPosition 1 (s .capacity) (s .watched) (before-rises n) (after-rises n) (ok .risen) t)
+
+    -- the changes of an accepted quote are read
+    quotes : Follows (Quote x out)
+    unfolding deskStep referenceStep tells fed outputOf watcherStep settled
+    quotes = go (answered (Quote x out)) refl
+      where
+        go : (a : Answer) → answered (Quote x out) ≡ a → Follows (Quote x out)
+        go Accepted e =
+            let room = leb-false lastPosition (newest s) (accepted-passed _ _ _ (accepted-passed _ _ _ (accepted-passed _ _ _ e .1) .1) .0) in
+            rw e (reads-frames n messages (fits room) _ out refl refl (heldBy n s) ∙ moved room)
+        go (Refused k) e = rw e (reads-nothing n _ refl (heldBy n s))
+
+  -- after each call the watcher holds what it is to hold
+  pub follows : (c : Call) → Follows c
+  follows (Open d N directions) = opens d N directions
+  follows (Quote x out) = quotes x out
+  follows (Look m out) = looks m out
+  follows (Watch m out) = watches m out
+  follows (End m) = ends m

@@ -1,0 +1,78 @@
+-- The frames of changes read back: the messages that a watcher reads are the messages that were written.
+use mathlib.Core.Path.{_≡_, refl, ap, _∙_}
+use Prim.Native.Nat.{ℕ, zero, suc, _+_, _≤_, _<_}
+use native.Mathlib.Nat.{le-refl}
+use native.Mathlib.Omega.{arith}
+use mathlib.Core.Bool.{true, not}
+use mathlib.Core.List.{List, [], _∷_, _++_, map, append-nil, append-assoc}
+use lib.ListN.{length, length-append}
+use borrow.Author.Tests.{le-ltb, eq-eqb}
+use Rattle.lists.specs.Lists.{flat, contains, rising}
+use Rattle.lists.proofs.Rising.{rising-cons, rising-filter}
+use Rattle.frames.specs.declared.Message.{Message}
+use Rattle.frames.specs.declared.Message.the-variants.{Leave, Join}
+use Rattle.frames.specs.Frames.{framed, frame, stays, readAt}
+use Rattle.frames.proofs.RoundTrips.{Writable, frame-length, read-after-write, leave-writable, join-writable}
+use Rattle.model.specs.Changes.{missing, changes, allChanges, frames}
+use Rattle.model.specs.Watcher.{messagesFrom}
+
+-- messages that have frames without columns
+pub data Sent : List Message → Type 0 where
+  none : Sent []
+  more : {m : Message} {ms : List Message} → Writable m [] → Sent ms → Sent (m ∷ ms)
+
+-- nothing is read at the end
+read-end : (tape : List ℕ) (k place : ℕ) → place ≡ length tape → messagesFrom k tape place ≡ []
+unfolding messagesFrom readAt stays framed
+read-end tape zero place e = refl
+read-end tape (suc k) place e = rw (e, le-ltb (length tape) (length tape) (le-refl (length tape)), eq-eqb (length tape) (length tape) refl)
+
+-- a message is read, and the reading goes on behind its frame
+read-on : (k : ℕ) (before after : List ℕ) (m : Message) → Writable m []
+    → messagesFrom (suc k) (before ++ (frame m [] ++ after)) (length before) ≡ m ∷ messagesFrom k (before ++ (frame m [] ++ after)) (length before + length (frame m []))
+unfolding messagesFrom
+read-on k before after m w = rw (read-after-write before after m [] w, w .has-frame)
+
+-- the messages that are read are those that were written
+pub read-back : (ms : List Message) → Sent ms → (before : List ℕ) (k : ℕ) → length (frames ms) ≤ k → messagesFrom k (before ++ frames ms) (length before) ≡ ms
+unfolding frames flat
+read-back _ none before k h = rw append-nil (read-end before k (length before) refl)
+read-back _ (more {m} {ms} w s) before zero h = absurd (omega (arith, frame-length m [] (w .has-frame) (w .enough), length-append (frame m []) (frames ms)))
+read-back _ (more {m} {ms} w s) before (suc k) h =
+    read-on k before (frames ms) m w
+    ∙ ap (λ (l : List Message). m ∷ l)
+    (rw (← (length-append before (frame m [])), ← (append-assoc before (frame m []) (frames ms)))
+    (read-back ms s (before ++ frame m []) k (omega (arith, frame-length m [] (w .has-frame) (w .enough), length-append (frame m []) (frames ms)))))
+
+-- ---- the messages of the calls have frames
+
+sent-append : {ms ns : List Message} → Sent ms → Sent ns → Sent (ms ++ ns)
+sent-append none t = t
+sent-append (more c s) t = more c (sent-append s t)
+
+-- a message for each position of a rising list
+sent-map : (message : ℕ → Message) (lo hi : ℕ) → ((p : ℕ) → p ≤ hi → Writable (message p) []) → (l : List ℕ) → rising lo hi l ≡ true → Sent (map message l)
+sent-map message lo hi fits [] e = none
+sent-map message lo hi fits (p ∷ l) e = let r = rising-cons lo hi p l e in more (fits p (r .high)) (sent-map message (suc p) hi fits l (r .rest))
+
+module _ (lo hi : ℕ) (short : hi < 4294967296) where
+  -- joins, and the changes of one watch
+  pub sent-joins : (n : ℕ) (l : List ℕ) → n < 65536 → rising lo hi l ≡ true → Sent (map (Join n) l)
+  sent-joins n l h = sent-map (Join n) lo hi (λ p u. join-writable n p h (omega arith)) l
+
+  sent-changes : (n : ℕ) (before after : List ℕ) → n < 65536 → rising lo hi before ≡ true → rising lo hi after ≡ true → Sent (changes n before after)
+  unfolding changes missing
+  sent-changes n before after h e f =
+      sent-append
+      (sent-map (Leave n) lo hi (λ p u. leave-writable n p h (omega arith)) (missing before after) (rising-filter (λ p. not (contains p after)) lo hi before e))
+      (sent-joins n (missing after before) h (rising-filter (λ p. not (contains p before)) lo hi after f))
+
+  -- the changes of every watch
+  pub sent-all : (before after : ℕ → List ℕ) → ((n : ℕ) → rising lo hi (before n) ≡ true) → ((n : ℕ) → rising lo hi (after n) ≡ true)
+      → (a N : ℕ) → N < 65536 → (watched : List ℕ) → rising a N watched ≡ true → Sent (allChanges watched before after)
+  unfolding allChanges flat
+  sent-all before after e f a N h [] r = none
+  sent-all before after e f a N h (w ∷ ws) r =
+      let u = rising-cons a N w ws r in
+      let high = u .high in
+      sent-append (sent-changes w (before w) (after w) (omega arith) (e w) (f w)) (sent-all before after e f (suc w) N h ws (u .rest))

@@ -1,0 +1,116 @@
+-- A turn of the loop that marks the rows that remain and seeks the quote's lower end.
+use mathlib.Core.Path.{_≡_, refl, sym, ap, _∙_}
+use Prim.Native.Nat.{ℕ, suc, _+_, _-_, _*_, _≤_, _<_}
+use native.Mathlib.Nat.{zero-mul, le-antisymm}
+use native.Mathlib.Numerals.{add-one}
+use native.Mathlib.Omega.{arith}
+use mathlib.Core.Bool.{Bool, true, false, _&&_, not, cond}
+use mathlib.Core.List.{List, [], _∷_, _++_, map}
+use lib.Dec.{eqb}
+use lib.ListN.{length, getD, set, take, drop, length-set, length-map}
+use Rattle.lists.specs.Lists.{keep, filter, lastOr, run}
+use Rattle.lists.proofs.Filters.{map-append}
+use Rattle.lists.proofs.Storing.{store-next}
+use Rattle.dominance.specs.declared.Comparison.{Comparison}
+use Rattle.dominance.specs.Dominance.{dominates}
+use Rattle.dominance.specs.Compared.{compared}
+use Rattle.dominance.proofs.Comparing.{dominates-by, dominated-by, compared-take}
+use Rattle.model.specs.Rows.{Row, Tables, rowAt, rowsIn, remains, remaining, lowerEndAmong}
+use Rattle.rows.specs.Selected.{tables}
+use Rattle.rows.proofs.Reading.{length-rows, rows-snoc, next-start, row-within}
+
+-- the last of two filters, one row more in front
+last-cons : (f g : Row → Bool) (z : ℕ) (r : Row) (rs : List Row)
+    → lastOr z (map Row.position (filter g (filter f (r ∷ rs)))) ≡ lastOr (cond (f r && g r) (r .position) z) (map Row.position (filter g (filter f rs)))
+unfolding filter lastOr
+last-cons f g z r rs = outer (f r)
+  where
+    inner : (c : Bool) → lastOr z (map Row.position (keep c r (filter g (filter f rs)))) ≡ lastOr (cond c (r .position) z) (map Row.position (filter g (filter f rs)))
+    inner true = refl
+    inner false = refl
+
+    outer : (b : Bool) → lastOr z (map Row.position (filter g (keep b r (filter f rs)))) ≡ lastOr (cond (b && g r) (r .position) z) (map Row.position (filter g (filter f rs)))
+    outer true = inner (g r)
+    outer false = refl
+
+module _ (d directions : ℕ) (quote : List ℕ) (gone : ℕ) where
+  -- what the comparison of a quote with a row's columns says of the row
+  remains-by : (r : Row) (c : Comparison) → c ≡ compared d directions quote (r .columns)
+      → remains d directions quote gone r ≡ not (eqb (r .position) gone) && not (c .better && not (c .worse))
+  unfolding remains
+  remains-by r c e = rw (dominates-by, ← e)
+
+  both-by : (r : Row) (c : Comparison) → c ≡ compared d directions quote (r .columns)
+      → remains d directions quote gone r && dominates d directions (r .columns) quote ≡ not (eqb (r .position) gone) && c .worse && not (c .better)
+  both-by r c e = rw (remains-by r c e, dominated-by, ← e) (go (not (eqb (r .position) gone)) (c .better) (c .worse))
+    where
+      go : (a b w : Bool) → (a && not (b && not w)) && (w && not b) ≡ a && w && not b
+      go true true true = refl
+      go true true false = refl
+      go true false w = refl
+      go false b w = refl
+
+-- i rows have been passed: their flags are written, and the lower end so far is the last found
+pub record Marking (d directions : ℕ) (columns positions quote : List ℕ) (gone count : ℕ) (before flags : List Bool) (lower start i : ℕ) : Type 0 where
+  pub within : i ≤ count
+  pub start≡ : start ≡ i * d
+  pub fits : count * d ≤ length columns
+  pub room : count ≤ length before
+  pub same-length : length flags ≡ length before
+  pub flags≡ : flags ≡ map (remains d directions quote gone) (rowsIn d i (tables columns positions [])) ++ drop i before
+  pub lower≡ :
+      lowerEndAmong d directions quote (remaining d directions quote gone (rowsIn d count (tables columns positions [])))
+      ≡ lastOr lower (map Row.position (filter (λ r. dominates d directions (r .columns) quote) (filter (remains d directions quote gone)
+      (map (rowAt d (tables columns positions [])) (run i (count - i))))))
+
+module _ {d directions : ℕ} {columns positions quote : List ℕ} {gone count : ℕ} {before : List Bool} where
+  pub start : count * d ≤ length columns → count ≤ length before → Marking d directions columns positions quote gone count before before 0 0 0
+  unfolding rowsIn run remaining lowerEndAmong
+  start h k = record {
+    within = omega arith;
+    start≡ = sym (zero-mul d);
+    fits = h;
+    room = k;
+    same-length = refl;
+    flags≡ = refl;
+    lower≡ = let z : count - 0 ≡ count = omega arith in rw z;
+  }
+
+  module _ {flags : List Bool} {lower from i : ℕ} (v : Marking d directions columns positions quote gone count before flags lower from i) (h : i < count) where
+    -- the row's columns lie within the table
+    pub row-in : from + d ≤ length columns
+    row-in = omega (arith, row-within i count d h)
+
+    abbrev T : Tables
+    T = tables columns positions []
+
+    pub more : (c : Comparison) → c ≡ compared d directions quote (drop from columns) → (next : ℕ)
+        → next ≡ cond (not (eqb (getD positions i 0) gone) && c .worse && not (c .better)) (getD positions i 0) lower
+        → Marking d directions columns positions quote gone count before (set flags i (not (eqb (getD positions i 0) gone) && not (c .better && not (c .worse)))) next (from + d) (i + 1)
+    unfolding rowAt run
+    more c e next f =
+        let row : c ≡ compared d directions quote (take d (drop (i * d) columns)) = e ∙ rw (compared-take, v .start≡) in
+        let F : List Bool = map (remains d directions quote gone) (rowsIn d i T) in
+        let F# : length F ≡ i = length-map (rowsIn d i T) (remains d directions quote gone) ∙ length-rows d i T in
+        let b : Bool = not (eqb (getD positions i 0) gone) && not (c .better && not (c .worse)) in
+        let z : count - i ≡ suc (count - suc i) = omega arith in
+        record {
+          within = omega arith;
+          start≡ = omega (arith, next-start i d);
+          fits = v .fits;
+          room = v .room;
+          same-length = rw length-set (v .same-length);
+          flags≡ =
+              ap (λ (l : List Bool). set l i b) (v .flags≡) ∙ store-next false F before i b F# (omega arith)
+              ∙ rw (rows-snoc, map-append, remains-by d directions quote gone (rowAt d T i) c row);
+          lower≡ = v .lower≡ ∙ rw (z, last-cons, both-by d directions quote gone (rowAt d T i) c row, add-one, f);
+        }
+
+  pub finish : {flags : List Bool} {lower from i : ℕ} → Marking d directions columns positions quote gone count before flags lower from i → count ≤ i
+      → (flags ≡ map (remains d directions quote gone) (rowsIn d count (tables columns positions [])) ++ drop count before)
+      × (lower ≡ lowerEndAmong d directions quote (remaining d directions quote gone (rowsIn d count (tables columns positions []))))
+  unfolding run filter lastOr
+  finish {i = i} v h =
+      let e = le-antisymm (v .within) h in
+      let z : count - i ≡ 0 = omega arith in
+      (rw (← e) (v .flags≡), sym (v .lower≡ ∙ rw z))
