@@ -2,4 +2,4 @@
 pub mod Picking
 pub mod Writing
 pub mod Framing
-pub mod Counting
+pub mod Moving

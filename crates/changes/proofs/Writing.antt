@@ -75,7 +75,7 @@ module _ {encode : ℕ → List ℕ} {test : ℕ → Bool} {positions : List ℕ
 
   -- the turn of a position that is one cell, stored
   pub writing-store : (x : ℕ) → next ≡ x ∷ [] → b ≡ true → Writing encode test positions count entry (set out at x) (at + 1) (i + 1)
-  writing-store x s t = record { laying = laying-store (v .laying) h x (rw s at (took t)) grown }
+  writing-store x s t = record { laying = laying-store (v .laying) h next (took t) grown x s }
 
   -- the turn of a position whose cells are laid into the rest of the output
   pub writing-more : {last : List ℕ} {used : ℕ} → used ≡ length next → last ≡ laid next (midOf at (length out - at) out) → b ≡ true

@@ -4,34 +4,28 @@ use mathlib.Core.Bool.{Bool, true, false, _&&_, not}
 use mathlib.Core.List.{List, [], _++_, map}
 use lib.Dec.{ltb}
 use lib.ListN.{getD}
-use Rattle.lists.specs.Lists.{keep, filter, flat}
-use Rattle.skyline.specs.Skyline.{windowStart, stabbed}
+use Rattle.lists.specs.Lists.{keep}
+use Rattle.skyline.specs.Skyline.{stabbed}
 use Rattle.frames.specs.declared.Message.{Message}
 use Rattle.frames.specs.declared.Message.the-variants.{Leave, Join}
 use Rattle.model.specs.Rows.{renamed}
-use Rattle.model.specs.Changes.{frames}
 use Rattle.changes.specs.Picked.{picked}
 
--- the rows before a quote, which of them stay, the position that expires, and the new row's position and lower end
+-- the rows at the places below count, which of them stay at a quote, and the position that expires with it
 pub record Swept : Type 0 where
   pub kept : List Bool
   pub positions : List ℕ
   pub lowerEnds : List ℕ
   pub count : ℕ
   pub gone : ℕ
-  pub newest : ℕ
-  pub lower : ℕ
 
-abbrev pub swept : List Bool → List ℕ → List ℕ → ℕ → ℕ → ℕ → ℕ → Swept
-swept kept positions lowers count gone newest lower = record {
-  kept = kept;
-  positions = positions;
-  lowerEnds = lowers;
-  count = count;
-  gone = gone;
-  newest = newest;
-  lower = lower;
-}
+abbrev pub swept : List Bool → List ℕ → List ℕ → ℕ → ℕ → Swept
+swept kept positions lowers count gone = record { kept = kept; positions = positions; lowerEnds = lowers; count = count; gone = gone }
+
+-- a join (true) or a leave (false) of the watch of n
+unfoldable pub change : Bool → ℕ → ℕ → Message
+change true n p = Join n p
+change false n p = Leave n p
 
 -- before and after: the starts of the window before and after the quote
 module _ (s : Swept) (before after : ℕ) where
@@ -43,14 +37,19 @@ module _ (s : Swept) (before after : ℕ) where
   unfoldable pub nowListed : ℕ → Bool
   nowListed i = getD (s .kept) i false && stabbed after (renamed (s .gone) (getD (s .lowerEnds) i 0)) (getD (s .positions) i 0)
 
-  -- the positions that leave the list, rising
-  unfoldable pub leaving : List ℕ
-  leaving = picked (λ i. wasListed i && not (nowListed i)) (s .positions) (s .count)
+  -- the row at place i joins the list (true) or leaves it (false)
+  unfoldable pub moves : Bool → ℕ → Bool
+  moves true i = nowListed i && not (wasListed i)
+  moves false i = wasListed i && not (nowListed i)
+
+  -- the positions of the rows that join (true) or leave (false), rising
+  unfoldable pub moving : Bool → List ℕ
+  moving joins = picked (moves joins) (s .positions) (s .count)
 
   -- the positions that join the list, rising, the new row's last
-  unfoldable pub joining : List ℕ
-  joining = picked (λ i. nowListed i && not (wasListed i)) (s .positions) (s .count) ++ keep (ltb (s .lower) after) (s .newest) []
+  unfoldable pub joining : ℕ → ℕ → List ℕ
+  joining newest lower = moving true ++ keep (ltb lower after) newest []
 
-  -- the changes of the watch of n: the leaves, then the joins
-  unfoldable pub changed : ℕ → List Message
-  changed n = map (Leave n) leaving ++ map (Join n) joining
+  -- the changes of the watch of n, where the new row has this position and lower end: the leaves, then the joins
+  unfoldable pub changed : ℕ → ℕ → ℕ → List Message
+  changed newest lower n = map (Leave n) (moving false) ++ map (Join n) (joining newest lower)

@@ -1,4 +1,4 @@
--- How many positions leave and join: the rows whose test changes, and the new row.
+-- The rows that leave or join a list at a quote: their test, and how many they are.
 use mathlib.Core.Path.{_≡_, refl, sym, ap, _∙_}
 use Prim.Native.Nat.{ℕ, suc, _+_}
 use native.Mathlib.Omega.{arith}
@@ -9,7 +9,7 @@ use lib.ListN.{length, getD, length-append, length-map}
 use mir.Val.{boolByte}
 use Rattle.lists.specs.Lists.{keep, filter, run}
 use Rattle.changes.specs.Picked.{picked}
-use Rattle.changes.specs.Swept.{Swept, wasListed, nowListed, leaving, joining}
+use Rattle.changes.specs.Swept.{Swept, wasListed, nowListed, moves, moving, joining}
 
 -- the tests differ
 abbrev pub differs : Bool → Bool → Bool
@@ -42,22 +42,41 @@ pub picked-differs : (f g : ℕ → Bool) (positions : List ℕ) (count : ℕ)
 unfolding picked
 picked-differs f g positions count = simp length-map (filter-differs f g (run 0 count))
 
+joins-test : (a b : Bool) → differs a b && Bool·beq b true ≡ b && not a
+joins-test true true = refl
+joins-test true false = refl
+joins-test false true = refl
+joins-test false false = refl
+
+leaves-test : (a b : Bool) → differs a b && Bool·beq b false ≡ a && not b
+leaves-test true true = refl
+leaves-test true false = refl
+leaves-test false true = refl
+leaves-test false false = refl
+
 module _ (s : Swept) (before after : ℕ) where
   -- the row at place i leaves or joins
   abbrev pub changesAt : ℕ → Bool
   changesAt i = differs (wasListed s before after i) (nowListed s before after i)
 
+  -- the row at place i joins (true) or leaves (false) where the tests differ and the second is this
+  pub moves-test : (joins : Bool) (i : ℕ) → differs (wasListed s before after i) (nowListed s before after i) && Bool·beq (nowListed s before after i) joins ≡ moves s before after joins i
+  unfolding moves
+  moves-test true i = joins-test (wasListed s before after i) (nowListed s before after i)
+  moves-test false i = leaves-test (wasListed s before after i) (nowListed s before after i)
+
   -- the rows that leave or join, and the new row where it is listed, are the changes
-  pub counted-changes : (n : ℕ) → n ≡ length (picked changesAt (s .positions) (s .count)) → n + boolByte (ltb (s .lower) after) ≡ length (leaving s before after) + length (joining s before after)
-  unfolding leaving joining
-  counted-changes n e = rw (length-append, e, picked-differs (wasListed s before after) (nowListed s before after)) (go (ltb (s .lower) after))
+  pub counted-changes : (newest lower n : ℕ) → n ≡ length (picked changesAt (s .positions) (s .count))
+      → n + boolByte (ltb lower after) ≡ length (moving s before after false) + length (joining s before after newest lower)
+  unfolding moving joining moves
+  counted-changes newest lower n e = rw (length-append, e, picked-differs (wasListed s before after) (nowListed s before after)) (go (ltb lower after))
     where
       L : ℕ
-      L = length (leaving s before after)
+      L = length (moving s before after false)
 
       J : ℕ
-      J = length (picked (λ i. nowListed s before after i && not (wasListed s before after i)) (s .positions) (s .count))
+      J = length (moving s before after true)
 
-      go : (b : Bool) → L + J + boolByte b ≡ L + (J + length (keep b (s .newest) []))
+      go : (b : Bool) → L + J + boolByte b ≡ L + (J + length (keep b newest []))
       go true = omega arith
       go false = omega arith

@@ -1,8 +1,8 @@
 -- `rename` meets its contract: the two cases of the definition.
 use borrow.Author.Tests.{eq-eqb, ne-eqb}
 use Rattle.model.specs.Rows.{renamed}
-use Rattle.changes.proofs.rename.Statement.{statement}
-use Rattle.changes.proofs.rename.Tie as tie
+use Rattle.changes.proofs.moves.rename.Statement.{statement}
+use Rattle.changes.proofs.moves.rename.Tie as tie
 
 returns : tie.Need-returns
 unfolding renamed

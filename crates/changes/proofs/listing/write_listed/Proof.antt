@@ -6,8 +6,8 @@ use lib.ListN.{length}
 use borrow.Author.Needs.{needs}
 use Rattle.changes.proofs.Picking.{listedAt, bare-picked}
 use Rattle.changes.proofs.Writing.{one, cells-same, Writing, writing-start, writing-fits, writing-pass, writing-store, writing-all}
-use Rattle.changes.proofs.write_listed.Statement.{statement}
-use Rattle.changes.proofs.write_listed.Tie as tie
+use Rattle.changes.proofs.listing.write_listed.Statement.{statement}
+use Rattle.changes.proofs.listing.write_listed.Tie as tie
 
 abbrev Inv-loop : tie.InvT-loop
 Inv-loop positions lower-ends count start out₀ at₀ i₀ out at i = Writing one (listedAt start positions lower-ends) positions count out₀ out at i
@@ -62,7 +62,7 @@ loop-again-2 : tie.Need-loop-again-2 Inv-loop μ-loop
 loop-again-2 c = writing-pass (c .before .before .before .before .before .loop .inv) (c .before .before .before .before .loop-test .taken) (c .before .is-listed .ensures) (c .if1 .left)
 
 same-length : tie.Need-same-length Inv-loop μ-loop
-same-length c = c .before .loop .inv .laying .long
+same-length c = c .before .loop .inv .laying .front .long
 
 returns : tie.Need-returns Inv-loop μ-loop
 returns c = rw bare-picked (rw cells-same at (writing-all (c .before .loop .inv) (c .loop-test .left)))

@@ -7,12 +7,8 @@ use Rattle.frames.specs.declared.Message.the-variants.{Join}
 use Rattle.changes.proofs.Picking.{listedAt, bare-picked}
 use Rattle.changes.proofs.Writing.{Writing, writing-start, writing-pass, writing-all}
 use Rattle.changes.proofs.Framing.{framing, frames-cells, cells-length, join-length, frame-fits, frame-laid}
-use Rattle.changes.proofs.write_joins.Statement.{statement}
-use Rattle.changes.proofs.write_joins.Tie as tie
-use Rattle.changes.proofs.write_joins.Reads as reads
-use Rattle.changes.proofs.write_joins.Lts as lts
-use Rattle.changes.proofs.is_listed.Reads as is-listed-reads
-use Rattle.changes.proofs.write_join.Reads as write-join-reads
+use Rattle.changes.proofs.listing.write_joins.Statement.{statement}
+use Rattle.changes.proofs.listing.write_joins.Tie as tie
 
 abbrev Inv-loop : tie.InvT-loop
 Inv-loop n positions lower-ends count start out₀ at₀ i₀ out at i = Writing (framing (Join n)) (listedAt start positions lower-ends) positions count out₀ out at i
@@ -74,7 +70,7 @@ loop-again-2 : tie.Need-loop-again-2 Inv-loop μ-loop
 loop-again-2 c = writing-pass (c .before .before .before .before .before .loop .inv) (c .before .before .before .before .loop-test .taken) (c .before .is-listed .ensures) (c .if1 .left)
 
 same-length : tie.Need-same-length Inv-loop μ-loop
-same-length c = c .before .loop .inv .laying .long
+same-length c = c .before .loop .inv .laying .front .long
 
 returns : tie.Need-returns Inv-loop μ-loop
 returns c = rw (bare-picked, frames-cells) (writing-all (c .before .loop .inv) (c .loop-test .left))

@@ -1,8 +1,8 @@
 -- `is_listed` meets its contract: it is the test of stabbing.
 use mathlib.Core.Path.{refl}
 use Rattle.skyline.specs.Skyline.{stabbed}
-use Rattle.changes.proofs.is_listed.Statement.{statement}
-use Rattle.changes.proofs.is_listed.Tie as tie
+use Rattle.changes.proofs.listing.is_listed.Statement.{statement}
+use Rattle.changes.proofs.listing.is_listed.Tie as tie
 
 returns : tie.Need-returns
 unfolding stabbed

@@ -1,10 +1,7 @@
 use Rattle.frames.specs.Frames.{frame}
 use borrow.Author.Needs.{needs}
-use Rattle.changes.proofs.write_join.Statement.{statement}
-use Rattle.changes.proofs.write_join.Tie as tie
-use Rattle.changes.proofs.write_join.Reads as reads
-use Rattle.changes.proofs.write_join.Lts as lts
-use Rattle.changes.proofs.lay_change.Reads as lay-change-reads
+use Rattle.changes.proofs.frame.write_join.Statement.{statement}
+use Rattle.changes.proofs.frame.write_join.Tie as tie
 
 -- src/lib.rt:92:5
 lay-change-requires : tie.Need-lay-change-requires

@@ -5,8 +5,8 @@ use native.Mathlib.Omega.{arith}
 use lib.ListN.{length}
 use borrow.Author.Needs.{needs}
 use Rattle.changes.proofs.Picking.{byte-small, Counted, counted-start, counted-more, counted-all, listedAt, bare-picked}
-use Rattle.changes.proofs.count_listed.Statement.{statement}
-use Rattle.changes.proofs.count_listed.Tie as tie
+use Rattle.changes.proofs.listing.count_listed.Statement.{statement}
+use Rattle.changes.proofs.listing.count_listed.Tie as tie
 
 abbrev Inv-loop : tie.InvT-loop
 Inv-loop positions lower-ends count start n₀ i₀ n i = Counted (listedAt start positions lower-ends) positions count n i

@@ -7,10 +7,8 @@ use lib.ListN.{length, set, drop, length-set}
 use Rattle.lists.specs.Lists.{laid}
 use Rattle.frames.specs.Bytes.{bytes2, bytes4}
 use borrow.Author.Needs.{needs}
-use Rattle.changes.proofs.lay_change.Statement.{statement}
-use Rattle.changes.proofs.lay_change.Tie as tie
-use Rattle.changes.proofs.lay_change.Reads as reads
-use Rattle.changes.proofs.lay_change.Lts as lts
+use Rattle.changes.proofs.frame.lay_change.Statement.{statement}
+use Rattle.changes.proofs.frame.lay_change.Tie as tie
 
 seven : (k a b c d e f : ℕ) (out : List ℕ) → 7 ≤ length out
     → set (set (set (set (set (set (set out 0 k) 1 a) 2 b) 3 c) 4 d) 5 e) 6 f ≡ k ∷ a ∷ b ∷ c ∷ d ∷ e ∷ f ∷ drop 7 out

@@ -1,10 +1,7 @@
 use Rattle.frames.specs.Frames.{frame}
 use borrow.Author.Needs.{needs}
-use Rattle.changes.proofs.write_leave.Statement.{statement}
-use Rattle.changes.proofs.write_leave.Tie as tie
-use Rattle.changes.proofs.write_leave.Reads as reads
-use Rattle.changes.proofs.write_leave.Lts as lts
-use Rattle.changes.proofs.lay_change.Reads as lay-change-reads
+use Rattle.changes.proofs.frame.write_leave.Statement.{statement}
+use Rattle.changes.proofs.frame.write_leave.Tie as tie
 
 -- src/lib.rt:84:5
 lay-change-requires : tie.Need-lay-change-requires

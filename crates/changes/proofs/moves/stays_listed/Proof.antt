@@ -1,7 +1,7 @@
 -- `stays_listed` meets its contract: what its two callees ensure.
 use borrow.Author.Needs.{needs}
-use Rattle.changes.proofs.stays_listed.Statement.{statement}
-use Rattle.changes.proofs.stays_listed.Tie as tie
+use Rattle.changes.proofs.moves.stays_listed.Statement.{statement}
+use Rattle.changes.proofs.moves.stays_listed.Tie as tie
 
 rename-requires : tie.Need-rename-requires
 rename-requires c κs = search needs

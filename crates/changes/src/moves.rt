@@ -1,0 +1,163 @@
+// The changes that a quote makes to the list of one watch: counted, and written as frames.
+ghost use mathlib.Core.Path.{_≡_};
+ghost use Prim.Native.Nat.{_+_, _≤_};
+ghost use mathlib.Core.Bool.{false, _&&_};
+ghost use mathlib.Core.List.{[], map};
+ghost use lib.ListN.{length};
+ghost use Rattle.lists.specs.Lists.{laid};
+ghost use Rattle.skyline.specs.Skyline.{stabbed};
+ghost use Rattle.frames.specs.Frames.{frame};
+ghost use Rattle.model.specs.Rows.{renamed};
+ghost use Rattle.model.specs.Changes.{frames};
+ghost use Rattle.changes.specs.Swept.{swept, change, moving, joining, changed};
+use crate::frame::write_join;
+use crate::frame::write_leave;
+use crate::listing::is_listed;
+
+// A lower end once position gone has expired: 0 if it named that position.
+fn rename(gone: u32, lower: u32) -> u32
+    ensures { λ r. ⌜ r ≡ renamed gone lower ⌝ }
+{
+    if lower == gone {
+        return 0;
+    }
+    lower
+}
+
+// Whether a row stays and is on the list of the window that starts at after, once position gone has expired.
+fn stays_listed(keep: bool, gone: u32, after: u32, lower: u32, position: u32) -> bool
+    ensures { λ r. ⌜ r ≡ (keep && stabbed after (renamed gone lower) position) ⌝ }
+{
+    keep & is_listed(after, rename(gone, lower), position)
+}
+
+// How many positions leave or join the list of a window at a quote; before and after are the starts of the window.
+pub fn count_changes(
+    keep: &[bool],
+    positions: &[u32],
+    lower_ends: &[u32],
+    count: usize,
+    gone: u32,
+    before: u32,
+    after: u32,
+    newest: u32,
+    lower: u32,
+) -> usize
+    requires { ⌜ count ≤ length (now keep) ⌝ }
+    requires { ⌜ count ≤ length (now positions) ⌝ }
+    requires { ⌜ count ≤ length (now «lower_ends») ⌝ }
+    ensures { λ r. ⌜ r ≡ length (moving (swept (now (keep .entry)) (now (positions .entry)) (now («lower_ends» .entry)) count gone) before after false) + length (joining (swept (now (keep .entry)) (now (positions .entry)) (now («lower_ends» .entry)) count gone) before after newest lower) ⌝ }
+{
+    let mut n: usize = 0;
+    let mut i = 0;
+    while i < count {
+        let position = positions[i];
+        let lower_end = lower_ends[i];
+        let was = is_listed(before, lower_end, position);
+        let is = stays_listed(keep[i], gone, after, lower_end, position);
+        n += (was ^ is) as usize;
+        i += 1;
+    }
+    n + (lower < after) as usize
+}
+
+// Lays the frame of a join, or of a leave, of the watch of n.
+fn write_change(joins: bool, n: u16, position: u32, out: &mut [u8])
+    requires { ⌜ 7 ≤ length (now out) ⌝ }
+    ensures { λ r. ⌜ now (out .exit) ≡ laid (frame (change joins n position) []) (now (out .entry)) ⌝ }
+{
+    if joins {
+        write_join(n, position, out);
+    } else {
+        write_leave(n, position, out);
+    }
+}
+
+// Writes a join for each row that joins the list at a quote, or a leave for each that leaves it. Returns how many bytes.
+fn write_moves(
+    joins: bool,
+    n: u16,
+    keep: &[bool],
+    positions: &[u32],
+    lower_ends: &[u32],
+    count: usize,
+    gone: u32,
+    before: u32,
+    after: u32,
+    out: &mut [u8],
+) -> usize
+    requires { ⌜ count ≤ length (now keep) ⌝ }
+    requires { ⌜ count ≤ length (now positions) ⌝ }
+    requires { ⌜ count ≤ length (now «lower_ends») ⌝ }
+    requires { ⌜ length (frames (map (change joins n) (moving (swept (now keep) (now positions) (now «lower_ends») count gone) before after joins))) ≤ length (now out) ⌝ }
+    ensures { λ r. ⌜ r ≡ length (frames (map (change joins n) (moving (swept (now (keep .entry)) (now (positions .entry)) (now («lower_ends» .entry)) count gone) before after joins))) ⌝ }
+    ensures { λ r. ⌜ now (out .exit) ≡ laid (frames (map (change joins n) (moving (swept (now (keep .entry)) (now (positions .entry)) (now («lower_ends» .entry)) count gone) before after joins))) (now (out .entry)) ⌝ }
+{
+    let mut at: usize = 0;
+    let mut i = 0;
+    while i < count {
+        let position = positions[i];
+        let lower_end = lower_ends[i];
+        let was = is_listed(before, lower_end, position);
+        let is = stays_listed(keep[i], gone, after, lower_end, position);
+        i += 1;
+        if (was ^ is) & (is == joins) {
+            write_change(joins, n, position, &mut out[at..]);
+            at += 7;
+        }
+    }
+    at
+}
+
+// Writes the changes of the watch of n at a quote: the leaves, then the joins. Returns how many bytes.
+pub fn write_changes(
+    n: u16,
+    keep: &[bool],
+    positions: &[u32],
+    lower_ends: &[u32],
+    count: usize,
+    gone: u32,
+    before: u32,
+    after: u32,
+    newest: u32,
+    lower: u32,
+    out: &mut [u8],
+) -> usize
+    requires { ⌜ count ≤ length (now keep) ⌝ }
+    requires { ⌜ count ≤ length (now positions) ⌝ }
+    requires { ⌜ count ≤ length (now «lower_ends») ⌝ }
+    requires { ⌜ length (frames (changed (swept (now keep) (now positions) (now «lower_ends») count gone) before after newest lower n)) ≤ length (now out) ⌝ }
+    ensures { λ r. ⌜ r ≡ length (frames (changed (swept (now (keep .entry)) (now (positions .entry)) (now («lower_ends» .entry)) count gone) before after newest lower n)) ⌝ }
+    ensures { λ r. ⌜ now (out .exit) ≡ laid (frames (changed (swept (now (keep .entry)) (now (positions .entry)) (now («lower_ends» .entry)) count gone) before after newest lower n)) (now (out .entry)) ⌝ }
+{
+    let leaves = write_moves(
+        false,
+        n,
+        keep,
+        positions,
+        lower_ends,
+        count,
+        gone,
+        before,
+        after,
+        out,
+    );
+    let joins = write_moves(
+        true,
+        n,
+        keep,
+        positions,
+        lower_ends,
+        count,
+        gone,
+        before,
+        after,
+        &mut out[leaves..],
+    );
+    let at = leaves + joins;
+    if after <= lower {
+        return at;
+    }
+    write_join(n, newest, &mut out[at..]);
+    at + 7
+}
