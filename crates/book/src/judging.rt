@@ -12,7 +12,13 @@ use rows::torn_rows;
 use watches::torn;
 
 // Whether a table is shorter than the settings ask.
-pub fn short_tables(d: u32, capacity: u32, columns: &[u32], positions: &[u32], lower_ends: &[u32]) -> bool
+pub fn short_tables(
+    d: u32,
+    capacity: u32,
+    columns: &[u32],
+    positions: &[u32],
+    lower_ends: &[u32],
+) -> bool
     requires { ⌜ d ≤ 6 ⌝ }
     requires { ⌜ capacity ≤ 1024 ⌝ }
     ensures { λ r. ⌜ r ≡ shortTables (tables (now (columns .entry)) (now (positions .entry)) (now («lower_ends» .entry))) d capacity ⌝ }
@@ -52,7 +58,13 @@ pub fn judge(head: Head, columns: &[u32], positions: &[u32], lower_ends: &[u32])
     if !head.settings_hold() {
         return Answer::Refused(Refusal::Settings);
     }
-    if short_tables(head.dimensions, head.capacity, columns, positions, lower_ends) {
+    if short_tables(
+        head.dimensions,
+        head.capacity,
+        columns,
+        positions,
+        lower_ends,
+    ) {
         return Answer::Refused(Refusal::ShortLoan);
     }
     if torn_rows(head, positions, lower_ends) {
@@ -62,8 +74,18 @@ pub fn judge(head: Head, columns: &[u32], positions: &[u32], lower_ends: &[u32])
 }
 
 // The answer of a call on the tables and the watches, before what the call adds: 3, 11, 12.
-pub fn judge_watchful(head: Head, columns: &[u32], positions: &[u32], lower_ends: &[u32], watches: [u32; 8]) -> Answer
+pub fn judge_watchful(
+    head: Head,
+    columns: &[u32],
+    positions: &[u32],
+    lower_ends: &[u32],
+    watches: [u32; 8],
+) -> Answer
     ensures { λ r. ⌜ r ≡ watchfulAnswer head (tables (now (columns .entry)) (now (positions .entry)) (now («lower_ends» .entry))) watches [] ⌝ }
 {
-    with_test(judge(head, columns, positions, lower_ends), torn(head.capacity, watches), Refusal::Torn)
+    with_test(
+        judge(head, columns, positions, lower_ends),
+        torn(head.capacity, watches),
+        Refusal::Torn,
+    )
 }
