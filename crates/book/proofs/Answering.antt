@@ -151,9 +151,9 @@ module _ {a answer : Answer} (e : a ≡ answer) where
 
   module _ (f : a ≡ Accepted) where
     -- an accepted call hands back the next head and its count
-    pub accepted-reply : (h next : Head) {count n : ℕ} → n ≡ count → record { answer = a; head = next; count = n } ≡ replyOf answer h next count
+    pub accepted-reply : (h : Head) {next head : Head} {count n : ℕ} → head ≡ next → n ≡ count → record { answer = a; head = head; count = n } ≡ replyOf answer h next count
     unfolding replyOf settled
-    accepted-reply h next c = rw (← e, f, c)
+    accepted-reply h d c = rw (← e, f, d, c)
 
     -- and leaves what it says
     pub accepted-left : {A : Type 0} (x : A) {y z : A} → z ≡ y → z ≡ settled answer y x

@@ -1,8 +1,7 @@
 -- The list of n of a book, read off the cells, and a look: its answer, and what it leaves.
-use mathlib.Core.Path.{_≡_, ap, sym, _∙_}
+use mathlib.Core.Path.{_≡_, refl, ap, sym, _∙_}
 use Prim.Native.Nat.{ℕ, _≤_}
 use native.Mathlib.Omega.{arith}
-use mathlib.Core.Bool.{Bool}
 use mathlib.Core.List.{List, [], _∷_}
 use lib.Dec.{ltb}
 use lib.ListN.{length}
@@ -33,12 +32,6 @@ module _ (h : Head) (t : Tables) where
     pub list-cells : {start : ℕ} → start ≡ windowStart (h .newest) n → listed start (bareRows (t .positions) (t .lowerEnds) (h .rows)) ≡ listOf h (bookRows h t) n
     unfolding listOf bookRows
     list-cells e = rw e (bare-listed (windowStart (h .newest) n) (h .dimensions) (h .rows) t)
-
-    -- the tables judged, then n
-    pub size-judged : {a r : Answer} {test : Bool} → a ≡ answerOf h t [] → test ≡ outOfRange h n → r ≡ settled a (first ((test, WindowSize) ∷ [])) a
-        → r ≡ answerOf h t ((outOfRange h n, WindowSize) ∷ [])
-    unfolding answerOf
-    size-judged e o f = tested _ _ _ e o f
 
     module _ (room : ℕ) {a : Answer} (e : a ≡ answerOf h t ((outOfRange h n, WindowSize) ∷ [])) where
       -- refused by then, a look is refused
@@ -81,4 +74,4 @@ module _ (h : Head) (t : Tables) where
           → Looked h n t out (record { answer = a; head = h; count = count }) after
       unfolding lookReply lookOut lookCells
       look-done f s c l =
-          record { reply = accepted-reply e f h h (c ∙ ap length (list-cells s)); out = accepted-left e f out (l ∙ ap (λ (ps : List ℕ). laid ps out) (list-cells s)) }
+          record { reply = accepted-reply e f h refl (c ∙ ap length (list-cells s)); out = accepted-left e f out (l ∙ ap (λ (ps : List ℕ). laid ps out) (list-cells s)) }

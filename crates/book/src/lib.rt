@@ -1,5 +1,14 @@
 // The calls on a book: opening, quote, look, watch, end and audit, on lent tables.
 mod judging;
 mod looking;
+mod watching;
 
 pub use looking::look;
+pub use watching::end;
+use head::Reply;
+
+// What a call that may change the watches hands back: its reply, and the watches after it.
+pub struct WatchReply {
+    pub reply: Reply,
+    pub watches: [u32; 8],
+}

@@ -1,6 +1,7 @@
 -- `judge_size` meets its contract: the test of n stands behind those of the tables.
 use borrow.Author.Needs.{needs}
-use Rattle.book.proofs.Listing.{size-judged}
+use Rattle.model.specs.Book.{answerOf}
+use Rattle.book.proofs.Answering.{tested}
 use Rattle.book.proofs.looking.judge_size.Statement.{statement}
 use Rattle.book.proofs.looking.judge_size.Tie as tie
 
@@ -14,7 +15,8 @@ with-test-requires : tie.Need-with-test-requires
 with-test-requires c κs = search needs
 
 returns : tie.Need-returns
-returns c = size-judged _ _ _ (c .before .before .judge .ensures) (c .before .out-of-range .ensures) (c .with-test .ensures)
+unfolding answerOf
+returns c = tested _ _ _ (c .before .before .judge .ensures) (c .before .out-of-range .ensures) (c .with-test .ensures)
 
 pub judge-size-spec : {M : Type 1} → statement M
 judge-size-spec = tie.close (tie.spec judge-requires out-of-range-requires with-test-requires returns)
