@@ -83,3 +83,8 @@ module _ (s : Swept) (before after newest lower n : ℕ) where
   -- there is room for the rows' leaves and joins where there is room for all
   pub rows-fit : (room : ℕ) → length (frames (changed s before after newest lower n)) ≤ room → length (leaveFrames ++ joinFrames) ≤ room
   rows-fit room h = omega (arith, rw (changed-frames, length-append) at h)
+
+  pub changed-length : length (frames (changed s before after newest lower n)) ≡ 7 * (length (moving s before after false) + length (joining s before after newest lower))
+  unfolding changed
+  changed-length =
+      rw (frames-append, length-append, frames-cells (Leave n), frames-cells (Join n), cells-length (Leave n) (leave-length n), cells-length (Join n) (join-length n)) (omega arith)

@@ -3,3 +3,4 @@ pub mod Picking
 pub mod Writing
 pub mod Framing
 pub mod Moving
+pub mod Watching

@@ -1,6 +1,6 @@
 -- The rows that leave or join a list at a quote: their test, and how many they are.
 use mathlib.Core.Path.{_≡_, refl, sym, ap, _∙_}
-use Prim.Native.Nat.{ℕ, suc, _+_}
+use Prim.Native.Nat.{ℕ, suc, _+_, _≤_}
 use native.Mathlib.Omega.{arith}
 use mathlib.Core.Bool.{Bool, true, false, _&&_, not, Bool·beq}
 use mathlib.Core.List.{List, [], _∷_}
@@ -10,6 +10,7 @@ use mir.Val.{boolByte}
 use Rattle.lists.specs.Lists.{keep, filter, run}
 use Rattle.changes.specs.Picked.{picked}
 use Rattle.changes.specs.Swept.{Swept, wasListed, nowListed, moves, moving, joining}
+use Rattle.changes.proofs.Picking.{picked-few, byte-small}
 
 -- the tests differ
 abbrev pub differs : Bool → Bool → Bool
@@ -80,3 +81,9 @@ module _ (s : Swept) (before after : ℕ) where
       go : (b : Bool) → L + J + boolByte b ≡ L + (J + length (keep b newest []))
       go true = omega arith
       go false = omega arith
+
+  -- at most one change for each row, and one for the new row
+  pub few-changes : (newest lower : ℕ) → length (moving s before after false) + length (joining s before after newest lower) ≤ s .count + 1
+  few-changes newest lower =
+      rw (← counted-changes newest lower (length (picked changesAt (s .positions) (s .count))) refl)
+      (omega (arith, byte-small (ltb lower after), picked-few changesAt (s .positions) (s .count)))

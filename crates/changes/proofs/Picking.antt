@@ -6,11 +6,11 @@ use native.Mathlib.Numerals.{add-one}
 use native.Mathlib.Omega.{arith}
 use mathlib.Core.Bool.{Bool, true, false}
 use mathlib.Core.List.{List, [], _∷_, _++_, map, append-nil}
-use lib.ListN.{length, getD, length-append}
+use lib.ListN.{length, getD, length-append, length-map}
 use mir.Val.{boolByte}
 use Rattle.lists.specs.Lists.{keep, filter, run}
-use Rattle.lists.proofs.Filters.{filter-append, filter-map, map-append, map-map}
-use Rattle.lists.proofs.Runs.{run-snoc}
+use Rattle.lists.proofs.Filters.{filter-append, length-filter, filter-map, map-append, map-map}
+use Rattle.lists.proofs.Runs.{length-run, run-snoc}
 use Rattle.skyline.specs.Skyline.{stabbed}
 use Rattle.model.specs.Rows.{Row, Tables, rowAt, rowsIn, listed}
 use Rattle.changes.specs.Picked.{picked, bareRows}
@@ -37,6 +37,10 @@ module _ (test : ℕ → Bool) (positions : List ℕ) where
 
   pub picked-passed : (i : ℕ) → test i ≡ false → picked test positions (i + 1) ≡ picked test positions i
   picked-passed i e = rw (picked-more, e, append-nil)
+
+  pub picked-few : (count : ℕ) → length (picked test positions count) ≤ count
+  unfolding picked
+  picked-few count = simp length-map (omega (arith, length-filter test (run 0 count), length-run 0 count))
 
 pub byte-small : (b : Bool) → boolByte b ≤ 1
 byte-small true = omega arith

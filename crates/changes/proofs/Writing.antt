@@ -1,16 +1,14 @@
 -- A loop that writes the positions it picks, each as cells, one behind the other: its invariant and its turns.
 use mathlib.Core.Path.{_≡_, refl, sym, ap, _∙_}
 use Prim.Native.Nat.{ℕ, _+_, _-_, _≤_, _<_}
-use native.Mathlib.Decide.{le-ind}
-use native.Mathlib.Numerals.{add-one}
 use native.Mathlib.Omega.{arith}
 use mathlib.Core.Bool.{Bool, true, false}
 use mathlib.Core.List.{List, [], _∷_, _++_, map, append-nil}
-use lib.ListN.{length, getD, set, length-append}
+use lib.ListN.{length, getD, set}
 use borrow.Rule.Slice.PartMut.{midOf, putMid}
-use Rattle.lists.specs.Lists.{flat, laid}
+use Rattle.lists.specs.Lists.{keep, flat, laid}
 use Rattle.lists.proofs.Filters.{flat-append, map-append}
-use Rattle.lists.proofs.Laying.{Laying, laying-start, laying-pass, laying-room, laying-store, laying-more, laying-all}
+use Rattle.lists.proofs.Laying.{grows, Laying, laying-start, laying-pass, laying-room, laying-store, laying-more, laying-all}
 use Rattle.changes.specs.Picked.{picked}
 use Rattle.changes.proofs.Picking.{picked-none, picked-more, picked-took, picked-passed}
 
@@ -35,11 +33,9 @@ unfolding flat
 cells-same [] = refl
 cells-same (p ∷ l) = ap (λ (r : List ℕ). p ∷ r) (cells-same l)
 
-cells-grow : (encode : ℕ → List ℕ) (test : ℕ → Bool) (positions : List ℕ) (i n : ℕ) → i ≤ n
-    → length (cells encode (picked test positions i)) ≤ length (cells encode (picked test positions n))
-cells-grow encode test positions i n h =
-    le-ind (λ (k : ℕ). length (cells encode (picked test positions i)) ≤ length (cells encode (picked test positions k))) (omega arith)
-    (λ k _ q. rw (← add-one, picked-more, cells-append, length-append) (omega arith)) n h
+cells-more : (encode : ℕ → List ℕ) (test : ℕ → Bool) (positions : List ℕ) (i : ℕ)
+    → cells encode (picked test positions (i + 1)) ≡ cells encode (picked test positions i) ++ cells encode (keep (test i) (getD positions i 0) [])
+cells-more encode test positions i = rw (picked-more, cells-append)
 
 -- the positions picked at the places below i stand as cells at the front of the output
 pub record Writing (encode : ℕ → List ℕ) (test : ℕ → Bool) (positions : List ℕ) (count : ℕ) (entry out : List ℕ) (at i : ℕ) : Type 0 where
@@ -63,7 +59,9 @@ module _ {encode : ℕ → List ℕ} {test : ℕ → Bool} {positions : List ℕ
       ∙ ap (λ (r : List ℕ). cells encode (picked test positions i) ++ r) (cells-one encode (getD positions i 0))
 
   grown : length (cells encode (picked test positions (i + 1))) ≤ length (cells encode (picked test positions count))
-  grown = cells-grow encode test positions (i + 1) count (omega arith)
+  grown =
+      grows (λ k. cells encode (picked test positions k)) (λ k. cells encode (keep (test k) (getD positions k 0) [])) (cells-more encode test positions) (i + 1) count
+      (omega arith)
 
   -- where the position at i is picked, there is room for its cells
   pub writing-fits : b ≡ true → at + length next ≤ length out

@@ -1,10 +1,12 @@
 // The list that rows make by their lower ends, and the changes that a quote makes to the lists of the watches: counted and written.
-mod frame;
 mod listing;
 mod moves;
+mod watches;
 
 pub use listing::count_listed;
 pub use listing::write_joins;
 pub use listing::write_listed;
 pub use moves::count_changes;
 pub use moves::write_changes;
+pub use watches::count_all_changes;
+pub use watches::write_all_changes;

@@ -9,7 +9,7 @@ ghost use Rattle.frames.specs.declared.Message.the-variants.{Join};
 ghost use Rattle.model.specs.Rows.{listed};
 ghost use Rattle.model.specs.Changes.{frames};
 ghost use Rattle.changes.specs.Picked.{bareRows};
-use crate::frame::write_join;
+use frames::write_join;
 
 // Whether a row is on the list of the window that starts at start.
 pub fn is_listed(start: u32, lower: u32, position: u32) -> bool

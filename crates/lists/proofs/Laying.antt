@@ -1,7 +1,8 @@
 -- Lists laid one behind the other into a lent output: the law of one more, and the invariant of a loop that lays them.
 use mathlib.Core.Path.{_≡_, refl, sym, ap, _∙_}
 use Prim.Native.Nat.{ℕ, suc, _+_, _-_, _≤_, _<_}
-use native.Mathlib.Nat.{le-antisymm}
+use native.Mathlib.Nat.{le-refl, le-antisymm}
+use native.Mathlib.Decide.{le-ind}
 use native.Mathlib.Numerals.{add-one}
 use native.Mathlib.Omega.{arith}
 use mathlib.Core.List.{List, [], _∷_, _++_, append-assoc, append-nil}
@@ -62,6 +63,12 @@ module _ {xs entry out : List ℕ} {at : ℕ} (v : Front xs entry out at) where
         place = rw length-append (omega arith);
         cells = cells;
       }
+
+-- what grows by a piece at a time never gets shorter
+pub grows : (whole piece : ℕ → List ℕ) → ((k : ℕ) → whole (k + 1) ≡ whole k ++ piece k) → (i n : ℕ) → i ≤ n → length (whole i) ≤ length (whole n)
+grows whole piece e i n h =
+    le-ind (λ (k : ℕ). length (whole i) ≤ length (whole k)) (le-refl (length (whole i)))
+    (λ k _ q. rw (← add-one, e k, length-append) (omega arith)) n h
 
 -- after i turns of a loop that lays `whole` into an output, a part a turn: what the first i turns lay stands at the front
 pub record Laying (whole : ℕ → List ℕ) (turns : ℕ) (entry out : List ℕ) (at i : ℕ) : Type 0 where

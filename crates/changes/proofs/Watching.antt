@@ -1,0 +1,145 @@
+-- Laws of the frames of watch records: an empty record has none, and the frames of several stand one behind the other.
+use mathlib.Core.Path.{_≡_, refl, sym, ap, _∙_}
+use Prim.Native.Nat.{ℕ, zero, suc, _+_, _-_, _*_, _≤_, _<_}
+use native.Mathlib.Nat.{suc-add}
+use native.Mathlib.Decide.{decLt}
+use native.Mathlib.Omega.{arith}
+use mathlib.Core.Bool.{Bool, true, false, _&&_, not, cond}
+use mathlib.Core.List.{List, [], _∷_, _++_, append-assoc, append-nil}
+use lib.Dec.{ltb, leb, eqb}
+use lib.ListN.{length, getD, take, length-append}
+use lib.Seq.{take-nil, take-all, getD-take}
+use borrow.Author.Tests.{lt-ltb, ltb-false, leb-true, eqb-true, eq-eqb, ne-eqb, not-true, not-false}
+use borrow.Rule.Slice.PartMut.{midOf, putMid}
+use Rattle.lists.specs.Lists.{flat, any, laid}
+use Rattle.lists.proofs.Booleans.{and-left, and-right, none-left, none-right}
+use Rattle.lists.proofs.Laying.{grows, Laying, laying-start, laying-room, laying-rest, laying-more, laying-all}
+use Rattle.skyline.specs.Skyline.{windowStart}
+use Rattle.head.specs.declared.Head.{Head}
+use Rattle.head.specs.Heads.{afterQuote, lastPosition}
+use Rattle.model.specs.Changes.{frames}
+use Rattle.model.specs.Book.{ordered, tornWatches}
+use Rattle.changes.specs.Swept.{Swept, moving, joining, changed}
+use Rattle.changes.specs.Watches.{watchFrames, allFrames}
+use Rattle.changes.proofs.Framing.{changed-length}
+use Rattle.changes.proofs.Moving.{few-changes}
+
+-- below the last position a quote moves the newest position on
+pub after-newest : (h next : Head) (rows : ℕ) → next ≡ afterQuote h rows → h .newest < lastPosition → next .newest ≡ h .newest + 1
+unfolding afterQuote
+after-newest h next rows e l = ap Head.newest e ∙ rw (lt-ltb (h .newest) lastPosition l)
+
+module _ (s : Swept) (newest lower n : ℕ) where
+  pub watch-none : n ≡ 0 → watchFrames s newest lower n ≡ []
+  unfolding watchFrames
+  watch-none e = rw (eq-eqb n 0 e)
+
+  pub watch-some : (n ≡ 0 → ⊥) → (before after : ℕ) → before ≡ windowStart newest n → after ≡ windowStart (newest + 1) n
+      → watchFrames s newest lower n ≡ frames (changed s before after (newest + 1) lower n)
+  unfolding watchFrames
+  watch-some e before after p q = rw (ne-eqb n 0 e, p, q)
+
+  pub watch-length : (n ≡ 0 → ⊥) → (before after : ℕ) → before ≡ windowStart newest n → after ≡ windowStart (newest + 1) n
+      → length (watchFrames s newest lower n) ≡ 7 * (length (moving s before after false) + length (joining s before after (newest + 1) lower))
+  watch-length e before after p q = ap length (watch-some e before after p q) ∙ changed-length s before after (newest + 1) lower n
+
+  -- at most one change for each row and the new one, seven bytes each
+  pub watch-small : length (watchFrames s newest lower n) ≤ 7 * (s .count + 1)
+  watch-small = go (decLt 0 n)
+    where
+      B : ℕ
+      B = windowStart newest n
+
+      A : ℕ
+      A = windowStart (newest + 1) n
+
+      go : Dec (0 < n) → length (watchFrames s newest lower n) ≤ 7 * (s .count + 1)
+      go (yes h) = rw (watch-length (λ e. omega arith) B A refl refl) (omega (arith, few-changes s B A (newest + 1) lower))
+      go (no h) = rw (watch-none (omega arith)) (omega arith)
+
+module _ (s : Swept) (newest lower : ℕ) where
+  pub all-none : allFrames s newest lower [] ≡ []
+  unfolding allFrames flat
+  all-none = refl
+
+  -- the frames of one more watch record
+  pub all-more : (ws : List ℕ) (i : ℕ) → allFrames s newest lower (take (i + 1) ws) ≡ allFrames s newest lower (take i ws) ++ watchFrames s newest lower (getD ws i 0)
+  unfolding allFrames flat
+  all-more [] i = rw (take-nil (i + 1), take-nil i, watch-none s newest lower 0 refl)
+  all-more (w ∷ ws) zero = append-nil (watchFrames s newest lower w)
+  all-more (w ∷ ws) (suc i) = rw (suc-add, all-more ws i, append-assoc)
+
+-- the frames of the first i of eight watch records stand at the front of the output
+pub record Written (s : Swept) (newest lower : ℕ) (ws entry out : List ℕ) (at i : ℕ) : Type 0 where
+  pub laying : Laying (λ k. allFrames s newest lower (take k ws)) 8 entry out at i
+
+pub written-start : (s : Swept) (newest lower : ℕ) (ws entry : List ℕ) → length ws ≡ 8 → length (allFrames s newest lower ws) ≤ length entry → Written s newest lower ws entry entry 0 0
+written-start s newest lower ws entry n h =
+    record { laying = laying-start (λ k. allFrames s newest lower (take k ws)) 8 entry (rw (take-all 8 ws (omega arith)) h) (all-none s newest lower) }
+
+module _ {s : Swept} {newest lower : ℕ} {ws entry out : List ℕ} {at i : ℕ} (v : Written s newest lower ws entry out at i) (h : i < 8) where
+  abbrev next : List ℕ
+  next = watchFrames s newest lower (getD ws i 0)
+
+  grown : length (allFrames s newest lower (take (i + 1) ws)) ≤ length (allFrames s newest lower (take 8 ws))
+  grown = grows (λ k. allFrames s newest lower (take k ws)) (λ k. watchFrames s newest lower (getD ws k 0)) (all-more s newest lower ws) (i + 1) 8 (omega arith)
+
+  -- there is room for the frames of the next record
+  pub written-fits : at + length next ≤ length out
+  written-fits = laying-room (v .laying) h next (all-more s newest lower ws i) grown
+
+  pub written-rest : length next ≤ length (midOf at (length out - at) out)
+  written-rest = laying-rest (v .laying) h next (all-more s newest lower ws i) grown
+
+  -- a turn that lays them into the rest of the output
+  pub written-more : {last : List ℕ} {used : ℕ} → used ≡ length next → last ≡ laid next (midOf at (length out - at) out)
+      → Written s newest lower ws entry (putMid at (length out - at) out last) (at + used) (i + 1)
+  written-more u l = record { laying = laying-more (v .laying) h next (all-more s newest lower ws i) grown u l }
+
+pub written-all : {s : Swept} {newest lower : ℕ} {ws entry out : List ℕ} {at i : ℕ} → Written s newest lower ws entry out at i → 8 ≤ i → length ws ≡ 8
+    → (at ≡ length (allFrames s newest lower ws)) × (out ≡ laid (allFrames s newest lower ws) entry)
+written-all {ws = ws} v h n = rw (take-all 8 ws (omega arith)) at (laying-all (v .laying) h)
+
+-- eight watch records are counted up to i, each with its bytes; count is below 2 ^ 32
+pub record Summed (s : Swept) (newest lower : ℕ) (ws : List ℕ) (sum i : ℕ) : Type 0 where
+  pub within : i ≤ 8
+  pub small : sum ≤ 30064771072 * i
+  pub total : sum ≡ length (allFrames s newest lower (take i ws))
+
+pub summed-start : (s : Swept) (newest lower : ℕ) (ws : List ℕ) → Summed s newest lower ws 0 0
+summed-start s newest lower ws = record { within = omega arith; small = omega arith; total = ap length (sym (all-none s newest lower)) }
+
+pub summed-more : {s : Swept} {newest lower : ℕ} {ws : List ℕ} {sum i r : ℕ} → Summed s newest lower ws sum i → i < 8 → s .count < 4294967296
+    → r ≡ length (watchFrames s newest lower (getD ws i 0)) → Summed s newest lower ws (sum + r) (i + 1)
+summed-more {s} {newest} {lower} {ws} {sum} {i} {r} v h k e = record {
+  within = omega arith;
+  small = omega (arith, watch-small s newest lower (getD ws i 0));
+  total = rw (all-more s newest lower ws i, length-append, e, v .total);
+}
+
+pub summed-all : {s : Swept} {newest lower : ℕ} {ws : List ℕ} {sum i : ℕ} → Summed s newest lower ws sum i → 8 ≤ i → length ws ≡ 8
+    → sum ≡ length (allFrames s newest lower ws)
+summed-all {ws = ws} {i = i} v h n = v .total ∙ rw (take-all i ws (omega arith))
+
+none-above : (ws : List ℕ) (i : ℕ) → any (ltb 0) ws ≡ false → getD ws i 0 ≡ 0
+unfolding any
+none-above [] i e = refl
+none-above (w ∷ ws) zero e = omega (arith, ltb-false 0 w (none-left (ltb 0 w) (any (ltb 0) ws) e))
+none-above (w ∷ ws) (suc i) e = none-above ws i (none-right (ltb 0 w) (any (ltb 0) ws) e)
+
+ordered-below : (lo N : ℕ) (ws : List ℕ) (i : ℕ) → ordered lo N ws ≡ true → getD ws i 0 ≤ N
+unfolding ordered
+ordered-below lo N [] i e = omega arith
+ordered-below lo N (w ∷ ws) i e = go (eqb w 0) refl e i (λ f j. ordered-below (suc w) N ws j f)
+  where
+    go : (b : Bool) → eqb w 0 ≡ b → cond b (not (any (ltb 0) ws)) (leb lo w && leb w N && ordered (suc w) N ws) ≡ true → (i : ℕ)
+        → (ordered (suc w) N ws ≡ true → (j : ℕ) → getD ws j 0 ≤ N) → getD (w ∷ ws) i 0 ≤ N
+    go true q f zero r = omega (arith, eqb-true w 0 q)
+    go true q f (suc j) r = omega (arith, none-above ws j (not-true (any (ltb 0) ws) f))
+    go false q f zero r = leb-true w N (and-right (leb lo w) (leb w N) (and-left (leb lo w && leb w N) (ordered (suc w) N ws) f))
+    go false q f (suc j) r = r (and-right (leb lo w && leb w N) (ordered (suc w) N ws) f) j
+
+-- no watch record is above N
+pub watch-below : (N : ℕ) (ws : List ℕ) (i : ℕ) → tornWatches N ws ≡ false → i < 8 → getD ws i 0 ≤ N
+unfolding tornWatches
+watch-below N ws i e h = rw (← getD-take 8 ws i 0 h) (ordered-below 1 N (take 8 ws) i (not-false (ordered 1 N (take 8 ws)) e))

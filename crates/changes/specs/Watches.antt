@@ -1,0 +1,19 @@
+-- The changes that a quote makes to the lists of all watches, as frames.
+use Prim.Native.Nat.{ℕ, _+_}
+use mathlib.Core.Bool.{cond}
+use mathlib.Core.List.{List, [], map}
+use lib.Dec.{eqb}
+use Rattle.lists.specs.Lists.{flat}
+use Rattle.skyline.specs.Skyline.{windowStart}
+use Rattle.model.specs.Changes.{frames}
+use Rattle.changes.specs.Swept.{Swept, changed}
+
+-- newest: the newest position before the quote; lower: the new row's lower end
+module _ (s : Swept) (newest lower : ℕ) where
+  -- the frames of the watch record n; 0 is an empty record
+  unfoldable pub watchFrames : ℕ → List ℕ
+  watchFrames n = cond (eqb n 0) [] (frames (changed s (windowStart newest n) (windowStart (newest + 1) n) (newest + 1) lower n))
+
+  -- the frames of these watch records, each behind the one before
+  unfoldable pub allFrames : List ℕ → List ℕ
+  allFrames watches = flat (map watchFrames watches)
