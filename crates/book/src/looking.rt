@@ -1,29 +1,19 @@
 // The look: the list of n written into lent cells.
 ghost use mathlib.Core.Path.{_≡_};
-ghost use Prim.Native.Nat.{_≤_};
 ghost use mathlib.Core.List.{[], _∷_};
-ghost use Rattle.skyline.specs.Skyline.{windowStart};
 ghost use Rattle.head.specs.declared.Refusal.the-variants.{WindowSize};
-ghost use Rattle.head.specs.Heads.{lastPosition};
 ghost use Rattle.model.specs.Book.{answerOf, outOfRange, lookAnswer};
 ghost use Rattle.book.specs.Left.{tables, Looked};
 use crate::judging::judge;
 use crate::judging::out_of_range;
 use crate::judging::with_test;
 use changes::count_listed;
+use changes::start_of;
 use changes::write_listed;
 use head::Answer;
 use head::Head;
 use head::Refusal;
 use head::Reply;
-
-// The first position of the window of n, as a position.
-pub fn window_start(head: Head, n: u32) -> u32
-    requires { ⌜ head .newest ≤ lastPosition ⌝ }
-    ensures { λ r. ⌜ r ≡ windowStart (head .newest) n ⌝ }
-{
-    head.window_start(n) as u32
-}
 
 // The answer of a look but for the output: 3, 11, 12, 5.
 fn judge_size(head: Head, n: u32, columns: &[u32], positions: &[u32], lower_ends: &[u32]) -> Answer
@@ -58,7 +48,7 @@ fn judge_look(
         positions,
         lower_ends,
         head.rows as usize,
-        window_start(head, n),
+        start_of(head, n),
     );
     with_test(answer, room < count, Refusal::ShortOutput)
 }
@@ -89,7 +79,7 @@ pub fn look(
         positions,
         lower_ends,
         head.rows as usize,
-        window_start(head, n),
+        start_of(head, n),
         out,
     );
     Reply {

@@ -9,4 +9,5 @@ pub use listing::write_listed;
 pub use moves::count_changes;
 pub use moves::write_changes;
 pub use watches::count_all_changes;
+pub use watches::start_of;
 pub use watches::write_all_changes;

@@ -21,8 +21,8 @@ returns c = look-stays _ _ _ _ (c .before .before .judge-size .ensures) (c .enum
 cast-count-listed : tie.Need-cast-count-listed
 cast-count-listed c = search needs
 
-window-start-requires : tie.Need-window-start-requires
-window-start-requires c κs =
+start-of-requires : tie.Need-start-of-requires
+start-of-requires c κs =
     answer-passed _ _ _ (sym (c .before .before .before .judge-size .ensures) ∙ c .before .enum-told .given .1) .0 .whole .low-newest
 
 count-listed-requires : tie.Need-count-listed-requires
@@ -34,7 +34,7 @@ with-test-requires c κs = search needs
 
 returns-2 : tie.Need-returns-2
 returns-2 c =
-    look-judged _ _ _ _ (c .before .before .before .before .before .before .judge-size .ensures) (c .before .before .window-start .ensures) (c .before .count-listed .ensures) (c .with-test .ensures)
+    look-judged _ _ _ _ (c .before .before .before .before .before .before .judge-size .ensures) (c .before .before .start-of .ensures) (c .before .count-listed .ensures) (c .with-test .ensures)
 
 pub judge-look-spec : {M : Type 1} → statement M
 judge-look-spec =
@@ -45,7 +45,7 @@ judge-look-spec =
     enum-told-2
     returns
     cast-count-listed
-    window-start-requires
+    start-of-requires
     count-listed-requires
     with-test-requires
     returns-2)

@@ -19,12 +19,12 @@ returns c = look-refused _ _ _ _ (c .before .before .judge-look .ensures) (c .en
 cast-write-listed : tie.Need-cast-write-listed
 cast-write-listed c = search needs
 
-window-start-requires : tie.Need-window-start-requires
-window-start-requires c κs = look-passed _ _ _ (c .before .before .before .judge-look .ensures) (c .before .enum-told .given .1) .0 .whole .low-newest
+start-of-requires : tie.Need-start-of-requires
+start-of-requires c κs = look-passed _ _ _ (c .before .before .before .judge-look .ensures) (c .before .enum-told .given .1) .0 .whole .low-newest
 
 write-listed-requires : tie.Need-write-listed-requires
 write-listed-requires c κs =
-    look-fits _ _ _ (c .before .before .before .before .before .judge-look .ensures) (c .before .before .before .enum-told .given .1) (c .before .window-start .ensures)
+    look-fits _ _ _ (c .before .before .before .before .before .judge-look .ensures) (c .before .before .before .enum-told .given .1) (c .before .start-of .ensures)
 
 same-length : tie.Need-same-length
 same-length c = search needs
@@ -33,7 +33,7 @@ returns-2 : tie.Need-returns-2
 returns-2 c =
     let known = c .before .before in
     look-done _ _ _ _ (known .before .before .before .before .before .before .judge-look .ensures) (known .before .before .before .before .enum-told .given .1)
-    (known .before .before .window-start .ensures) (known .write-listed .ensures .0) (known .write-listed .ensures .1)
+    (known .before .before .start-of .ensures) (known .write-listed .ensures .0) (known .write-listed .ensures .1)
 
 pub look-spec : {M : Type 1} → statement M
 look-spec =
@@ -44,7 +44,7 @@ look-spec =
     enum-told-2
     returns
     cast-write-listed
-    window-start-requires
+    start-of-requires
     write-listed-requires
     same-length
     returns-2)
