@@ -136,6 +136,17 @@ module _ (h : Head) (t : Tables) where
       let r = accepted-passed (torn h t) Torn more (l .1) in
       (passed (not-false (held h t) (s .0)) (l .0) (r .0), r .1)
 
+  -- an accepted call on the tables and the watches
+  pub watchful-passed : (ws : List ℕ) (more : List (Bool × Refusal)) → watchfulAnswer h t ws more ≡ Accepted → Passed h t × (tornWatches (h .capacity) ws ≡ false) × (first more ≡ Accepted)
+  unfolding watchfulAnswer shortLoan
+  watchful-passed ws more e =
+      let few = ltb (length ws) 8 in
+      let unordered = tornWatches (h .capacity) ws in
+      let s = accepted-passed (not (held h t)) Settings ((short h t || few, ShortLoan) ∷ (torn h t || unordered, Torn) ∷ more) e in
+      let l = accepted-passed (short h t || few) ShortLoan ((torn h t || unordered, Torn) ∷ more) (s .1) in
+      let r = accepted-passed (torn h t || unordered) Torn more (l .1) in
+      (passed (not-false (held h t) (s .0)) (none-left (short h t) few (l .0)) (none-left (torn h t) unordered (r .0)), none-right (torn h t) unordered (r .0), r .1)
+
 -- ---- what a call leaves
 module _ {a answer : Answer} (e : a ≡ answer) where
   module _ {k : Refusal} (f : a ≡ Refused k) where

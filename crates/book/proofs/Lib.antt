@@ -1,3 +1,4 @@
 -- The laws of the crate.
 pub mod Answering
 pub mod Listing
+pub mod Watches

@@ -2,30 +2,46 @@
 use mathlib.Core.Path.{_≡_, refl, ap, sym, _∙_}
 use Prim.Native.Nat.{ℕ, _≤_}
 use native.Mathlib.Omega.{arith}
-use mathlib.Core.List.{List, [], _∷_}
+use mathlib.Core.Bool.{Bool}
+use mathlib.Core.List.{List, []}
 use lib.Dec.{ltb}
-use lib.ListN.{length}
+use lib.ListN.{length, length-map}
 use borrow.Author.Tests.{ltb-false}
-use Rattle.lists.specs.Lists.{laid}
-use Rattle.skyline.specs.Skyline.{windowStart}
+use Rattle.lists.specs.Lists.{filter, laid}
+use Rattle.lists.proofs.Filters.{length-filter}
+use Rattle.skyline.specs.Skyline.{windowStart, stabbed}
 use Rattle.head.specs.declared.Head.{Head}
 use Rattle.head.specs.declared.Answer.{Answer}
 use Rattle.head.specs.declared.Answer.the-variants.{Accepted, Refused}
 use Rattle.head.specs.declared.Refusal.{Refusal}
 use Rattle.head.specs.declared.Refusal.the-variants.{WindowSize, ShortOutput}
-use Rattle.head.specs.Refusals.{first, settled}
 use Rattle.head.proofs.Answers.{accepted-passed}
-use Rattle.model.specs.Rows.{Tables, listed}
-use Rattle.model.specs.Book.{bookRows, listOf, answerOf, outOfRange, lookCells, lookAnswer, lookReply, lookOut}
+use Rattle.model.specs.Rows.{Row, Tables, rowsIn, listed}
+use Rattle.model.specs.Book.{bookRows, listOf, outOfRange, lookCells, lookAnswer, lookReply, lookOut}
+use Rattle.rows.proofs.Reading.{length-rows}
 use Rattle.changes.specs.Picked.{bareRows}
 use Rattle.changes.proofs.Picking.{bare-listed}
 use Rattle.book.specs.Left.{Looked}
-use Rattle.book.proofs.Answering.{Passed, tested, stays, answer-passed, refused-reply, refused-left, accepted-reply, accepted-left}
+use Rattle.book.proofs.Answering.{Passed, answer-passed, refused-reply, refused-left, accepted-reply, accepted-left}
 
 module _ (h : Head) (t : Tables) where
   -- the rows of a book that passed stand in its cells
   pub rows-stand : Passed h t → (h .rows ≤ length (t .positions)) × (h .rows ≤ length (t .lowerEnds))
   rows-stand p = omega arith
+
+  -- and at most so many are listed
+  pub few-listed : Passed h t → (start : ℕ) {count : ℕ} → count ≡ length (listed start (bareRows (t .positions) (t .lowerEnds) (h .rows))) → count ≤ 1024
+  unfolding listed bareRows
+  few-listed p start c = omega (arith, c, length-map (filter test rs) Row.position, length-filter test rs, length-rows 0 (h .rows) bare)
+    where
+      bare : Tables
+      bare = record { columns = []; positions = t .positions; lowerEnds = t .lowerEnds }
+
+      rs : List Row
+      rs = rowsIn 0 (h .rows) bare
+
+      test : Row → Bool
+      test r = stabbed start (r .lowerEnd) (r .position)
 
   module _ (n : ℕ) where
     -- the list of n by the cells of the tables
@@ -33,17 +49,10 @@ module _ (h : Head) (t : Tables) where
     unfolding listOf bookRows
     list-cells e = rw e (bare-listed (windowStart (h .newest) n) (h .dimensions) (h .rows) t)
 
-    module _ (room : ℕ) {a : Answer} (e : a ≡ answerOf h t ((outOfRange h n, WindowSize) ∷ [])) where
-      -- refused by then, a look is refused
-      pub look-stays : {k : Refusal} → a ≡ Refused k → a ≡ lookAnswer h n t room
-      unfolding answerOf lookAnswer
-      look-stays f = stays _ _ e f
-
-      -- else the list's length and the room decide
-      pub look-judged : {r : Answer} {start count : ℕ} → start ≡ windowStart (h .newest) n → count ≡ length (listed start (bareRows (t .positions) (t .lowerEnds) (h .rows)))
-          → r ≡ settled a (first ((ltb room count, ShortOutput) ∷ [])) a → r ≡ lookAnswer h n t room
-      unfolding answerOf lookAnswer lookCells
-      look-judged s c f = tested _ _ _ e (ap (ltb room) (c ∙ ap length (list-cells s))) f
+    -- a list counted off the cells is too long for the output exactly if the list is
+    pub list-room : (room : ℕ) {start count : ℕ} → start ≡ windowStart (h .newest) n → count ≡ length (listed start (bareRows (t .positions) (t .lowerEnds) (h .rows)))
+        → ltb room count ≡ ltb room (length (listOf h (bookRows h t) n))
+    list-room room s c = rw (c, list-cells s)
 
     -- an accepted look: the tables passed, and the list has room
     pub look-passed : {room : ℕ} {a : Answer} → a ≡ lookAnswer h n t room → a ≡ Accepted → Passed h t × (length (listOf h (bookRows h t) n) ≤ room)

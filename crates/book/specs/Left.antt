@@ -1,9 +1,13 @@
 -- What each call leaves: its reply and the final contents of everything lent, as the book model says.
 use mathlib.Core.Path.{_≡_}
 use Prim.Native.Nat.{ℕ}
-use mathlib.Core.List.{List}
+use mathlib.Core.List.{List, [], _∷_}
+use lib.Dec.{leb}
 use lib.ListN.{length}
+use Rattle.lists.specs.Lists.{contains}
+use Rattle.head.specs.declared.Answer.{Answer}
 use Rattle.head.specs.declared.Head.{Head}
+use Rattle.head.specs.declared.Refusal.the-variants.{WindowSize, AlreadyWatched, NoFreeRecord}
 use Rattle.head.specs.declared.Reply.{Reply}
 use Rattle.model.specs.Rows.{Tables}
 use Rattle.model.specs.Book
@@ -28,6 +32,11 @@ pub record Quoted (h : Head) (x : List ℕ) (t : Tables) (ws before : List ℕ) 
 pub record Looked (h : Head) (n : ℕ) (t : Tables) (before : List ℕ) (r : Reply) (after : List ℕ) : Type 0 where
   pub reply : r ≡ Book.lookReply h n t (length before)
   pub out : after ≡ Book.lookOut h n t before
+
+-- the answer of a watch of n but for the output: 3, 11, 12, 5, 8, 9
+unfoldable pub recordAnswer : Head → ℕ → Tables → List ℕ → Answer
+recordAnswer h n t ws =
+    Book.watchfulAnswer h t ws ((Book.outOfRange h n, WindowSize) ∷ (contains n (Book.standing ws), AlreadyWatched) ∷ (leb 8 (length (Book.standing ws)), NoFreeRecord) ∷ [])
 
 -- what a watch of n leaves of watches ws and output
 pub record Watched (h : Head) (n : ℕ) (t : Tables) (ws before : List ℕ) (r : Reply) (ws' after : List ℕ) : Type 0 where

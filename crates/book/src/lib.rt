@@ -3,9 +3,10 @@ mod judging;
 mod looking;
 mod watching;
 
+use head::Reply;
 pub use looking::look;
 pub use watching::end;
-use head::Reply;
+pub use watching::watch;
 
 // What a call that may change the watches hands back: its reply, and the watches after it.
 pub struct WatchReply {

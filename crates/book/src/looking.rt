@@ -44,12 +44,7 @@ fn judge_look(
             return answer;
         }
     }
-    let count = count_listed(
-        positions,
-        lower_ends,
-        head.rows as usize,
-        start_of(head, n),
-    );
+    let count = count_listed(positions, lower_ends, head.rows as usize, start_of(head, n));
     with_test(answer, room < count, Refusal::ShortOutput)
 }
 

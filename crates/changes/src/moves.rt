@@ -10,9 +10,9 @@ ghost use Rattle.frames.specs.Frames.{frame};
 ghost use Rattle.model.specs.Rows.{renamed};
 ghost use Rattle.model.specs.Changes.{frames};
 ghost use Rattle.changes.specs.Swept.{swept, change, moving, joining, changed};
+use crate::listing::is_listed;
 use frames::write_join;
 use frames::write_leave;
-use crate::listing::is_listed;
 
 // A lower end once position gone has expired: 0 if it named that position.
 fn rename(gone: u32, lower: u32) -> u32

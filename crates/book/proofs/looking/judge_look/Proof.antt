@@ -1,8 +1,9 @@
 -- `judge_look` meets its contract: the list is counted where the tables and n pass.
 use mathlib.Core.Path.{sym, _∙_}
 use borrow.Author.Needs.{needs}
-use Rattle.book.proofs.Answering.{answer-passed}
-use Rattle.book.proofs.Listing.{rows-stand, look-stays, look-judged}
+use Rattle.model.specs.Book.{answerOf, lookCells, lookAnswer}
+use Rattle.book.proofs.Answering.{tested, stays, answer-passed}
+use Rattle.book.proofs.Listing.{rows-stand, list-room}
 use Rattle.book.proofs.looking.judge_look.Statement.{statement}
 use Rattle.book.proofs.looking.judge_look.Tie as tie
 
@@ -16,7 +17,8 @@ enum-told-2 : tie.Need-enum-told-2
 enum-told-2 c = search needs
 
 returns : tie.Need-returns
-returns c = look-stays _ _ _ _ (c .before .before .judge-size .ensures) (c .enum-told2 .given .1)
+unfolding answerOf lookAnswer
+returns c = stays _ _ (c .before .before .judge-size .ensures) (c .enum-told2 .given .1)
 
 cast-count-listed : tie.Need-cast-count-listed
 cast-count-listed c = search needs
@@ -33,8 +35,10 @@ with-test-requires : tie.Need-with-test-requires
 with-test-requires c κs = search needs
 
 returns-2 : tie.Need-returns-2
+unfolding answerOf lookAnswer lookCells
 returns-2 c =
-    look-judged _ _ _ _ (c .before .before .before .before .before .before .judge-size .ensures) (c .before .before .start-of .ensures) (c .before .count-listed .ensures) (c .with-test .ensures)
+    tested _ _ _ (c .before .before .before .before .before .before .judge-size .ensures) (list-room _ _ _ _ (c .before .before .start-of .ensures) (c .before .count-listed .ensures))
+    (c .with-test .ensures)
 
 pub judge-look-spec : {M : Type 1} → statement M
 judge-look-spec =
