@@ -16,7 +16,7 @@ use Rattle.dominance.specs.Dominance.{dominates}
 use Rattle.dominance.specs.Compared.{compared}
 use Rattle.dominance.proofs.Comparing.{dominates-by, dominated-by, compared-take}
 use Rattle.model.specs.Rows.{Row, Tables, rowAt, rowsIn, remains, remaining, lowerEndAmong}
-use Rattle.rows.specs.Selected.{tables}
+use Rattle.rows.specs.Lent.{tables}
 use Rattle.rows.proofs.Reading.{length-rows, rows-snoc, next-start, row-within}
 
 -- the last of two filters, one row more in front

@@ -18,7 +18,7 @@ use Rattle.head.specs.Heads.{lastPosition}
 use Rattle.model.specs.Rows.{Row, Tables, rowAt, rowsIn}
 use Rattle.model.specs.Book.{tornRows, bookRows}
 use Rattle.rows.specs.Order.{tornHead, inOrder}
-use Rattle.rows.specs.Selected.{tables}
+use Rattle.rows.specs.Lent.{tables}
 use Rattle.rows.proofs.Reading.{length-rows}
 
 -- one row more in front

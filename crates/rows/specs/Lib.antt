@@ -1,3 +1,3 @@
 -- The definitions of the crate.
 pub mod Order
-pub mod Selected
+pub mod Lent

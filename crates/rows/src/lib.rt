@@ -1,28 +1,21 @@
 // Code on the lent tables: torn rows, the rows that a quote leaves, and the tables after it.
+use cells::chosen;
 use dominance::compare;
 use head::Head;
 ghost use mathlib.Core.Path.{_≡_};
-ghost use mathlib.Core.Bool.{cond};
 ghost use Prim.Native.Nat.{_-_, _*_, _≤_};
 ghost use mathlib.Core.List.{[], _++_, map};
 ghost use lib.ListN.{length, drop};
 ghost use Rattle.model.specs.Rows.{rowsIn, remains, remaining, lowerEndAmong};
 ghost use Rattle.model.specs.Book.{tornRows, tornWatches, bookRows};
 ghost use Rattle.rows.specs.Order.{tornHead, inOrder};
-ghost use Rattle.rows.specs.Selected.{tables};
+ghost use Rattle.rows.specs.Lent.{tables};
 
 // x less y, and 0 where y is larger.
 fn difference(x: u32, y: u32) -> u32
     ensures { λ r. ⌜ r ≡ x - y ⌝ }
 {
     if x < y { 0 } else { x - y }
-}
-
-// x if the test passed, else y.
-fn chosen(test: bool, x: u32, y: u32) -> u32
-    ensures { λ r. ⌜ r ≡ cond test x y ⌝ }
-{
-    if test { x } else { y }
 }
 
 // Whether no rows could stand under this head.

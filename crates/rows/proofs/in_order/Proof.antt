@@ -3,7 +3,7 @@ use mathlib.Core.Path.{refl}
 use Prim.Native.Nat.{_-_}
 use mathlib.Core.List.{[]}
 use borrow.Author.Needs.{needs}
-use Rattle.rows.specs.Selected.{tables}
+use Rattle.rows.specs.Lent.{tables}
 use Rattle.rows.proofs.Torn.{Passing, start, more, finish}
 use Rattle.rows.proofs.in_order.Statement.{statement}
 use Rattle.rows.proofs.in_order.Tie as tie

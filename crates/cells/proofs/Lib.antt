@@ -1,0 +1,6 @@
+-- The laws of the crate.
+pub mod Clearing
+pub mod Pasting
+pub mod Selecting
+pub mod Gathering
+pub mod Settling
