@@ -19,8 +19,15 @@ use Rattle.head.proofs.Settings.{Within, settings-within}
 use Rattle.model.specs.Rows.{Tables}
 use Rattle.model.specs.Book.{shortTables, shortLoan, tornRows, tornWatches, bookRows, answerOf, watchfulAnswer, replyOf, outOfRange}
 use Rattle.model.proofs.Rules.{Whole, untorn-whole}
+use Rattle.book.specs.Left.{loanAnswer}
 
 -- ---- tests in order
+
+-- before any test a call is accepted
+pub begun : Accepted ≡ first []
+unfolding first
+begun = refl
+
 module _ (cs : List (Bool × Refusal)) where
   -- an answer with one more test behind it is that of the longer list
   pub tested : (b : Bool) (k : Refusal) {a r : Answer} {test : Bool} → a ≡ first cs → test ≡ b → r ≡ settled a (first ((test, k) ∷ [])) a
@@ -36,7 +43,7 @@ module _ (cs : List (Bool × Refusal)) where
   pub stays : (more : List (Bool × Refusal)) {a : Answer} {k : Refusal} → a ≡ first cs → a ≡ Refused k → a ≡ first (cs ++ more)
   stays more {a} {k} e f = f ∙ sym (first-refused cs more k (sym e ∙ f))
 
--- ---- the judgement on the tables
+-- ---- the tests on the tables
 module _ (h : Head) (t : Tables) where
   abbrev held : Bool
   held = settingsHold (h .dimensions) (h .capacity) (h .directions)
@@ -46,24 +53,6 @@ module _ (h : Head) (t : Tables) where
 
   abbrev torn : Bool
   torn = tornRows h (bookRows h t)
-
-  pub settings-refused : held ≡ false → answerOf h t [] ≡ Refused Settings
-  unfolding answerOf first
-  settings-refused e = rw e
-
-  module _ (s : held ≡ true) where
-    pub loan-refused : short ≡ true → answerOf h t [] ≡ Refused ShortLoan
-    unfolding answerOf first
-    loan-refused e = rw (s, e)
-
-    module _ (l : short ≡ false) where
-      pub torn-refused : torn ≡ true → answerOf h t [] ≡ Refused Torn
-      unfolding answerOf first
-      torn-refused e = rw (s, l, e)
-
-      pub all-passed : torn ≡ false → answerOf h t [] ≡ Accepted
-      unfolding answerOf first
-      all-passed e = rw (s, l, e)
 
 -- eight watches are as many as a loan asks, and are judged behind the rows
 pub watchful-judged : (h : Head) (t : Tables) (ws : List ℕ) {a r : Answer} {test : Bool} → length ws ≡ 8 → a ≡ answerOf h t [] → test ≡ tornWatches (h .capacity) ws
@@ -119,6 +108,14 @@ in-range h n e =
     record { low = leb-true 1 n (and-left (leb 1 n) (leb n (h .capacity)) both); high = leb-true n (h .capacity) (and-right (leb 1 n) (leb n (h .capacity)) both) }
 
 module _ (h : Head) (t : Tables) where
+  -- a loan that was accepted
+  pub loan-passed : loanAnswer h t ≡ Accepted → Within (h .dimensions) (h .capacity) × Long t (h .dimensions) (h .capacity)
+  unfolding loanAnswer
+  loan-passed e =
+      let s = accepted-passed (not (held h t)) Settings ((short h t, ShortLoan) ∷ []) e in
+      let l = accepted-passed (short h t) ShortLoan [] (s .1) in
+      (settings-within (h .dimensions) (h .capacity) (h .directions) (not-false (held h t) (s .0)), long-enough t (h .dimensions) (h .capacity) (l .0))
+
   passed : held h t ≡ true → short h t ≡ false → torn h t ≡ false → Passed h t
   passed s l r =
       record {

@@ -2,3 +2,4 @@
 pub mod Answering
 pub mod Listing
 pub mod Watches
+pub mod Openings

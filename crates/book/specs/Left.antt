@@ -1,20 +1,28 @@
 -- What each call leaves: its reply and the final contents of everything lent, as the book model says.
 use mathlib.Core.Path.{_≡_}
 use Prim.Native.Nat.{ℕ}
+use mathlib.Core.Bool.{not}
 use mathlib.Core.List.{List, [], _∷_}
 use lib.Dec.{leb}
 use lib.ListN.{length}
 use Rattle.lists.specs.Lists.{contains}
 use Rattle.head.specs.declared.Answer.{Answer}
 use Rattle.head.specs.declared.Head.{Head}
-use Rattle.head.specs.declared.Refusal.the-variants.{WindowSize, AlreadyWatched, NoFreeRecord}
+use Rattle.head.specs.declared.Refusal.the-variants.{Settings, WindowSize, AlreadyWatched, NoFreeRecord, ShortLoan}
 use Rattle.head.specs.declared.Reply.{Reply}
+use Rattle.head.specs.Heads.{settingsHold}
+use Rattle.head.specs.Refusals.{first}
 use Rattle.model.specs.Rows.{Tables}
 use Rattle.model.specs.Book
 
 -- the three lent tables
 abbrev pub tables : List ℕ → List ℕ → List ℕ → Tables
 tables columns positions lowerEnds = record { columns = columns; positions = positions; lowerEnds = lowerEnds }
+
+-- the answer of a call that is lent the tables, before it reads them: 3, 11
+unfoldable pub loanAnswer : Head → Tables → Answer
+loanAnswer h t =
+    first ((not (settingsHold (h .dimensions) (h .capacity) (h .directions)), Settings) ∷ (Book.shortTables t (h .dimensions) (h .capacity), ShortLoan) ∷ [])
 
 -- what an opening with these settings leaves of tables t and watches ws
 pub record Opened (d N directions : ℕ) (t : Tables) (ws : List ℕ) (r : Reply) (t' : Tables) (ws' : List ℕ) : Type 0 where

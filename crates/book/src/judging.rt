@@ -1,10 +1,9 @@
 // The judgements that the calls begin with: settings, lengths, torn.
 ghost use mathlib.Core.Path.{_≡_};
-ghost use Prim.Native.Nat.{_≤_};
 ghost use mathlib.Core.List.{[], _∷_};
 ghost use Rattle.head.specs.Refusals.{first, settled};
 ghost use Rattle.model.specs.Book.{shortTables, answerOf, watchfulAnswer, outOfRange};
-ghost use Rattle.book.specs.Left.{tables};
+ghost use Rattle.book.specs.Left.{tables, loanAnswer};
 use head::Answer;
 use head::Head;
 use head::Refusal;
@@ -12,15 +11,13 @@ use rows::torn_rows;
 use watches::torn;
 
 // Whether a table is shorter than the settings ask.
-pub fn short_tables(
+fn short_tables(
     d: u32,
     capacity: u32,
     columns: &[u32],
     positions: &[u32],
     lower_ends: &[u32],
 ) -> bool
-    requires { ⌜ d ≤ 6 ⌝ }
-    requires { ⌜ capacity ≤ 1024 ⌝ }
     ensures { λ r. ⌜ r ≡ shortTables (tables (now (columns .entry)) (now (positions .entry)) (now («lower_ends» .entry))) d capacity ⌝ }
 {
     let n = capacity as usize;
@@ -51,26 +48,37 @@ pub fn with_test(answer: Answer, test: bool, refusal: Refusal) -> Answer
     answer
 }
 
-// The answer of a call on the tables alone, before what the call adds: 3, 11, 12.
-pub fn judge(head: Head, columns: &[u32], positions: &[u32], lower_ends: &[u32]) -> Answer
-    ensures { λ r. ⌜ r ≡ answerOf head (tables (now (columns .entry)) (now (positions .entry)) (now («lower_ends» .entry))) [] ⌝ }
+// The answer of a call that is lent the tables, before it reads them: 3, 11.
+pub fn judge_loan(head: Head, columns: &[u32], positions: &[u32], lower_ends: &[u32]) -> Answer
+    ensures { λ r. ⌜ r ≡ loanAnswer head (tables (now (columns .entry)) (now (positions .entry)) (now («lower_ends» .entry))) ⌝ }
 {
-    if !head.settings_hold() {
-        return Answer::Refused(Refusal::Settings);
-    }
-    if short_tables(
+    let settings = with_test(Answer::Accepted, !head.settings_hold(), Refusal::Settings);
+    let short = short_tables(
         head.dimensions,
         head.capacity,
         columns,
         positions,
         lower_ends,
-    ) {
-        return Answer::Refused(Refusal::ShortLoan);
+    );
+    with_test(settings, short, Refusal::ShortLoan)
+}
+
+// The answer of a call on the tables alone, before what the call adds: 3, 11, 12.
+pub fn judge(head: Head, columns: &[u32], positions: &[u32], lower_ends: &[u32]) -> Answer
+    ensures { λ r. ⌜ r ≡ answerOf head (tables (now (columns .entry)) (now (positions .entry)) (now («lower_ends» .entry))) [] ⌝ }
+{
+    let answer = judge_loan(head, columns, positions, lower_ends);
+    match answer {
+        Answer::Accepted => {}
+        Answer::Refused(_) => {
+            return answer;
+        }
     }
-    if torn_rows(head, positions, lower_ends) {
-        return Answer::Refused(Refusal::Torn);
-    }
-    Answer::Accepted
+    with_test(
+        answer,
+        torn_rows(head, positions, lower_ends),
+        Refusal::Torn,
+    )
 }
 
 // The answer of a call on the tables and the watches, before what the call adds: 3, 11, 12.
@@ -83,9 +91,6 @@ pub fn judge_watchful(
 ) -> Answer
     ensures { λ r. ⌜ r ≡ watchfulAnswer head (tables (now (columns .entry)) (now (positions .entry)) (now («lower_ends» .entry))) watches [] ⌝ }
 {
-    with_test(
-        judge(head, columns, positions, lower_ends),
-        torn(head.capacity, watches),
-        Refusal::Torn,
-    )
+    let answer = judge(head, columns, positions, lower_ends);
+    with_test(answer, torn(head.capacity, watches), Refusal::Torn)
 }

@@ -1,10 +1,12 @@
 // The calls on a book: opening, quote, look, watch, end and audit, on lent tables.
 mod judging;
 mod looking;
+mod opening;
 mod watching;
 
 use head::Reply;
 pub use looking::look;
+pub use opening::open;
 pub use watching::end;
 pub use watching::watch;
 

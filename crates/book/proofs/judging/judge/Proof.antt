@@ -1,55 +1,47 @@
--- `judge` meets its contract: each early answer is the first condition that holds.
+-- `judge` meets its contract: torn rows are sought where the settings and lengths pass.
 use mathlib.Core.Path.{sym, _∙_}
 use borrow.Author.Needs.{needs}
-use borrow.Author.Tests.{not-true, not-false}
-use Rattle.head.proofs.Settings.{settings-within}
+use Rattle.model.specs.Book.{answerOf}
 use Rattle.rows.proofs.Torn.{torn-columns}
-use Rattle.book.proofs.Answering.{settings-refused, loan-refused, torn-refused, all-passed, long-enough}
+use Rattle.book.specs.Left.{loanAnswer}
+use Rattle.book.proofs.Answering.{tested, stays, loan-passed}
 use Rattle.book.proofs.judging.judge.Statement.{statement}
 use Rattle.book.proofs.judging.judge.Tie as tie
 
-settings-hold-requires : tie.Need-settings-hold-requires
-settings-hold-requires c κs = search needs
+judge-loan-requires : tie.Need-judge-loan-requires
+judge-loan-requires c κs = search needs
+
+enum-told : tie.Need-enum-told
+enum-told c = search needs
+
+enum-told-2 : tie.Need-enum-told-2
+enum-told-2 c = search needs
 
 returns : tie.Need-returns
-returns c = sym (settings-refused _ _ (sym (c .before .settings-hold .ensures) ∙ not-true _ (c .if1 .taken)))
-
-short-tables-requires : tie.Need-short-tables-requires
-short-tables-requires c κs =
-    let within = settings-within _ _ _ (sym (c .before .settings-hold .ensures) ∙ not-false _ (c .if1 .left)) in
-    (within .few-columns, within .small-capacity)
-
-returns-2 : tie.Need-returns-2
-returns-2 c =
-    sym (loan-refused _ _ (sym (c .before .before .before .settings-hold .ensures) ∙ not-false _ (c .before .before .if1 .left)) (sym (c .before .short-tables .ensures) ∙ c .if2 .taken))
+unfolding loanAnswer answerOf
+returns c = stays _ _ (c .before .before .judge-loan .ensures) (c .enum-told2 .given .1)
 
 torn-rows-requires : tie.Need-torn-rows-requires
 torn-rows-requires c κs =
-    let long = long-enough _ _ _ (sym (c .before .short-tables .ensures) ∙ c .if2 .left) in
+    let long = loan-passed _ _ (sym (c .before .before .judge-loan .ensures) ∙ c .enum-told .given .1) .1 in
     (long .positions, long .lowerEnds)
 
-returns-3 : tie.Need-returns-3
-returns-3 c =
-    sym
-    (torn-refused _ _ (sym (c .before .before .before .before .before .settings-hold .ensures) ∙ not-false _ (c .before .before .before .before .if1 .left))
-    (sym (c .before .before .before .short-tables .ensures) ∙ c .before .before .if2 .left)
-    (torn-columns _ _ _ _ _ ∙ sym (c .before .torn-rows .ensures) ∙ c .if3 .taken))
+with-test-requires : tie.Need-with-test-requires
+with-test-requires c κs = search needs
 
-returns-4 : tie.Need-returns-4
-returns-4 c =
-    sym
-    (all-passed _ _ (sym (c .before .before .before .before .before .settings-hold .ensures) ∙ not-false _ (c .before .before .before .before .if1 .left))
-    (sym (c .before .before .before .short-tables .ensures) ∙ c .before .before .if2 .left)
-    (torn-columns _ _ _ _ _ ∙ sym (c .before .torn-rows .ensures) ∙ c .if3 .left))
+returns-2 : tie.Need-returns-2
+unfolding loanAnswer answerOf
+returns-2 c =
+    tested _ _ _ (c .before .before .before .before .judge-loan .ensures) (c .before .torn-rows .ensures ∙ torn-columns _ _ _ _ _) (c .with-test .ensures)
 
 pub judge-spec : {M : Type 1} → statement M
 judge-spec =
     tie.close
     (tie.spec
-    settings-hold-requires
+    judge-loan-requires
+    enum-told
+    enum-told-2
     returns
-    short-tables-requires
-    returns-2
     torn-rows-requires
-    returns-3
-    returns-4)
+    with-test-requires
+    returns-2)

@@ -1,5 +1,5 @@
--- `short_tables` meets its contract: a product of numbers this small fits, and the test is the definition's.
-use Prim.Native.Nat.{_≤_, _*_}
+-- `short_tables` meets its contract: a product of two cells fits, and the test is the definition's.
+use Prim.Native.Nat.{_≤_}
 use native.Mathlib.Nat.{mul-le-mul}
 use native.Mathlib.Omega.{arith}
 use borrow.Author.Needs.{needs}
@@ -8,7 +8,10 @@ use Rattle.book.proofs.judging.short_tables.Statement.{statement}
 use Rattle.book.proofs.judging.short_tables.Tie as tie
 
 mul-cells : tie.Need-mul-cells
-mul-cells c = let few : c .args .capacity * c .args .d ≤ 1024 * 6 = mul-le-mul (c .pre .1) (c .pre .0) in omega (arith, few)
+mul-cells c =
+    let rows : c .args .capacity ≤ 4294967295 = omega arith in
+    let wide : c .args .d ≤ 4294967295 = omega arith in
+    omega (arith, mul-le-mul rows wide)
 
 returns : tie.Need-returns
 unfolding shortTables

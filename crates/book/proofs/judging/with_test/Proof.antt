@@ -1,5 +1,4 @@
 -- `with_test` meets its contract: a refusal stays, and an acceptance goes by the test.
-use mathlib.Core.Path.{refl}
 use borrow.Author.Needs.{needs}
 use Rattle.head.specs.Refusals.{first, settled}
 use Rattle.book.proofs.judging.with_test.Statement.{statement}
