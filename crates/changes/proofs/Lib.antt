@@ -4,3 +4,5 @@ pub mod Writing
 pub mod Framing
 pub mod Moving
 pub mod Watching
+pub mod Distinct
+pub mod Quoting

@@ -19,12 +19,12 @@ unfolding higher
 lowest bits = rw (div-one, ← and-mask bits 1)
 
 -- bit i is the lowest once the bits below it are shifted out
-shifted : (directions bits i : ℕ) → bits ≡ directions / 2 ^ i → higher bits 0 ≡ higher directions i
+pub shifted : (directions bits i : ℕ) → bits ≡ directions / 2 ^ i → higher bits 0 ≡ higher directions i
 unfolding higher
 shifted directions bits i e = rw (div-one, e)
 
 -- one more shift
-halved : (directions i : ℕ) → directions / 2 ^ i / 2 ≡ directions / 2 ^ (i + 1)
+pub halved : (directions i : ℕ) → directions / 2 ^ i / 2 ≡ directions / 2 ^ (i + 1)
 halved directions i = rw (add-one, pow-suc) (div-div-eq-div-mul directions (2 ^ i) 2)
 
 -- i columns of a quote p and of the cells from place s on have been compared

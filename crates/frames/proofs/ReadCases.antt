@@ -1,8 +1,8 @@
 -- The cases of the reader: what is read at a place, and the message of a kind that is no quote's.
-use mathlib.Core.Path.{_≡_, refl, sym, ap, _∙_}
+use mathlib.Core.Path.{_≡_, refl}
 use Prim.Native.Nat.{ℕ, zero, suc, _+_, _*_, _≤_, _<_}
 use native.Mathlib.Omega.{arith}
-use mathlib.Core.Bool.{Bool, true, false, _&&_, cond}
+use mathlib.Core.Bool.{Bool, true, false, cond}
 use mathlib.Core.List.{List}
 use lib.Dec.{leb, eqb}
 use lib.ListN.{length, getD}
@@ -13,7 +13,6 @@ use Rattle.frames.specs.Bytes.{number2}
 use Rattle.frames.specs.Frames.{within, bodyLength, messageAt, columnsAt, stays, readAt}
 use Rattle.frames.specs.declared.Message.{Message}
 use Rattle.frames.specs.declared.Message.the-variants.{Quote, Open, End, Refused}
-use Rattle.frames.specs.declared.Read.{Read}
 
 module _ (tape : List ℕ) (place : ℕ) where
   pub beyond : length tape < place → stays (Refused CutFrame) place ≡ readAt tape place

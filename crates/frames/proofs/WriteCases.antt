@@ -1,15 +1,15 @@
 -- The cases of the writer: which messages have a frame, how long it is, and what is promised of each answer.
-use mathlib.Core.Path.{_≡_, refl, sym, ap, _∙_}
+use mathlib.Core.Path.{_≡_, refl, ap, _∙_}
 use Prim.Native.Nat.{ℕ, suc, _+_, _*_, _≤_, _<_}
 use native.Mathlib.Omega.{arith}
 use mathlib.Core.Bool.{Bool, true, false, _&&_, cond}
-use mathlib.Core.List.{List, [], _∷_}
+use mathlib.Core.List.{List}
 use lib.Dec.{leb}
 use lib.ListN.{length, take}
 use lib.Seq.{length-take-le}
-use borrow.Author.Tests.{leb-true, lt-ltb, le-ltb}
+use borrow.Author.Tests.{leb-true, lt-ltb, le-ltb, lt-leb, le-leb}
 use Rattle.lists.specs.Lists.{laid}
-use Rattle.lists.proofs.Booleans.{and-right, clash}
+use Rattle.lists.proofs.Booleans.{and-right, and-false, clash}
 use Rattle.head.specs.declared.Answer.the-variants.{Accepted, Refused}
 use Rattle.head.specs.declared.Refusal.the-variants.{UnknownKind, ShortOutput}
 use Rattle.head.specs.Refusals.{first, settled}
@@ -18,15 +18,24 @@ use Rattle.frames.specs.Frames.{within, framed, frame, writeAnswer, writ
 use Rattle.frames.specs.Writing.{frameLength, Wrote}
 use Rattle.frames.specs.declared.Message.{Message}
 use Rattle.frames.specs.declared.Message.the-variants.{Quote, Look, Watch, Unwatch, Leave, Join, Open, End, Refused as NotRead}
-use Rattle.frames.specs.declared.Written.{Written}
 use Rattle.frames.proofs.WriteColumns.{body, length-body}
 
--- a quote that has a frame, and room for it
-pub quote-fits : {m : Message} (k room : ℕ) → m ≡ Quote k → framed m ≡ true → frameLength m ≤ room → (k ≤ 6) × (1 + 4 * k ≤ room)
-unfolding framed
-quote-fits k room e f h =
-    let some : leb 1 k && leb k 6 ≡ true = rw e at f in
-    (leb-true k 6 (and-right (leb 1 k) (leb k 6) some), rw some at (rw e at h))
+-- the frame of a quote
+module _ {m : Message} (k : ℕ) (e : m ≡ Quote k) where
+  pub no-column : k < 1 → 0 ≡ frameLength m
+  no-column h = rw e (simp (lt-leb 1 k h))
+
+  pub many-columns : 6 < k → 0 ≡ frameLength m
+  many-columns h = rw e (simp (lt-leb k 6 h, and-false))
+
+  pub length-quote : 1 ≤ k → k ≤ 6 → 1 + 4 * k ≡ frameLength m
+  length-quote some few = rw e (simp (le-leb 1 k some, le-leb k 6 few))
+
+  pub quote-fits : (room : ℕ) → framed m ≡ true → frameLength m ≤ room → (k ≤ 6) × (1 + 4 * k ≤ room)
+  unfolding framed
+  quote-fits room f h =
+      let some : leb 1 k && leb k 6 ≡ true = rw e at f in
+      (leb-true k 6 (and-right (leb 1 k) (leb k 6) some), rw some at (rw e at h))
 
 length-frame : (m : Message) (columns : List ℕ) → length columns ≡ 6 → framed m ≡ true → length (frame m columns) ≡ frameLength m
 unfolding framed frame bytes2 bytes4 body

@@ -24,7 +24,7 @@ fn of_four(a: u8, b: u8, c: u8, d: u8) -> u32
 }
 
 // The number in the two bytes from a place on.
-fn two_at(tape: &[u8], at: usize) -> u16
+pub fn two_at(tape: &[u8], at: usize) -> u16
     requires { ⌜ at + 2 ≤ length (now tape) ⌝ }
     ensures { λ r. ⌜ r ≡ number2 (now (tape .entry)) at ⌝ }
 {
@@ -32,7 +32,7 @@ fn two_at(tape: &[u8], at: usize) -> u16
 }
 
 // The number in the four bytes from a place on.
-fn four_at(tape: &[u8], at: usize) -> u32
+pub fn four_at(tape: &[u8], at: usize) -> u32
     requires { ⌜ at + 4 ≤ length (now tape) ⌝ }
     ensures { λ r. ⌜ r ≡ number4 (now (tape .entry)) at ⌝ }
 {

@@ -6,7 +6,7 @@ ghost use mathlib.Core.Bool.{true};
 ghost use lib.ListN.{length};
 ghost use Rattle.lists.specs.Lists.{laid};
 ghost use Rattle.frames.specs.Bytes.{bytes2, bytes4};
-ghost use Rattle.frames.specs.Frames.{framed, frame, writeReply, writeOut};
+ghost use Rattle.frames.specs.Frames.{framed, frame};
 ghost use Rattle.frames.specs.Writing.{frameLength, placed, Wrote};
 use crate::Message;
 use crate::Written;

@@ -10,3 +10,6 @@ pub mod Laying
 pub mod Growing
 pub mod Storing
 pub mod Apart
+pub mod Storing
+pub mod Apart
+pub mod Places

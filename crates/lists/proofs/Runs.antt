@@ -189,24 +189,6 @@ any-run f g t a (suc k) h = go (t a) (λ e. h a (le-refl a) (omega arith) e) (an
     go true x r = rw (x refl) r
     go false x r = r
 
--- two tests that never both pass
-pub disjoint : (f g : ℕ → Bool) (a k : ℕ) → ((q : ℕ) → f q && g q ≡ false) → length (filter f (run a k)) + length (filter g (run a k)) ≤ k
-unfolding filter run
-disjoint f g a zero h = le-refl 0
-disjoint f g a (suc k) h = go (f a) (g a) (h a) (disjoint f g (suc a) k h)
-  where
-    F : List ℕ
-    F = filter f (run (suc a) k)
-
-    G : List ℕ
-    G = filter g (run (suc a) k)
-
-    go : (b c : Bool) → b && c ≡ false → length F + length G ≤ k → length (keep b a F) + length (keep c a G) ≤ suc k
-    go true true e r = absurd (clash true refl e)
-    go true false e r = omega arith
-    go false true e r = omega arith
-    go false false e r = omega arith
-
 -- ---- membership in a run
 
 pub into-run : (a k q : ℕ) → a ≤ q → q < a + k → List·Memᴰ q (run a k)

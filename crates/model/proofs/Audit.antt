@@ -23,7 +23,7 @@ use Rattle.model.proofs.Rules.{Passed, untorn-whole, yes-iff-passed}
 use Rattle.model.proofs.RulesToTape.{tapeOf, length-tape, tape-wide, tape-small, tape-rows}
 use Rattle.model.proofs.TapeToRules.{tape-rules}
 
--- what quotes leave passes
+-- what a reference model leaves in the tables passes
 left-passes : (s : Reference) (t : Tables) → 1 ≤ s .capacity → newest s ≤ lastPosition → Wide s → ((k : ℕ) → Small (getD (s .quotes) k []))
     → filled (s .dimensions) (s .capacity) (rowsOf s) t ≡ t → Passed (headOf s) t
 unfolding headOf bookRows
@@ -37,12 +37,15 @@ left-passes s t some room wide small left =
     }
 
 module _ (h : Head) (t : Tables) (hold : settingsHold (h .dimensions) (h .capacity) (h .directions) ≡ true) where
+  -- the columns of a quote
   abbrev d : ℕ
   d = h .dimensions
 
+  -- the capacity
   abbrev N : ℕ
   N = h .capacity
 
+  -- what a tape leaves passes
   tape-passes : Tape h t → Passed h t
   unfolding quoteAt headOf
   tape-passes T =
@@ -53,7 +56,7 @@ module _ (h : Head) (t : Tables) (hold : settingsHold (h .dimensions) (h .capaci
       subst (λ (k : Head). Passed k t) (ap headOf (sym held) ∙ T .head)
       (left-passes s t (settings-within d N (h .directions) hold .some-capacity) (took .1) (λ p u v. took .0 (p - 1) (omega arith)) (T .values) (rw held at (T .tables)))
 
-  -- a tape from the rules
+  -- a book that passes is left by a tape
   passes-tape : Small (t .columns) → Passed h t → Tape h t
   unfolding headOf bookRows
   passes-tape small P =

@@ -22,6 +22,7 @@ use Rattle.model.proofs.Sound.{any-zeros}
 
 -- ---- cells of one table
 
+-- where no cell is above 0, all are 0
 all-zeros : (l : List ℕ) → any (ltb 0) l ≡ false → l ≡ replicate (length l) 0
 unfolding any
 all-zeros [] e = refl
@@ -59,11 +60,13 @@ padded-same n k cells h room e =
 
 -- ---- tables
 
+-- cells read one by one
 cells-read : (l : List ℕ) (a k : ℕ) → a + k ≤ length l → map (λ i. getD l i 0) (run a k) ≡ take k (drop a l)
 unfolding run
 cells-read l a zero h = refl
 cells-read l a (suc k) h = rw (drop-cons l a 0 (omega arith)) (ap (λ (r : List ℕ). getD l a 0 ∷ r) (cells-read l (suc a) k (omega arith)))
 
+-- columns read row by row
 columns-read : (l : List ℕ) (d a k : ℕ) → flat (map (λ i. take d (drop (i * d) l)) (run a k)) ≡ take (k * d) (drop (a * d) l)
 unfolding flat run
 columns-read l d a zero = rw zero-mul
@@ -71,6 +74,7 @@ columns-read l d a (suc k) =
     let e : suc k * d ≡ d + k * d = rw suc-mul (add-comm (k * d) d) in
     rw (columns-read l d (suc a) k, e, take-add, drop-drop, suc-mul)
 
+-- as many rows are read as asked for
 pub length-read : (d k : ℕ) (t : Tables) → length (rowsIn d k t) ≡ k
 unfolding rowsIn
 length-read d k t = length-map (run 0 k) (rowAt d t) ∙ length-run 0 k

@@ -25,7 +25,7 @@ use Rattle.frames.specs.declared.Message.{Message}
 use Rattle.frames.specs.declared.Message.the-variants.{Join}
 use Rattle.model.specs.Changes.{allChanges, frames}
 use Rattle.model.specs.Reference.{Reference, newest, over, skylineOf, withQuote, withWatched, opening, tells, referenceStep}
-use Rattle.model.specs.Calls.{Call, Open, Quote, Look, Watch, End, Lent, Seen, fed, outputOf, deskStep}
+use Rattle.model.specs.Calls.{Call, Open, Quote, Look, Watch, End, Lent, Seen, fed, outputOf, expectedStep}
 use Rattle.model.specs.Watcher.{Held, Nothing, Holding, messagesFrom, heedsAll, reads, watcherStep, heldBy}
 use Rattle.model.proofs.Joined.{in-range}
 use Rattle.model.proofs.Heeding.{first-heeded, other-joins, all-heeded}
@@ -81,15 +81,15 @@ skyline-rises s n hi h =
 module _ (n : ℕ) (s : Reference) (l : Lent) (ok : Bounded s) where
   -- the watcher of n after a call of the reference model
   abbrev Follows : Call → Type 0
-  Follows c = let one = deskStep c (record { reference = s; lent = l }) in watcherStep n c (one .0) (heldBy n s) ≡ heldBy n (one .1 .reference)
+  Follows c = let one = expectedStep c (record { reference = s; lent = l }) in watcherStep n c (one .0) (heldBy n s) ≡ heldBy n (one .1 .reference)
 
   -- the answer of the reference model
   abbrev answered : Call → Answer
-  answered c = deskStep c (record { reference = s; lent = l }) .0 .reply .answer
+  answered c = expectedStep c (record { reference = s; lent = l }) .0 .reply .answer
 
   -- an accepted opening ends every watch
   opens : (d N directions : ℕ) → Follows (Open d N directions)
-  unfolding deskStep referenceStep tells fed watcherStep settled heldBy opening contains any
+  unfolding expectedStep referenceStep tells fed watcherStep settled heldBy opening contains any
   opens d N directions = go (answered (Open d N directions))
     where
       go : (a : Answer) → settled a Nothing (heldBy n s) ≡ heldBy n (settled a (opening d N directions) s)
@@ -98,7 +98,7 @@ module _ (n : ℕ) (s : Reference) (l : Lent) (ok : Bounded s) where
 
   -- a look changes nothing
   looks : (m : ℕ) (out : List ℕ) → Follows (Look m out)
-  unfolding deskStep referenceStep tells fed watcherStep settled
+  unfolding expectedStep referenceStep tells fed watcherStep settled
   looks m out = go (answered (Look m out))
     where
       go : (a : Answer) → heldBy n s ≡ heldBy n (settled a s s)
@@ -107,7 +107,7 @@ module _ (n : ℕ) (s : Reference) (l : Lent) (ok : Bounded s) where
 
   -- an accepted end ends the watch of its n
   ends : (m : ℕ) → Follows (End m)
-  unfolding deskStep referenceStep tells fed watcherStep settled heldBy withWatched skylineOf without
+  unfolding expectedStep referenceStep tells fed watcherStep settled heldBy withWatched skylineOf without
   ends m = go (answered (End m))
     where
       dropped : (b c : Bool) → cond b Nothing (cond c (Holding (skylineOf s n)) Nothing) ≡ cond (c && not b) (Holding (skylineOf s n)) Nothing
@@ -151,7 +151,7 @@ module _ (n : ℕ) (s : Reference) (l : Lent) (ok : Bounded s) where
 
     -- the joins of an accepted watch are read
     watches : Follows (Watch m out)
-    unfolding deskStep referenceStep tells fed outputOf watcherStep settled
+    unfolding expectedStep referenceStep tells fed outputOf watcherStep settled
     watches = go (answered (Watch m out)) refl
       where
         go : (a : Answer) → answered (Watch m out) ≡ a → Follows (Watch m out)
@@ -190,7 +190,7 @@ module _ (n : ℕ) (s : Reference) (l : Lent) (ok : Bounded s) where
 
     -- the changes of an accepted quote are read
     quotes : Follows (Quote x out)
-    unfolding deskStep referenceStep tells fed outputOf watcherStep settled
+    unfolding expectedStep referenceStep tells fed outputOf watcherStep settled
     quotes = go (answered (Quote x out)) refl
       where
         go : (a : Answer) → answered (Quote x out) ≡ a → Follows (Quote x out)

@@ -17,7 +17,7 @@ use Rattle.head.proofs.Settings.{settings-within}
 use Rattle.model.specs.Rows.{Tables, rowsIn, filled}
 use Rattle.model.specs.Reference.{Reference, unopened, newest, skylineOf, rowsOf, headOf, opened, outside}
 use Rattle.model.specs.Book.{shortTables, shortLoan, tornRows, tornWatches, standing, bookRows, listOf, answerOf, watchfulAnswer}
-use Rattle.model.specs.Calls.{Call, Lent, World, bookStep, shown, Desk, deskStep}
+use Rattle.model.specs.Calls.{Call, Lent, World, bookStep, shown, Expected, expectedStep}
 use Rattle.model.proofs.Quotes.{skyline-listed}
 use Rattle.model.proofs.Tables.{rows-filled}
 use Rattle.model.proofs.Sound.{Wide, rows-none, rows-few, rows-wide, rows-sound, standing-padded, watches-sound}
@@ -36,7 +36,7 @@ pub record Faithful (s : Reference) (l : Lent) : Type 0 where
 
 -- between two calls: the head is the reference model's, both models are lent the same, and either no opening was accepted or what
 -- is lent is faithful
-pub record Joined (k : Desk) (w : World) : Type 0 where
+pub record Joined (k : Expected) (w : World) : Type 0 where
   pub head : w .head ≡ headOf (k .reference)
   pub lent : w .lent ≡ k .lent
   pub since : (k .reference ≡ unopened) ⊎ Faithful (k .reference) (k .lent)
@@ -52,11 +52,11 @@ unfolding shortLoan
 long-records t ws d N e = ltb-false (length ws) 8 (none-right (shortTables t d N) (ltb (length ws) 8) e)
 
 -- what is seen of a call is the same in both models, and they stand joined after it
-abbrev pub Agree : Call → Desk → World → Type 0
-Agree c k w = (bookStep c w .0 ≡ deskStep c k .0) × Joined (deskStep c k .1) (bookStep c w .1)
+abbrev pub Agree : Call → Expected → World → Type 0
+Agree c k w = (bookStep c w .0 ≡ expectedStep c k .0) × Joined (expectedStep c k .1) (bookStep c w .1)
 
 -- the reference model, with what is lent
-abbrev pub referenceWith : Reference → Lent → Desk
+abbrev pub referenceWith : Reference → Lent → Expected
 referenceWith s l = record { reference = s; lent = l }
 
 -- the book with the reference model's head, and the same lent
@@ -126,7 +126,7 @@ module _ (s : Reference) (l : Lent) (f : Faithful s l) where
   judged-watchful more more' e = rw (f .settings, f .long, rows-read, rows-whole, watches-whole) e
 
 -- the book model reads the reference model's rows, opened or not
-pub joined-rows : (k : Desk) (w : World) → Joined k w → bookRows (w .head) (w .lent .tables) ≡ rowsOf (k .reference)
+pub joined-rows : (k : Expected) (w : World) → Joined k w → bookRows (w .head) (w .lent .tables) ≡ rowsOf (k .reference)
 unfolding bookRows headOf rowsIn run
 joined-rows k w j = rw (j .head, j .lent) (go (k .reference) (j .since))
   where

@@ -13,7 +13,7 @@ use Rattle.head.specs.Heads.{freshHead}
 use Rattle.model.specs.Rows.{Row}
 use Rattle.model.specs.Reference.{Reference, unopened, newest, over, skylineOf, rowsOf}
 use Rattle.model.specs.Book.{bookRows}
-use Rattle.model.specs.Calls.{Call, Lent, World, bookStep, deskStep, runs}
+use Rattle.model.specs.Calls.{Call, Lent, World, bookStep, expectedStep, runs}
 use Rattle.model.proofs.Quotes.{at-irreflexive, over-within}
 use Rattle.model.proofs.Sound.{positions-are}
 use Rattle.model.proofs.Joined.{joined-rows}
@@ -46,7 +46,7 @@ dropped-off-skylines s more p n h k dropped =
 module _ (cs : List Call) (l : Lent) where
   -- the reference model at the end of the calls
   abbrev pub referenceAfter : Reference
-  referenceAfter = runs deskStep cs (record { reference = unopened; lent = l }) .1 .reference
+  referenceAfter = runs expectedStep cs (record { reference = unopened; lent = l }) .1 .reference
 
   -- the book at the end of the calls
   abbrev bookAfter : World
@@ -57,7 +57,7 @@ module _ (cs : List Call) (l : Lent) where
   positionsAfter = map Row.position (bookRows (bookAfter .head) (bookAfter .lent .tables))
 
   positions-after : positionsAfter ≡ map Row.position (rowsOf referenceAfter)
-  positions-after = ap (map Row.position) (joined-rows (runs deskStep cs (record { reference = unopened; lent = l }) .1) bookAfter (replay-ends cs l))
+  positions-after = ap (map Row.position) (joined-rows (runs expectedStep cs (record { reference = unopened; lent = l }) .1) bookAfter (replay-ends cs l))
 
   -- at the end of any list of calls the book holds a position exactly if some n from 1 to N lists it
   pub kept-iff-listed : (p : ℕ) → List·Memᴰ p positionsAfter ↔ ((n : ℕ) × (1 ≤ n) × (n ≤ referenceAfter .capacity) × List·Memᴰ p (skylineOf referenceAfter n))

@@ -22,7 +22,7 @@ use Rattle.model.specs.Rows.{Row, Tables, rowAt, rowsIn, filled, expirin
 use Rattle.model.specs.Changes.{missing, changes, allChanges, frames}
 use Rattle.model.specs.Reference.{Reference, unopened, quoteAt, dominatesAt, skylineOf, rowOf, rowsOf, headOf, opened, outside, withQuote, withWatched, opening, tooShort, tells, referenceStep}
 use Rattle.model.specs.Book.{shortTables, shortLoan, tornRows, ordered, tornWatches, standing, bookRows, listOf, answerOf, watchfulAnswer, replyOf, outOfRange, openAnswer, openReply, openTables, openWatches, quoteRows, quoteHead, quoteBytes, quoteAnswer, quoteReply, quoteTables, quoteOut, lookCells, lookAnswer, lookReply, lookOut, watchBytes, watchAnswer, watchReply, watchWatches, watchOut, endAnswer, endReply, endWatches}
-use Rattle.model.specs.Calls.{Call, Open, Quote, Look, Watch, End, Lent, Seen, bookStep, fed, outputOf, shown, deskStep, runs}
+use Rattle.model.specs.Calls.{Call, Open, Quote, Look, Watch, End, Lent, Seen, bookStep, fed, outputOf, shown, expectedStep, runs}
 use Rattle.model.specs.Audit.{worstAt, isWorst, zeroFrom, outdone, rightEnd, unexplained, passes, verdictOf, auditVerdict, plays}
 
 -- the two models that calls are run by
@@ -159,7 +159,7 @@ verdict No = 0 ∷ []
 verdict (Verdict.Refused k) = 2 ∷ number k ∷ []
 
 abbrev seen : Model → List Call → List Seen
-seen ByReference cs = runs deskStep cs (record { reference = unopened; lent = lent }) .0
+seen ByReference cs = runs expectedStep cs (record { reference = unopened; lent = lent }) .0
 seen ByBook cs = runs bookStep cs (record { head = freshHead 0 0 0; lent = lent }) .0
 
 abbrev line : Seen → List ℕ
@@ -202,6 +202,6 @@ unfolding filter any lastOr flat run between contains rising insert without laid
     shortTables shortLoan tornRows ordered tornWatches standing bookRows listOf answerOf watchfulAnswer replyOf outOfRange
     openAnswer openReply openTables openWatches quoteRows quoteHead quoteBytes quoteAnswer quoteReply quoteTables quoteOut
     lookCells lookAnswer lookReply lookOut watchBytes watchAnswer watchReply watchWatches watchOut endAnswer endReply endWatches
-    bookStep fed outputOf shown deskStep runs
+    bookStep fed outputOf shown expectedStep runs
     worstAt isWorst zeroFrom outdone rightEnd unexplained passes verdictOf auditVerdict plays
 marked = refl

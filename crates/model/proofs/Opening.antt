@@ -16,7 +16,7 @@ use Rattle.head.proofs.Answers.{accepted-passed}
 use Rattle.model.specs.Rows.{filled}
 use Rattle.model.specs.Reference.{Reference, unopened, rowsOf, headOf, opened, opening, tooShort, tells, referenceStep}
 use Rattle.model.specs.Book.{shortTables, shortLoan, replyOf, openAnswer, openReply, openTables, openWatches}
-use Rattle.model.specs.Calls.{Open, Lent, bookStep, deskStep, fed, outputOf, shown}
+use Rattle.model.specs.Calls.{Open, Lent, bookStep, expectedStep, fed, outputOf, shown}
 use Rattle.model.proofs.Tables.{Fit, filled-again, filled-long}
 use Rattle.model.proofs.Sound.{rows-none}
 use Rattle.model.proofs.Joined.{Faithful, Agree, referenceWith, bookWith, long-tables, long-records, shown-opened, shown-still}
@@ -78,7 +78,7 @@ module _ (d N directions : ℕ) (l : Lent) where
 
     -- the opening is seen alike
     pub opens : Agree (Open d N directions) (referenceWith s l) (bookWith s l)
-    unfolding bookStep deskStep referenceStep tells fed outputOf openReply openTables openWatches replyOf settled laid tooShort shortLoan shortTables openAnswer
+    unfolding bookStep expectedStep referenceStep tells fed outputOf openReply openTables openWatches replyOf settled laid tooShort shortLoan shortTables openAnswer
     opens = go answer refl
       where
         go : (a : Answer) → answer ≡ a → Agree (Open d N directions) (referenceWith s l) (bookWith s l)

@@ -29,6 +29,7 @@ unfolding plays
 plays-nil s = refl
 
 module _ (d N directions : ℕ) (hold : settingsHold d N directions ≡ true) where
+  -- the model of these settings that holds quotes
   abbrev at : List (List ℕ) → Reference
   at = holding d N directions
 
@@ -43,6 +44,7 @@ module _ (d N directions : ℕ) (hold : settingsHold d N directions ≡ true) wh
       go true false = refl
       go false b = refl
 
+  -- the first quote, and then the others
   plays-cons : (x : List ℕ) (xs qs : List (List ℕ))
       → plays (x ∷ xs) (at qs) ≡ plays xs (cond (eqb (length x) d && not (leb lastPosition (length qs))) (at (qs ++ (x ∷ []))) (at qs))
   unfolding plays

@@ -24,7 +24,7 @@ use Rattle.model.specs.Rows.{filled}
 use Rattle.model.specs.Changes.{changes, allChanges, frames}
 use Rattle.model.specs.Reference.{Reference, quoteAt, newest, skylineOf, rowsOf, headOf, opened, withQuote, tells, referenceStep}
 use Rattle.model.specs.Book.{shortLoan, bookRows, listOf, replyOf, quoteRows, quoteHead, quoteBytes, quoteAnswer, quoteReply, quoteTables, quoteOut}
-use Rattle.model.specs.Calls.{Quote, Lent, bookStep, deskStep, fed, outputOf, shown}
+use Rattle.model.specs.Calls.{Quote, Lent, bookStep, expectedStep, fed, outputOf, shown}
 use Rattle.model.proofs.Quotes.{newest-after, quote-within, quote-new, rows-after-quote}
 use Rattle.model.proofs.Tables.{filled-again, filled-long}
 use Rattle.model.proofs.Sound.{Wide, rows-few, rows-wide}
@@ -136,7 +136,7 @@ module _ (s : Reference) (l : Lent) (f : Faithful s l) (x : List ℕ) where
 
     -- the quote is seen alike
     pub quotes : Agree (Quote x out) (referenceWith s l) (bookWith s l)
-    unfolding bookStep deskStep referenceStep tells fed outputOf quoteReply quoteTables quoteOut replyOf settled laid headOf
+    unfolding bookStep expectedStep referenceStep tells fed outputOf quoteReply quoteTables quoteOut replyOf settled laid headOf
     quotes = go answer refl
       where
         go : (a : Answer) → answer ≡ a → Agree (Quote x out) (referenceWith s l) (bookWith s l)

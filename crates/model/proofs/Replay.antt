@@ -9,7 +9,7 @@ use Rattle.head.specs.Refusals.{first, settled}
 use Rattle.head.specs.Heads.{freshHead, settingsHold}
 use Rattle.model.specs.Reference.{Reference, unopened, headOf, opened, tells, referenceStep}
 use Rattle.model.specs.Book.{answerOf, watchfulAnswer, replyOf, quoteAnswer, quoteReply, quoteTables, quoteOut, lookAnswer, lookReply, lookOut, watchAnswer, watchReply, watchWatches, watchOut, endAnswer, endReply, endWatches}
-use Rattle.model.specs.Calls.{Call, Open, Quote, Look, Watch, End, Lent, Seen, World, bookStep, fed, outputOf, shown, Desk, deskStep, runs}
+use Rattle.model.specs.Calls.{Call, Open, Quote, Look, Watch, End, Lent, Seen, World, bookStep, fed, outputOf, shown, Expected, expectedStep, runs}
 use Rattle.model.proofs.Sound.{rows-none}
 use Rattle.model.proofs.Joined.{Faithful, Joined, Agree, referenceWith, bookWith}
 use Rattle.model.proofs.Opening.{opens}
@@ -18,7 +18,7 @@ use Rattle.model.proofs.Watching.{looks, watches, ends}
 
 -- before the first accepted opening every call but an opening is refused by both models
 unopened-agrees : (c : Call) (l : Lent) → Agree c (referenceWith unopened l) (bookWith unopened l)
-unfolding bookStep deskStep referenceStep tells fed outputOf laid shown opened settingsHold headOf first settled answerOf watchfulAnswer replyOf quoteAnswer quoteReply quoteTables quoteOut lookAnswer lookReply lookOut watchAnswer watchReply watchWatches watchOut endAnswer endReply endWatches
+unfolding bookStep expectedStep referenceStep tells fed outputOf laid shown opened settingsHold headOf first settled answerOf watchfulAnswer replyOf quoteAnswer quoteReply quoteTables quoteOut lookAnswer lookReply lookOut watchAnswer watchReply watchWatches watchOut endAnswer endReply endWatches
 unopened-agrees (Open d N directions) l = opens d N directions l unopened (inl refl)
 unopened-agrees (Quote x out) l = (refl, record { head = refl; lent = refl; since = inl refl })
 unopened-agrees (Look n out) l = (refl, record { head = refl; lent = refl; since = inl refl })
@@ -33,7 +33,7 @@ faithful-agrees (Watch n out) s l f = watches s l f n out
 faithful-agrees (End n) s l f = ends s l f n
 
 -- every call is seen alike in joined models, and leaves them joined
-pub call-agrees : (c : Call) (k : Desk) (w : World) → Joined k w → Agree c k w
+pub call-agrees : (c : Call) (k : Expected) (w : World) → Joined k w → Agree c k w
 call-agrees c k w j = rw same (go (k .reference) (j .since))
   where
     same : w ≡ bookWith (k .reference) (k .lent)
@@ -44,12 +44,12 @@ call-agrees c k w j = rw same (go (k .reference) (j .since))
     go s (inr f) = faithful-agrees c s (k .lent) f
 
 -- so is a list of calls
-pub run-agrees : (cs : List Call) (k : Desk) (w : World) → Joined k w → (runs bookStep cs w .0 ≡ runs deskStep cs k .0) × Joined (runs deskStep cs k .1) (runs bookStep cs w .1)
+pub run-agrees : (cs : List Call) (k : Expected) (w : World) → Joined k w → (runs bookStep cs w .0 ≡ runs expectedStep cs k .0) × Joined (runs expectedStep cs k .1) (runs bookStep cs w .1)
 unfolding runs
 run-agrees [] k w j = (refl, j)
 run-agrees (c ∷ cs) k w j =
     let one = call-agrees c k w j in
-    let rest = run-agrees cs (deskStep c k .1) (bookStep c w .1) (one .1) in
+    let rest = run-agrees cs (expectedStep c k .1) (bookStep c w .1) (one .1) in
     (ap₂ {C = List Seen} (λ (s : Seen) (l : List Seen). s ∷ l) (one .0) (rest .0), rest .1)
 
 -- a head of zeros, and anything lent
@@ -61,10 +61,10 @@ unfolding headOf
 start l = record { head = rw (rows-none unopened refl); lent = refl; since = inl refl }
 
 -- over every list of calls both models show the same
-pub replay : (cs : List Call) (l : Lent) → runs bookStep cs (record { head = freshHead 0 0 0; lent = l }) .0 ≡ runs deskStep cs (record { reference = unopened; lent = l }) .0
+pub replay : (cs : List Call) (l : Lent) → runs bookStep cs (record { head = freshHead 0 0 0; lent = l }) .0 ≡ runs expectedStep cs (record { reference = unopened; lent = l }) .0
 replay cs l = run-agrees cs (referenceWith unopened l) (atFirst l) (start l) .0
 
 -- and stand joined at the end
 pub replay-ends : (cs : List Call) (l : Lent)
-    → Joined (runs deskStep cs (record { reference = unopened; lent = l }) .1) (runs bookStep cs (record { head = freshHead 0 0 0; lent = l }) .1)
+    → Joined (runs expectedStep cs (record { reference = unopened; lent = l }) .1) (runs bookStep cs (record { head = freshHead 0 0 0; lent = l }) .1)
 replay-ends cs l = run-agrees cs (referenceWith unopened l) (atFirst l) (start l) .1

@@ -41,20 +41,27 @@ pub record Whole (h : Head) (rs : List Row) : Type 0 where
   pub low-newest : h .newest ≤ lastPosition
   pub rises : rising (windowStart (h .newest) (h .capacity)) (h .newest) (map Row.position rs) ≡ true
 
+-- where none of six tests passes: the first, the second and the fourth
 none-of-six : (a b c d e f : Bool) → a || b || c || d || e || f ≡ false → (a ≡ false) × (b ≡ false) × (d ≡ false)
 none-of-six a b c d e f h =
     let h4 = none-left (a || b || c || d) e (none-left (a || b || c || d || e) f h) in
     let h2 = none-left (a || b) c (none-left (a || b || c) d h4) in
     (none-left a b h2, none-right a b h2, none-right (a || b || c) d h4)
 
+-- a head and rows that are not torn are whole
 pub untorn-whole : (h : Head) (rs : List Row) → tornRows h rs ≡ false → Whole h rs
 unfolding tornRows
 untorn-whole h rs e =
-    let risen = rising (windowStart (h .newest) (h .capacity)) (h .newest) (map Row.position rs) in
-    let none =
+    from (
     none-of-six (ltb (h .capacity) (h .rows)) (ltb lastPosition (h .newest)) (eqb (h .rows) 0 && ltb 0 (h .newest) || ltb 0 (h .rows) && eqb (h .newest) 0)
-    (not risen) (not (eqb (lastOr 0 (map Row.position rs)) (h .newest))) (any (λ r. not (ltb (r .lowerEnd) (r .position))) rs) e in
-    record {
+    (not risen) (not (eqb (lastOr 0 (map Row.position rs)) (h .newest))) (any (λ r. not (ltb (r .lowerEnd) (r .position))) rs) e
+    )
+  where
+    risen : Bool
+    risen = rising (windowStart (h .newest) (h .capacity)) (h .newest) (map Row.position rs)
+
+    from : (ltb (h .capacity) (h .rows) ≡ false) × (ltb lastPosition (h .newest) ≡ false) × (not risen ≡ false) → Whole h rs
+    from none = record {
       few-rows = ltb-false (h .capacity) (h .rows) (none .0);
       low-newest = ltb-false lastPosition (h .newest) (none .1);
       rises = not-false risen (none .2);
@@ -62,6 +69,7 @@ untorn-whole h rs e =
 
 -- ---- the verdict
 
+-- where all of five tests pass
 all-of-five : (a b c d e : Bool) → a && b && c && d && e ≡ true → (a ≡ true) × (b ≡ true) × (c ≡ true) × (d ≡ true) × (e ≡ true)
 all-of-five a b c d e h =
     let h4 = and-left (a && b && c && d) e h in
@@ -70,24 +78,30 @@ all-of-five a b c d e h =
     (and-left a b h2, and-right a b h2, and-right (a && b) c h3, and-right (a && b && c) d h4, and-right (a && b && c && d) e h)
 
 module _ (h : Head) (t : Tables) where
+  -- the columns of a quote
   abbrev d : ℕ
   d = h .dimensions
 
+  -- the capacity
   abbrev N : ℕ
   N = h .capacity
 
+  -- the rows in the tables
   abbrev rs : List Row
   rs = bookRows h t
 
+  -- the cells past the count are 0
+  abbrev zeros : Bool
+  zeros = zeroFrom (h .rows * d) (N * d) (t .columns) && zeroFrom (h .rows) N (t .positions) && zeroFrom (h .rows) N (t .lowerEnds)
+
   -- tables that are not too short and hold zeros past the count are clean
-  long-clean : shortTables t d N ≡ false → zeroFrom (h .rows * d) (N * d) (t .columns) && zeroFrom (h .rows) N (t .positions) && zeroFrom (h .rows) N (t .lowerEnds) ≡ true
-      → Clean d N (h .rows) t
+  long-clean : shortTables t d N ≡ false → zeros ≡ true → Clean d N (h .rows) t
   unfolding shortTables
-  long-clean long zeros =
+  long-clean long e =
       let z1 = zeroFrom (h .rows * d) (N * d) (t .columns) in
       let z2 = zeroFrom (h .rows) N (t .positions) in
       let z3 = zeroFrom (h .rows) N (t .lowerEnds) in
-      let front = and-left (z1 && z2) z3 zeros in
+      let front = and-left (z1 && z2) z3 e in
       let l1 = ltb (length (t .columns)) (N * d) in
       let l2 = ltb (length (t .positions)) N in
       let l3 = ltb (length (t .lowerEnds)) N in
@@ -98,9 +112,10 @@ module _ (h : Head) (t : Tables) where
         ends-room = ltb-false (length (t .lowerEnds)) N (none-right (l1 || l2) l3 long);
         columns-zero = and-left z1 z2 front;
         positions-zero = and-right z1 z2 front;
-        ends-zero = and-right (z1 && z2) z3 zeros;
+        ends-zero = and-right (z1 && z2) z3 e;
       }
 
+  -- clean tables are not too short
   clean-long : Clean d N (h .rows) t → shortTables t d N ≡ false
   unfolding shortTables
   clean-long c =
@@ -117,15 +132,14 @@ module _ (h : Head) (t : Tables) where
       let outdoneAny = any (outdone d (h .directions) rs) rs in
       let wrongAny = any (λ r. not (eqb (r .lowerEnd) (rightEnd d (h .directions) rs r))) rs in
       let gapAny = any (unexplained d (h .directions) rs) (between (windowStart (h .newest) N) (h .newest)) in
-      let all =
-      all-of-five (not (tornRows h rs)) (not outdoneAny) (not wrongAny)
-      (zeroFrom (h .rows * d) (N * d) (t .columns) && zeroFrom (h .rows) N (t .positions) && zeroFrom (h .rows) N (t .lowerEnds)) (not gapAny) e in
+      let all = all-of-five (not (tornRows h rs)) (not outdoneAny) (not wrongAny) zeros (not gapAny) e in
       record {
         untorn = not-true (tornRows h rs) (all .0);
         rules = record { none-outdone = not-true outdoneAny (all .1); ends-right = not-true wrongAny (all .2); explained = not-true gapAny (all .4) };
         clean = long-clean long (all .3);
       }
 
+  -- where all the rules hold, `passes` says so
   passed-passes : Passed h t → passes h t ≡ true
   unfolding passes
   passed-passes p = rw (p .untorn, p .rules .none-outdone, p .rules .ends-right, p .rules .explained, p .clean .columns-zero, p .clean .positions-zero, p .clean .ends-zero)

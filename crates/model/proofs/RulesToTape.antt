@@ -32,6 +32,7 @@ module _ (d directions : ℕ) where
   columnsAt [] p = worst d directions
   columnsAt (r ∷ rs) p = cond (eqb p (r .position)) (r .columns) (columnsAt rs p)
 
+  -- at a row's position, its columns
   at-row : (lo hi : ℕ) (rs : List Row) → rising lo hi (map Row.position rs) ≡ true → (r : Row) → List·Memᴰ r rs
       → (lo ≤ r .position) × (columnsAt rs (r .position) ≡ r .columns)
   unfolding columnsAt
@@ -45,6 +46,7 @@ module _ (d directions : ℕ) where
       go u (inl q) f = rw q (u, rw (eq-eqb (x .position) (x .position) refl))
       go u (inr n) f = let t = f n in (omega arith, rw (ne-eqb (r .position) (x .position) (λ w. let a = t .0 in omega arith)) (t .1))
 
+  -- at a position without a row, the worst quote
   at-none : (rs : List Row) (p : ℕ) → contains p (map Row.position rs) ≡ false → columnsAt rs p ≡ worst d directions
   unfolding columnsAt contains any
   at-none [] p e = refl
@@ -91,15 +93,19 @@ module _ (d directions : ℕ) where
 
   module _ (N M : ℕ) (rs : List Row) (rises : rising (windowStart M N) M (map Row.position rs) ≡ true)
       (small : (r : Row) → List·Memᴰ r rs → Small (r .columns)) (R : Rules d directions N M rs) where
+    -- the first position of the window of N
     abbrev S : ℕ
     S = windowStart M N
 
+    -- the quotes of the tape
     abbrev qs : List (List ℕ)
     qs = tapeOf M rs
 
+    -- one position of the tape dominates another
     abbrev over : ℕ → ℕ → Bool
     over = dominatesAt d directions qs
 
+    -- the positions that have a row
     abbrev positions : List ℕ
     positions = map Row.position rs
 
@@ -107,9 +113,11 @@ module _ (d directions : ℕ) where
     unfolding windowStart
     from-one = omega arith
 
+    -- a row is in the window
     row-within : (r : Row) → List·Memᴰ r rs → (S ≤ r .position) × (r .position ≤ M)
     row-within r m = rising-bounds S M (r .position) positions rises (into-map Row.position r rs m)
 
+    -- the quote of the tape at a position of the window
     quote-at : (p : ℕ) → S ≤ p → p ≤ M → quoteAt qs p ≡ columnsAt rs p
     unfolding quoteAt
     quote-at p u v =
@@ -123,9 +131,11 @@ module _ (d directions : ℕ) where
     quote-none : (p : ℕ) → S ≤ p → p ≤ M → contains p positions ≡ false → quoteAt qs p ≡ worst d directions
     quote-none p u v e = quote-at p u v ∙ at-none rs p e
 
+    -- a position that has a row
     row-of : (p : ℕ) → contains p positions ≡ true → (r : Row) × List·Memᴰ r rs × (p ≡ r .position)
     row-of p e = of-map Row.position p rs (contains-mem p positions e)
 
+    -- no younger row dominates a row
     not-outdone : (r q : Row) → List·Memᴰ r rs → List·Memᴰ q rs → r .position < q .position → dominates d directions (q .columns) (r .columns) ≡ false
     unfolding outdone
     not-outdone r q m n h =
@@ -187,12 +197,14 @@ module _ (d directions : ℕ) where
             let r = row-of p e in
             not-of (dominatedIn over (suc p) M p) (of-free over (suc p) M p (omega arith) (λ q a b. let w = r .2 in rw (r .2) (row-stands (r .0) (r .1) q (omega arith) b)))
 
+    -- the positions of the tape that have a row are those of the rows
     rows-are : rows over S M ≡ positions
     unfolding rows between
     rows-are =
         filter-same (undominated over M) (λ p. contains p positions) S (suc M - S) (λ p u v. undominated-is p u (omega arith))
         ∙ sym (rising-is S M positions rises)
 
+    -- the lower ends of the tape are those of the rows
     ends-are : (r : Row) → List·Memᴰ r rs → lowerEnd over S M (r .position) ≡ r .lowerEnd
     unfolding lowerEnd rightEnd dominatesAt
     ends-are r m =

@@ -54,12 +54,15 @@ covered dom tra M p h e = go (last-spec (λ q. dom q p) 0 (suc p) (suc M - suc p
     }
 
 module _ (s : Reference) where
+  -- the columns of a quote
   abbrev d : ℕ
   d = s .dimensions
 
+  -- the newest position
   abbrev M : ℕ
   M = newest s
 
+  -- the first position of the window of N
   abbrev S : ℕ
   S = windowStart M (s .capacity)
 

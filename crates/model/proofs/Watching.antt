@@ -22,7 +22,7 @@ use Rattle.frames.specs.declared.Message.the-variants.{Join}
 use Rattle.model.specs.Changes.{frames}
 use Rattle.model.specs.Reference.{Reference, skylineOf, rowOf, rowsOf, headOf, opened, outside, withWatched, tells, referenceStep}
 use Rattle.model.specs.Book.{shortLoan, bookRows, listOf, replyOf, outOfRange, lookCells, lookAnswer, lookReply, lookOut, watchBytes, watchAnswer, watchReply, watchWatches, watchOut, endAnswer, endReply, endWatches}
-use Rattle.model.specs.Calls.{Look, Watch, End, Lent, bookStep, deskStep, fed, outputOf, shown}
+use Rattle.model.specs.Calls.{Look, Watch, End, Lent, bookStep, expectedStep, fed, outputOf, shown}
 use Rattle.model.proofs.Joined.{Faithful, Joined, Agree, referenceWith, bookWith, long-records, in-range, joined, shown-opened, shown-still, watches-read, skyline-read, judged, judged-watchful}
 
 -- the watches are no part of the head
@@ -57,7 +57,7 @@ module _ (s : Reference) (l : Lent) (f : Faithful s l) (n : ℕ) where
 
     -- the look is seen alike
     pub looks : Agree (Look n out) (referenceWith s l) (bookWith s l)
-    unfolding bookStep deskStep referenceStep tells fed outputOf lookReply lookOut replyOf settled laid
+    unfolding bookStep expectedStep referenceStep tells fed outputOf lookReply lookOut replyOf settled laid
     looks = go look-answer refl
       where
         go : (a : Answer) → look-answer ≡ a → Agree (Look n out) (referenceWith s l) (bookWith s l)
@@ -124,7 +124,7 @@ module _ (s : Reference) (l : Lent) (f : Faithful s l) (n : ℕ) where
 
     -- the watch is seen alike
     pub watches : Agree (Watch n out) (referenceWith s l) (bookWith s l)
-    unfolding bookStep deskStep referenceStep tells fed outputOf watchReply watchWatches watchOut replyOf settled laid
+    unfolding bookStep expectedStep referenceStep tells fed outputOf watchReply watchWatches watchOut replyOf settled laid
     watches = go watch-answer refl
       where
         go : (a : Answer) → watch-answer ≡ a → Agree (Watch n out) (referenceWith s l) (bookWith s l)
@@ -151,7 +151,7 @@ module _ (s : Reference) (l : Lent) (f : Faithful s l) (n : ℕ) where
 
   -- the end of a watch is seen alike
   pub ends : Agree (End n) (referenceWith s l) (bookWith s l)
-  unfolding bookStep deskStep referenceStep tells fed outputOf endReply endWatches replyOf settled laid without
+  unfolding bookStep expectedStep referenceStep tells fed outputOf endReply endWatches replyOf settled laid without
   ends = go end-answer refl
     where
       ns : List ℕ

@@ -33,18 +33,6 @@ module _ (d directions : ℕ) where
   unfolding worst
   worst-at i h = getD-run (worstAt directions) 0 0 d i h ∙ ap (worstAt directions) (zero-add i)
 
-  pub worst-small : Small worst
-  unfolding worstAt
-  worst-small i = go (decLt i d)
-    where
-      either-end : (b : Bool) → cond b 0 largest ≤ largest
-      either-end true = zero-le
-      either-end false = le-refl largest
-
-      go : Dec (i < d) → getD worst i 0 ≤ largest
-      go (yes h) = rw (worst-at i h) (either-end (higher directions i))
-      go (no n) = let e = length-worst in rw (List·getD-eq-default worst 0 {n = i} (omega arith)) zero-le
-
   -- no value is worse than the worst
   none-worse : (i x : ℕ) → x ≤ largest → better (higher directions i) (worstAt directions i) x ≡ false
   unfolding better worstAt
@@ -62,6 +50,18 @@ module _ (d directions : ℕ) where
       go : (b : Bool) → (x ≡ cond b 0 largest → ⊥) → better b x (cond b 0 largest) ≡ true
       go true n = lt-ltb 0 x (let m : x ≡ 0 → ⊥ = n in omega arith)
       go false n = lt-ltb x largest (let m : x ≡ largest → ⊥ = n in omega arith)
+
+  pub worst-small : Small worst
+  unfolding worstAt
+  worst-small i = go (decLt i d)
+    where
+      either-end : (b : Bool) → cond b 0 largest ≤ largest
+      either-end true = zero-le
+      either-end false = le-refl largest
+
+      go : Dec (i < d) → getD worst i 0 ≤ largest
+      go (yes h) = rw (worst-at i h) (either-end (higher directions i))
+      go (no n) = let e = length-worst in rw (List·getD-eq-default worst 0 {n = i} (omega arith)) zero-le
 
   -- in no column below d is the worst quote better
   worst-not-better : (q : List ℕ) → Small q → (i : ℕ) → i < d → betterAt directions i worst q ≡ false

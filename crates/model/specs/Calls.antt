@@ -95,14 +95,14 @@ shown s l =
     (record { tables = filled (s .dimensions) (s .capacity) (rowsOf s) (l .tables); watches = padded 8 (s .watched) (l .watches) })
     l
 
--- the reference model between two calls, with what is lent
-pub record Desk : Type 0 where
+-- the reference model between two calls, with what is lent: what the book is expected to show
+pub record Expected : Type 0 where
   pub reference : Reference
   pub lent : Lent
 
 -- one call by the reference model: what is then to be seen
-unfoldable pub deskStep : Call → Desk → Seen × Desk
-deskStep c k =
+unfoldable pub expectedStep : Call → Expected → Seen × Expected
+expectedStep c k =
     let told = referenceStep (fed (k .lent) c) (k .reference) in
     let lent = shown (told .next) (k .lent) in
     let reply : Reply = record { answer = told .answer; head = told .head; count = length (told .written) } in

@@ -1,5 +1,5 @@
 -- The laws of the crate.
 pub mod Reading
 pub mod Torn
-pub mod Watches
 pub mod Marking
+pub mod Settled

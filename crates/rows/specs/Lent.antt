@@ -1,8 +1,37 @@
--- The lent tables.
-use Prim.Native.Nat.{ℕ}
+-- The lent tables, and what the tables are settled from.
+use mathlib.Core.Path.{_≡_}
+use Prim.Native.Nat.{ℕ, _*_, _≤_}
+use mathlib.Core.Bool.{Bool}
 use mathlib.Core.List.{List}
-use Rattle.model.specs.Rows.{Tables}
+use lib.ListN.{length}
+use Rattle.head.specs.declared.Head.{Head}
+use Rattle.head.specs.Heads.{lastPosition}
+use Rattle.model.specs.Rows.{Row, Tables, expiring, remaining, lowerEndAmong, rowsAfter}
+use Rattle.model.specs.Book.{bookRows}
+use Rattle.cells.specs.Selected.{selected}
 
 -- three lent tables
 abbrev pub tables : List ℕ → List ℕ → List ℕ → Tables
 tables columns positions lowerEnds = record { columns = columns; positions = positions; lowerEnds = lowerEnds }
+
+-- the rows of a book that stay when quote x comes
+abbrev pub rowsLeft : Head → List ℕ → Tables → List Row
+rowsLeft h x t = remaining (h .dimensions) (h .directions) x (expiring (h .newest) (h .capacity)) (bookRows h t)
+
+-- the rows of a book after quote x
+abbrev pub rowsNext : Head → List ℕ → Tables → List Row
+rowsNext h x t = rowsAfter (h .dimensions) (h .directions) (h .capacity) (h .newest) x (bookRows h t)
+
+-- quote x may be taken: the tables are long enough, the flags select the rows that stay, the lower end is the quote's among
+-- them, and there is room for one row more
+pub record Ready (h : Head) (x : List ℕ) (lower : ℕ) (flags : List Bool) (t : Tables) : Type 0 where
+  pub rows-fit : h .rows ≤ h .capacity
+  pub newest-fits : h .newest ≤ lastPosition
+  pub columns-fit : h .capacity * h .dimensions ≤ length (t .columns)
+  pub positions-fit : h .capacity ≤ length (t .positions)
+  pub lower-ends-fit : h .capacity ≤ length (t .lowerEnds)
+  pub flags-fit : h .rows ≤ length flags
+  pub wide : length x ≡ h .dimensions
+  pub selects : selected flags (bookRows h t) ≡ rowsLeft h x t
+  pub lower≡ : lower ≡ lowerEndAmong (h .dimensions) (h .directions) x (rowsLeft h x t)
+  pub room : length (rowsNext h x t) ≤ h .capacity

@@ -1,15 +1,17 @@
 // Code on the lent tables: torn rows, the rows that a quote leaves, and the tables after it.
 use cells::chosen;
+use cells::settle_cells;
+use cells::settle_rows;
 use dominance::compare;
 use head::Head;
 ghost use mathlib.Core.Path.{_≡_};
 ghost use Prim.Native.Nat.{_-_, _*_, _≤_};
 ghost use mathlib.Core.List.{[], _++_, map};
 ghost use lib.ListN.{length, drop};
-ghost use Rattle.model.specs.Rows.{rowsIn, remains, remaining, lowerEndAmong};
-ghost use Rattle.model.specs.Book.{tornRows, tornWatches, bookRows};
+ghost use Rattle.model.specs.Rows.{rowsIn, filled, remains, remaining, lowerEndAmong};
+ghost use Rattle.model.specs.Book.{tornRows, bookRows};
 ghost use Rattle.rows.specs.Order.{tornHead, inOrder};
-ghost use Rattle.rows.specs.Lent.{tables};
+ghost use Rattle.rows.specs.Lent.{tables, rowsNext, Ready};
 
 // x less y, and 0 where y is larger.
 fn difference(x: u32, y: u32) -> u32
@@ -62,23 +64,6 @@ pub fn torn_rows(head: Head, positions: &[u32], lower_ends: &[u32]) -> bool
     !in_order(before, head.newest, count, positions, lower_ends)
 }
 
-// Whether the eight watch records could not be (01: torn).
-pub fn torn_watches(capacity: u32, watches: [u32; 8]) -> bool
-    ensures { λ r. ⌜ r ≡ tornWatches capacity watches ⌝ }
-{
-    let mut fair = true;
-    let mut last: u32 = 0;
-    let mut i = 0;
-    while i < 8 {
-        let n = watches[i];
-        let empty = n == 0;
-        fair = fair & (empty | ((last < n) & (n <= capacity)));
-        last = chosen(empty, capacity, n);
-        i += 1;
-    }
-    !fair
-}
-
 // Marks which of count rows remain when the quote comes and position gone expires; gives the quote's lower end among them.
 pub fn mark(
     directions: u32,
@@ -110,4 +95,23 @@ pub fn mark(
         i += 1;
     }
     lower
+}
+
+// Takes a quote into the tables: the rows that stay, the quote's row behind them, and zeros up to the capacity; gives how
+// many rows there are.
+pub fn settle(head: Head, quote: &[u32], lower: u32, keep: &[bool], columns: &mut [u32], positions: &mut [u32], lower_ends: &mut [u32]) -> u32
+    requires { ⌜ Ready head (now quote) lower (now keep) (tables (now columns) (now positions) (now «lower_ends»)) ⌝ }
+    ensures { λ r. ⌜ r ≡ length (rowsNext head (now (quote .entry)) (tables (now (columns .entry)) (now (positions .entry)) (now («lower_ends» .entry)))) ⌝ }
+    ensures { λ _. ⌜ tables (now (columns .exit)) (now (positions .exit)) (now («lower_ends» .exit)) ≡ filled (head .dimensions) (head .capacity) (rowsNext head (now (quote .entry)) (tables (now (columns .entry)) (now (positions .entry)) (now («lower_ends» .entry)))) (tables (now (columns .entry)) (now (positions .entry)) (now («lower_ends» .entry))) ⌝ }
+{
+    let d = head.dimensions as usize;
+    let capacity = head.capacity as usize;
+    let count = head.rows as usize;
+    let next = head.newest + 1;
+    let gone = difference(next, head.capacity);
+    let places = capacity * d;
+    settle_rows(keep, d, count, quote, places, columns);
+    settle_cells(keep, gone, count, lower, capacity, lower_ends);
+    let rows = settle_cells(keep, 0, count, next, capacity, positions);
+    rows as u32
 }

@@ -3,7 +3,6 @@ use mathlib.Core.Path.{_∙_}
 use Prim.Native.Nat.{_≤_}
 use native.Mathlib.Omega.{arith}
 use lib.ListN.{getD}
-use Rattle.frames.specs.Frames.{bodyLength}
 use Rattle.frames.proofs.ReadCases.{beyond, at-end, unknown, cut, whole, some-column, quote-length, quote-message}
 use Rattle.frames.proofs.ReadColumns.{no-columns}
 use borrow.Author.Needs.{needs}

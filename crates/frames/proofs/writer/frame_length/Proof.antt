@@ -1,7 +1,6 @@
 -- `frame_length` meets its contract: a constant for each message, and for a quote the tests of the definition.
-use borrow.Author.Tests.{le-leb, lt-leb}
-use mathlib.Core.Bool.{_&&_}
-use Rattle.lists.proofs.Booleans.{and-false}
+use native.Mathlib.Omega.{arith}
+use Rattle.frames.proofs.WriteCases.{no-column, many-columns, length-quote}
 use borrow.Author.Needs.{needs}
 use Rattle.frames.proofs.writer.frame_length.Statement.{statement}
 use Rattle.frames.proofs.writer.frame_length.Tie as tie
@@ -10,10 +9,10 @@ enum-known-message : tie.Need-enum-known-message
 enum-known-message c = search needs
 
 returns : tie.Need-returns
-returns c = rw (c .before .before .message .given .1) (simp (lt-leb _ _ (c .if1 .taken)))
+returns c = no-column _ (c .before .before .message .given .1) (omega arith)
 
 returns-2 : tie.Need-returns-2
-returns-2 c = rw (c .before .before .before .message .given .1) (simp (lt-leb _ _ (c .if2 .taken), and-false))
+returns-2 c = many-columns _ (c .before .before .before .message .given .1) (omega arith)
 
 cast-result : tie.Need-cast-result
 cast-result c = search needs
@@ -49,7 +48,7 @@ enum-told-8 : tie.Need-enum-told-8
 enum-told-8 c = search needs
 
 returns-3 : tie.Need-returns-3
-returns-3 c = rw (c .before .before .before .message .given .1) (simp (le-leb _ _ (c .before .if1 .left), le-leb _ _ (c .if2 .left)))
+returns-3 c = length-quote _ (c .before .before .before .message .given .1) (omega arith) (omega arith)
 
 returns-4 : tie.Need-returns-4
 returns-4 c = search needs

@@ -1,5 +1,4 @@
 -- `lay` meets its contract: each message by the function that lays its frame.
-use mathlib.Core.Path.{refl}
 use Rattle.lists.specs.Lists.{laid}
 use Rattle.frames.specs.Frames.{frame}
 use Rattle.frames.proofs.WriteCases.{quote-fits}
@@ -11,7 +10,7 @@ enum-known-message : tie.Need-enum-known-message
 enum-known-message c = search needs
 
 lay-quote-requires : tie.Need-lay-quote-requires
-lay-quote-requires c κs = quote-fits _ _ (c .before .before .message .given .1) (c .before .before .before .before .before .pre .0) (c .before .before .before .before .before .pre .1)
+lay-quote-requires c κs = quote-fits _ (c .before .before .message .given .1) _ (c .before .before .before .before .before .pre .0) (c .before .before .before .before .before .pre .1)
 
 enum-known-message-2 : tie.Need-enum-known-message-2
 enum-known-message-2 c = search needs

@@ -1,0 +1,55 @@
+-- `audit` meets its contract: each return is one case of the verdict.
+use mathlib.Core.Path.{sym, _∙_}
+use borrow.Author.Needs.{needs}
+use borrow.Author.Tests.{not-true, not-false}
+use Rattle.model.specs.Audit.{verdictOf}
+use Rattle.audits.proofs.Lengths.{long}
+use Rattle.audits.proofs.Verdicts.{wrong-settings, too-short, by-rules}
+use Rattle.audits.proofs.audit.Statement.{statement}
+use Rattle.audits.proofs.audit.Tie as tie
+
+settings-hold-requires : tie.Need-settings-hold-requires
+settings-hold-requires c κs = search needs
+
+returns : tie.Need-returns
+returns c = sym (wrong-settings _ _ (sym (c .before .settings-hold .ensures) ∙ not-true _ (c .if1 .taken)))
+
+short-tables-requires : tie.Need-short-tables-requires
+short-tables-requires c κs = sym (c .before .settings-hold .ensures) ∙ not-false _ (c .if1 .left)
+
+returns-2 : tie.Need-returns-2
+returns-2 c =
+    sym (
+    too-short _ _ (sym (c .before .before .before .settings-hold .ensures) ∙ not-false _ (c .before .before .if1 .left)) (sym (c .before .short-tables .ensures) ∙ c .if2 .taken)
+    )
+
+meets-rules-requires : tie.Need-meets-rules-requires
+meets-rules-requires c κs =
+    let room = long _ _ _ (sym (c .before .short-tables .ensures) ∙ c .if2 .left) in
+    (room .columns-room, (room .positions-room, room .ends-room))
+
+returns-3 : tie.Need-returns-3
+unfolding verdictOf
+returns-3 c =
+    sym (
+    by-rules _ _ (sym (c .before .before .before .before .before .settings-hold .ensures) ∙ not-false _ (c .before .before .before .before .if1 .left)) (sym (c .before .before .before .short-tables .ensures) ∙ c .before .before .if2 .left) _ (sym (c .before .meets-rules .ensures) ∙ c .if3 .taken)
+    )
+
+returns-4 : tie.Need-returns-4
+unfolding verdictOf
+returns-4 c =
+    sym (
+    by-rules _ _ (sym (c .before .before .before .before .before .settings-hold .ensures) ∙ not-false _ (c .before .before .before .before .if1 .left)) (sym (c .before .before .before .short-tables .ensures) ∙ c .before .before .if2 .left) _ (sym (c .before .meets-rules .ensures) ∙ c .if3 .left)
+    )
+
+pub audit-spec : {M : Type 1} → statement M
+audit-spec =
+    tie.close
+    (tie.spec
+    settings-hold-requires
+    returns
+    short-tables-requires
+    returns-2
+    meets-rules-requires
+    returns-3
+    returns-4)

@@ -1,0 +1,40 @@
+-- What the two functions for a C host answer: the check of a frame, and the comparison of two quote frames.
+use mathlib.Core.Path.{_≡_}
+use Prim.Native.Nat.{ℕ, _+_, _*_, _/_, _^_, _≤_}
+use mathlib.Core.Bool.{_||_, not, cond}
+use mathlib.Core.List.{List}
+use lib.Dec.{ltb, eqb}
+use lib.ListN.{length, getD}
+use Rattle.dominance.specs.Dominance.{dominates}
+use Rattle.frames.specs.Frames.{within, bodyLength, columnsAt}
+
+-- the kind of the frame at the start of the bytes
+abbrev pub kindOf : List ℕ → ℕ
+kindOf bytes = getD bytes 0 0
+
+-- 0 if a whole frame stands at the start of the bytes, else 1 for an unknown kind or 2 for a cut frame; no byte is a cut frame
+unfoldable pub checkOf : List ℕ → ℕ
+checkOf bytes =
+    cond (eqb (length bytes) 0) 2
+    (cond (eqb (bodyLength (kindOf bytes)) 255) 1
+    (cond (ltb (length bytes) (1 + bodyLength (kindOf bytes))) 2 0))
+
+-- the columns of the quote frame at the start of the bytes
+unfoldable pub columnsOf : List ℕ → List ℕ
+columnsOf bytes = columnsAt bytes 1 (kindOf bytes)
+
+-- 2 if either frame is cut, 4 if the kinds differ or are no quotes, 3 if a direction bit is at d or above, else 100 or 101: the first
+-- quote dominates the second, or not
+unfoldable pub compareOf : List ℕ → List ℕ → ℕ → ℕ
+compareOf a b directions =
+    cond (eqb (checkOf a) 2 || eqb (checkOf b) 2) 2
+    (cond (not (within 1 6 (kindOf a)) || not (eqb (kindOf a) (kindOf b))) 4
+    (cond (not (eqb (directions / 2 ^ kindOf a) 0)) 3
+    (cond (dominates (kindOf a) directions (columnsOf a) (columnsOf b)) 100 101)))
+
+-- a whole quote frame of this kind stands at the start of the bytes
+pub record WholeQuote (kind : ℕ) (bytes : List ℕ) : Type 0 where
+  pub some : 1 ≤ kind
+  pub few : kind ≤ 6
+  pub first : kindOf bytes ≡ kind
+  pub long : 1 + 4 * kind ≤ length bytes

@@ -1,0 +1,4 @@
+-- The laws of the crate.
+pub mod Decoding
+pub mod Printing
+pub mod Again

@@ -1,0 +1,102 @@
+-- The tables that are settled by flags hold the rows after the quote.
+use mathlib.Core.Path.{_≡_, refl, sym, ap, _∙_}
+use Prim.Native.Nat.{ℕ, _+_, _-_, _*_, _≤_, _<_}
+use native.Mathlib.Nat.{mul-le-mul-right}
+use native.Mathlib.Omega.{arith}
+use mathlib.Core.Bool.{Bool, true, false, cond}
+use mathlib.Core.List.{List, [], _∷_, _++_, map, append-nil}
+use lib.Dec.{eqb}
+use lib.ListN.{length, take, length-append, length-map}
+use borrow.Author.Tests.{eqb-true}
+use Rattle.lists.specs.Lists.{flat, run, padded}
+use Rattle.lists.proofs.Filters.{map-append, map-map, map-id, flat-append}
+use Rattle.head.specs.declared.Head.{Head}
+use Rattle.model.specs.Rows.{Row, Tables, rowAt, rowsIn, filled, expiring, renamed, renamedRow, lowerEndAmong, rowsAfter}
+use Rattle.model.specs.Book.{bookRows}
+use Rattle.cells.specs.Selected.{selected, columnsIn}
+use Rattle.cells.proofs.Selecting.{map-selected}
+use Rattle.rows.specs.Lent.{tables, rowsLeft, rowsNext, Ready}
+use Rattle.rows.proofs.Reading.{positions-in, lower-ends-in, columns-in, columns-narrow, row-within}
+
+-- the rows after a quote, table by table
+module _ (h : Head) (x : List ℕ) (t : Tables) where
+  abbrev gone : ℕ
+  gone = expiring (h .newest) (h .capacity)
+
+  next-length : length (rowsNext h x t) ≡ length (rowsLeft h x t) + 1
+  unfolding rowsAfter
+  next-length = rw (length-append, length-map)
+
+  next-columns : flat (map Row.columns (rowsNext h x t)) ≡ flat (map Row.columns (rowsLeft h x t)) ++ x
+  unfolding rowsAfter renamedRow flat
+  next-columns = rw (map-append, map-map, flat-append, append-nil)
+
+  next-positions : map Row.position (rowsNext h x t) ≡ map Row.position (rowsLeft h x t) ++ ((h .newest + 1) ∷ [])
+  unfolding rowsAfter renamedRow
+  next-positions = rw (map-append, map-map)
+
+  next-lower-ends : map Row.lowerEnd (rowsNext h x t) ≡ map (renamed gone) (map Row.lowerEnd (rowsLeft h x t)) ++ (lowerEndAmong (h .dimensions) (h .directions) x (rowsLeft h x t) ∷ [])
+  unfolding rowsAfter renamedRow
+  next-lower-ends = rw (map-append, map-map, map-map)
+
+renamed-none : (lower : ℕ) → renamed 0 lower ≡ lower
+unfolding renamed
+renamed-none lower = go (eqb lower 0) (eqb-true lower 0)
+  where
+    go : (b : Bool) → (b ≡ true → lower ≡ 0) → cond b 0 lower ≡ lower
+    go true e = sym (e refl)
+    go false e = refl
+
+renamed-none-all : (l : List ℕ) → map (renamed 0) l ≡ l
+renamed-none-all [] = refl
+renamed-none-all (y ∷ ys) = rw (renamed-none y, renamed-none-all ys)
+
+module _ {h : Head} {x : List ℕ} {lower : ℕ} {flags : List Bool} {cs ps ls : List ℕ} (v : Ready h x lower flags (tables cs ps ls)) where
+  abbrev t : Tables
+  t = tables cs ps ls
+
+  abbrev kept : List Row
+  kept = selected flags (bookRows h t)
+
+  kept-positions : selected flags (take (h .rows) ps) ≡ map Row.position (rowsLeft h x t)
+  unfolding bookRows
+  kept-positions = rw (← positions-in (h .dimensions) (h .rows) t (let a = v .rows-fit in let b = v .positions-fit in omega arith), ← map-selected) (ap (map Row.position) (v .selects))
+
+  kept-lower-ends : selected flags (take (h .rows) ls) ≡ map Row.lowerEnd (rowsLeft h x t)
+  unfolding bookRows
+  kept-lower-ends = rw (← lower-ends-in (h .dimensions) (h .rows) t (let a = v .rows-fit in let b = v .lower-ends-fit in omega arith), ← map-selected) (ap (map Row.lowerEnd) (v .selects))
+
+  kept-columns : selected flags (columnsIn (h .dimensions) (h .rows) cs) ≡ map Row.columns (rowsLeft h x t)
+  unfolding bookRows
+  kept-columns = rw (← columns-in (h .dimensions) (h .rows) t, ← map-selected) (ap (map Row.columns) (v .selects))
+
+  left-below : length (rowsLeft h x t) < h .capacity
+  left-below = omega (arith, next-length h x t, v .room)
+
+  pub positions-room : length (selected flags (take (h .rows) ps)) < h .capacity
+  positions-room = rw (kept-positions, length-map) left-below
+
+  pub lower-ends-room : length (selected flags (take (h .rows) ls)) < h .capacity
+  lower-ends-room = rw (kept-lower-ends, length-map) left-below
+
+  -- the kept rows' columns and the quote's lie within the places
+  pub columns-room : length (flat (selected flags (columnsIn (h .dimensions) (h .rows) cs))) + length x ≤ h .capacity * h .dimensions
+  unfolding bookRows rowsIn
+  columns-room =
+      let places : List ℕ = selected flags (run 0 (h .rows)) in
+      let rows : map (rowAt (h .dimensions) t) places ≡ rowsLeft h x t = map-selected (rowAt (h .dimensions) t) flags (run 0 (h .rows)) ∙ v .selects in
+      let count : length places ≡ length (rowsLeft h x t) = sym (length-map places (rowAt (h .dimensions) t)) ∙ ap length rows in
+      rw (kept-columns, ← rows)
+      (omega (arith, v .wide, count, left-below, columns-narrow (h .dimensions) t places, row-within (length places) (h .capacity) (h .dimensions) (omega (arith, count, left-below))))
+
+  pub settled : (cs' ps' ls' : List ℕ) (gone : ℕ) → gone ≡ h .newest + 1 - h .capacity
+      → cs' ≡ padded (h .capacity * h .dimensions) (flat (selected flags (columnsIn (h .dimensions) (h .rows) cs)) ++ x) cs
+      → ps' ≡ padded (h .capacity) (map (renamed 0) (selected flags (take (h .rows) ps)) ++ ((h .newest + 1) ∷ [])) ps
+      → ls' ≡ padded (h .capacity) (map (renamed gone) (selected flags (take (h .rows) ls)) ++ (lower ∷ [])) ls
+      → tables cs' ps' ls' ≡ filled (h .dimensions) (h .capacity) (rowsNext h x t) t
+  unfolding filled expiring
+  settled cs' ps' ls' gone g c p l =
+      rw (next-columns, next-positions, next-lower-ends, ← kept-columns, ← kept-positions, ← kept-lower-ends, ← v .lower≡, ← g, c, p, l, renamed-none-all)
+
+  pub settled-count : (r : ℕ) → r ≡ length (selected flags (take (h .rows) ps)) + 1 → r ≡ length (rowsNext h x t)
+  settled-count r e = e ∙ rw (next-length, kept-positions, length-map)

@@ -1,0 +1,61 @@
+// Lines of print, laid at the start of a lent text.
+ghost use mathlib.Core.Path.{_≡_};
+ghost use Prim.Native.Nat.{_+_, _*_, _≤_};
+ghost use lib.ListN.{length};
+ghost use Rattle.text.specs.Text.{digits, field, line, Laid};
+
+// How many decimal digits a number has.
+fn digit_count(n: u32) -> usize
+    ensures { λ r. ⌜ r ≡ length (digits n) ⌝ }
+{
+    let mut bound: u64 = 10;
+    let mut count = 1;
+    while bound <= n as u64 {
+        bound = bound * 10;
+        count += 1;
+    }
+    count
+}
+
+// Lays a number in decimal at the start of the text, and returns how many bytes.
+pub fn put_number(n: u32, text: &mut [u8]) -> usize
+    requires { ⌜ 10 ≤ length (now text) ⌝ }
+    ensures { λ r. ⌜ Laid (digits n) (now (text .entry)) r (now (text .exit)) ⌝ }
+{
+    let count = digit_count(n);
+    let mut rest = n;
+    let mut i = count;
+    while 0 < i {
+        i -= 1;
+        text[i] = 48 + (rest % 10) as u8;
+        rest = rest / 10;
+    }
+    count
+}
+
+// Lays a space and a number at the start of the text, and returns how many bytes.
+fn put_field(n: u32, text: &mut [u8]) -> usize
+    requires { ⌜ 11 ≤ length (now text) ⌝ }
+    ensures { λ r. ⌜ Laid (field n) (now (text .entry)) r (now (text .exit)) ⌝ }
+{
+    text[0] = 32;
+    let used = put_number(n, &mut text[1..]);
+    used + 1
+}
+
+// Lays a line at the start of the text: its letter, its numbers and a newline. Returns how many bytes.
+pub fn put_line(letter: u8, numbers: &[u32], text: &mut [u8]) -> usize
+    requires { ⌜ 2 + 11 * length (now numbers) ≤ length (now text) ⌝ }
+    ensures { λ r. ⌜ Laid (line letter (now (numbers .entry))) (now (text .entry)) r (now (text .exit)) ⌝ }
+{
+    text[0] = letter;
+    let mut at = 1;
+    let mut i = 0;
+    while i < numbers.len() {
+        let used = put_field(numbers[i], &mut text[at..]);
+        at += used;
+        i += 1;
+    }
+    text[at] = 10;
+    at + 1
+}

@@ -1,0 +1,49 @@
+/* The best-quote book for a C host: the check of a frame and the comparison of two quote frames.
+
+   Link with target/staticlib/libhost.a, which `rt staticlib host` writes (x86-64 Linux).
+
+   Both functions are pure: they read the bytes they are given, keep nothing, write nothing and
+   allocate nothing. Any number of threads may call them at once. The caller owns every buffer; a
+   buffer must stay unchanged while the call runs and may be freed when it returns. A pointer must
+   not be null, not even where its length is 0: point at any byte then.
+
+   A frame is one byte of kind and a body whose length the kind fixes. Bytes behind a whole frame
+   are ignored. A frame whose body runs past the end is cut; so is an empty slice.
+
+     kind     body bytes   meaning
+     1 to 6   4 * kind     a quote with that many columns, each little-endian, 0 to 4294967295
+     16       2            look: the list of n
+     17       2            watch n
+     18       2            end the watch of n
+     32       6            change: n (2), position (4) leaves
+     33       6            change: n (2), position (4) joins
+     48       4            open: d (1), N (2), directions (1)                                    */
+#ifndef BEST_QUOTE_H
+#define BEST_QUOTE_H
+
+#include <stddef.h>
+#include <stdint.h>
+
+/* What bqb_check_frame answers. */
+#define BQB_WHOLE 0u        /* a whole frame stands at the start of the bytes */
+#define BQB_UNKNOWN_KIND 1u /* there is a first byte and it is no kind of the table */
+#define BQB_CUT 2u          /* no byte at all, or a known kind whose body runs past the end */
+
+/* What bqb_compare_quotes answers; BQB_CUT is one of its refusals. */
+#define BQB_DIRECTIONS 3u /* a direction bit at the number of columns or above is set */
+#define BQB_KINDS 4u      /* the kinds differ, or are not quotes of 1 to 6 columns */
+#define BQB_BEATS 100u    /* the first quote beats the second */
+#define BQB_BEATS_NOT 101u
+
+/* Checks that a whole frame stands at the start of frame: BQB_WHOLE, BQB_UNKNOWN_KIND or BQB_CUT. */
+uint32_t bqb_check_frame(const uint8_t *frame, size_t frame_len);
+
+/* Compares two quote frames. Bit i of directions, worth 2 to the power i, stands for column i,
+   counted from 0: set means higher is better, clear means lower is better. The first beats the
+   second if it is no worse in every column and better in at least one; equal quotes do not beat
+   each other. Refusals, the first that applies: BQB_CUT (either frame is cut), BQB_KINDS,
+   BQB_DIRECTIONS. */
+uint32_t bqb_compare_quotes(const uint8_t *first, size_t first_len, const uint8_t *second,
+                            size_t second_len, uint8_t directions);
+
+#endif

@@ -1,0 +1,160 @@
+/* A worked C host: checks and compares frames and prints what the calls answer. It exits with 1 if an answer is not the one that the
+   text of the format gives. */
+#include <inttypes.h>
+#include <stdio.h>
+#include <string.h>
+
+#include "best_quote.h"
+
+static unsigned answers, wrong;
+
+/* Counts an answer and complains of a wrong one. */
+static void expect(const char *what, uint32_t got, uint32_t want) {
+    answers++;
+    if (got != want) {
+        wrong++;
+        fprintf(stderr, "worked_host: %s: %" PRIu32 ", not %" PRIu32 "\n", what, got, want);
+    }
+}
+
+/* The same, with a line of print. */
+static void say(const char *what, uint32_t got, uint32_t want) {
+    printf("%-58s %3" PRIu32 "\n", what, got);
+    expect(what, got, want);
+}
+
+/* Writes the quote frame of count columns into frame and gives its length. */
+static size_t quote(uint8_t *frame, uint8_t count, const uint32_t *columns) {
+    frame[0] = count;
+    for (size_t i = 0; i < count; i++) {
+        for (size_t b = 0; b < 4; b++) {
+            frame[1 + 4 * i + b] = (uint8_t)(columns[i] >> (8 * b));
+        }
+    }
+    return 1 + 4 * (size_t)count;
+}
+
+/* The body length that the format gives each kind, 255 for an unknown one. */
+static size_t body_length(int kind) {
+    if (1 <= kind && kind <= 6) return 4 * (size_t)kind;
+    if (16 <= kind && kind <= 18) return 2;
+    if (kind == 32 || kind == 33) return 6;
+    if (kind == 48) return 4;
+    return 255;
+}
+
+/* Every kind with every length from 0 to 64. */
+static void check_every_kind(void) {
+    uint8_t bytes[64];
+    memset(bytes, 0xff, sizeof bytes);
+    for (int kind = 0; kind < 256; kind++) {
+        bytes[0] = (uint8_t)kind;
+        size_t body = body_length(kind);
+        for (size_t length = 0; length <= sizeof bytes; length++) {
+            uint32_t want = BQB_WHOLE;
+            if (length == 0) {
+                want = BQB_CUT;
+            } else if (body == 255) {
+                want = BQB_UNKNOWN_KIND;
+            } else if (length < 1 + body) {
+                want = BQB_CUT;
+            }
+            expect("every kind at every length to 64", bqb_check_frame(bytes, length), want);
+        }
+    }
+}
+
+/* Every pair of kinds, each frame whole, every column alike. */
+static void compare_every_pair_of_kinds(void) {
+    uint8_t a[64], b[64];
+    memset(a, 0xff, sizeof a);
+    memset(b, 0xff, sizeof b);
+    for (int i = 0; i < 256; i++) {
+        for (int j = 0; j < 256; j++) {
+            a[0] = (uint8_t)i;
+            b[0] = (uint8_t)j;
+            uint32_t want = i == j && 1 <= i && i <= 6 ? BQB_BEATS_NOT : BQB_KINDS;
+            expect("every pair of kinds", bqb_compare_quotes(a, sizeof a, b, sizeof b, 0), want);
+        }
+    }
+}
+
+/* Every directions byte with every way in which the columns of two quotes can stand to each other: lower, equal or higher. */
+static void compare_every_standing(uint8_t count) {
+    uint8_t a[32], b[32];
+    unsigned standings = 1;
+    for (uint8_t i = 0; i < count; i++) standings *= 3;
+    size_t m = quote(b, count, (const uint32_t[]){300, 300, 300, 300, 300, 300});
+    for (unsigned standing = 0; standing < standings; standing++) {
+        for (unsigned directions = 0; directions < 256; directions++) {
+            uint32_t columns[6];
+            int better = 0, worse = 0;
+            unsigned left = standing;
+            for (uint8_t i = 0; i < count; i++, left /= 3) {
+                columns[i] = 200 + 100 * (left % 3);
+                better |= left % 3 == (directions >> i & 1 ? 2 : 0);
+                worse |= left % 3 == (directions >> i & 1 ? 0 : 2);
+            }
+            uint32_t want = directions >> count ? BQB_DIRECTIONS : better && !worse ? BQB_BEATS : BQB_BEATS_NOT;
+            size_t n = quote(a, count, columns);
+            expect("every standing of the columns", bqb_compare_quotes(a, n, b, m, (uint8_t)directions), want);
+        }
+    }
+}
+
+static void check_frames(void) {
+    const uint8_t empty[1] = {0};
+    const uint8_t look[] = {16, 5, 0};
+    const uint8_t open[] = {48, 2, 5, 0, 0};
+    const uint8_t unknown[] = {7, 0, 0, 0, 0};
+    say("an empty slice is cut", bqb_check_frame(empty, 0), BQB_CUT);
+    say("kind 0 is unknown", bqb_check_frame(empty, 1), BQB_UNKNOWN_KIND);
+    say("kind 7 is unknown, however short", bqb_check_frame(unknown, 1), BQB_UNKNOWN_KIND);
+    say("look 5", bqb_check_frame(look, sizeof look), BQB_WHOLE);
+    say("look 5 without its last byte", bqb_check_frame(look, 2), BQB_CUT);
+    say("open 2, 5, 0", bqb_check_frame(open, sizeof open), BQB_WHOLE);
+    say("open 2, 5, 0 without its last byte", bqb_check_frame(open, 4), BQB_CUT);
+}
+
+static void compare_frames(void) {
+    uint8_t a[32], b[32], c[32];
+    const uint8_t look[] = {16, 5, 0};
+    const uint8_t unknown[] = {7};
+    size_t n = quote(a, 2, (const uint32_t[]){4, 4});
+    size_t m = quote(b, 2, (const uint32_t[]){5, 5});
+    size_t k = quote(c, 1, (const uint32_t[]){0});
+    say("(4,4) against (5,5), lower is better", bqb_compare_quotes(a, n, b, m, 0), BQB_BEATS);
+    say("(5,5) against (4,4), lower is better", bqb_compare_quotes(b, m, a, n, 0), BQB_BEATS_NOT);
+    say("(4,4) against (4,4)", bqb_compare_quotes(a, n, a, n, 0), BQB_BEATS_NOT);
+    say("(5,5) against (4,4), higher is better", bqb_compare_quotes(b, m, a, n, 3), BQB_BEATS);
+    say("(5,5) against (4,4), higher in the second column", bqb_compare_quotes(b, m, a, n, 2), BQB_BEATS_NOT);
+    say("bytes behind a whole frame are ignored", bqb_compare_quotes(a, sizeof a, b, m, 0), BQB_BEATS);
+    say("the first frame is cut", bqb_compare_quotes(a, n - 1, b, m, 0), BQB_CUT);
+    say("the second frame is empty", bqb_compare_quotes(a, n, b, 0, 0), BQB_CUT);
+    say("the second is cut and the kinds differ", bqb_compare_quotes(a, n, look, 2, 0), BQB_CUT);
+    say("two and one column", bqb_compare_quotes(a, n, c, k, 0), BQB_KINDS);
+    say("a quote and a look", bqb_compare_quotes(a, n, look, sizeof look, 0), BQB_KINDS);
+    say("two looks", bqb_compare_quotes(look, sizeof look, look, sizeof look, 0), BQB_KINDS);
+    say("an unknown kind is not cut", bqb_compare_quotes(unknown, 1, unknown, 1, 0), BQB_KINDS);
+    say("different kinds come before a direction bit", bqb_compare_quotes(a, n, c, k, 255), BQB_KINDS);
+    say("a direction bit at the number of columns", bqb_compare_quotes(a, n, b, m, 4), BQB_DIRECTIONS);
+    say("a direction bit far above", bqb_compare_quotes(a, n, b, m, 128), BQB_DIRECTIONS);
+    n = quote(a, 1, (const uint32_t[]){0});
+    m = quote(b, 1, (const uint32_t[]){4294967295u});
+    say("0 against the largest, lower is better", bqb_compare_quotes(a, n, b, m, 0), BQB_BEATS);
+    say("0 against the largest, higher is better", bqb_compare_quotes(a, n, b, m, 1), BQB_BEATS_NOT);
+    n = quote(a, 6, (const uint32_t[]){1, 2, 3, 4, 5, 6});
+    m = quote(b, 6, (const uint32_t[]){1, 2, 3, 4, 5, 5});
+    say("six columns, the last higher, bit 5 set", bqb_compare_quotes(a, n, b, m, 32), BQB_BEATS);
+    say("six columns, the last higher, bit 5 clear", bqb_compare_quotes(a, n, b, m, 31), BQB_BEATS_NOT);
+}
+
+int main(void) {
+    check_frames();
+    compare_frames();
+    check_every_kind();
+    compare_every_pair_of_kinds();
+    for (uint8_t count = 1; count <= 6; count++) compare_every_standing(count);
+    printf("%u answers, %u wrong\n", answers, wrong);
+    return wrong != 0;
+}
