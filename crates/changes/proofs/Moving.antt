@@ -1,16 +1,22 @@
--- The rows that leave or join a list at a quote: their test, and how many they are.
-use mathlib.Core.Path.{_≡_, refl, sym, ap, _∙_}
-use Prim.Native.Nat.{ℕ, suc, _+_, _≤_}
+-- The rows that leave or join a list at a quote: their test, how many they are, and their frames.
+use mathlib.Core.Path.{_≡_, refl, sym, _∙_}
+use Prim.Native.Nat.{ℕ, _+_, _*_, _≤_, _<_}
 use native.Mathlib.Omega.{arith}
 use mathlib.Core.Bool.{Bool, true, false, _&&_, not, Bool·beq}
-use mathlib.Core.List.{List, [], _∷_}
+use mathlib.Core.List.{List, [], _∷_, _++_, map, append-assoc, append-nil}
 use lib.Dec.{ltb}
-use lib.ListN.{length, getD, length-append, length-map}
+use lib.ListN.{length, length-append, length-map}
 use mir.Val.{boolByte}
-use Rattle.lists.specs.Lists.{keep, filter, run}
+use borrow.Author.Tests.{lt-ltb, le-ltb}
+use Rattle.lists.specs.Lists.{keep, filter, flat, run}
+use Rattle.lists.proofs.Filters.{map-append}
+use Rattle.frames.specs.declared.Message.the-variants.{Join}
+use Rattle.frames.specs.Frames.{frame}
+use Rattle.model.specs.Changes.{frames}
 use Rattle.changes.specs.Picked.{picked}
-use Rattle.changes.specs.Swept.{Swept, wasListed, nowListed, moves, moving, joining}
+use Rattle.changes.specs.Swept.{Swept, change, wasListed, nowListed, moves, moving, joining, changed}
 use Rattle.changes.proofs.Picking.{picked-few, byte-small}
+use Rattle.changes.proofs.Framing.{frames-append, leaves-length, joins-length}
 
 -- the tests differ
 abbrev pub differs : Bool → Bool → Bool
@@ -38,7 +44,7 @@ filter-differs f g (x ∷ xs) = go (f x) (g x) (filter-differs f g xs)
     go false true h = omega arith
     go false false h = h
 
-pub picked-differs : (f g : ℕ → Bool) (positions : List ℕ) (count : ℕ)
+picked-differs : (f g : ℕ → Bool) (positions : List ℕ) (count : ℕ)
     → length (picked (λ i. differs (f i) (g i)) positions count) ≡ length (picked (λ i. f i && not (g i)) positions count) + length (picked (λ i. g i && not (f i)) positions count)
 unfolding picked
 picked-differs f g positions count = simp length-map (filter-differs f g (run 0 count))
@@ -87,3 +93,32 @@ module _ (s : Swept) (before after : ℕ) where
   few-changes newest lower =
       rw (← counted-changes newest lower (length (picked changesAt (s .positions) (s .count))) refl)
       (omega (arith, byte-small (ltb lower after), picked-few changesAt (s .positions) (s .count)))
+
+module _ (s : Swept) (before after newest lower n : ℕ) where
+  -- the frames of the rows that leave, and of those that join
+  abbrev pub leaveFrames : List ℕ
+  leaveFrames = frames (map (change false n) (moving s before after false))
+
+  abbrev pub joinFrames : List ℕ
+  joinFrames = frames (map (change true n) (moving s before after true))
+
+  -- the frames of the changes: the rows' leaves and joins, then the new row's join, if it is listed
+  changed-frames : frames (changed s before after newest lower n) ≡ (leaveFrames ++ joinFrames) ++ frames (map (Join n) (keep (ltb lower after) newest []))
+  unfolding changed joining change
+  changed-frames = rw (frames-append, map-append, frames-append) (sym (append-assoc leaveFrames joinFrames (frames (map (Join n) (keep (ltb lower after) newest [])))))
+
+  pub changed-listed : lower < after → frames (changed s before after newest lower n) ≡ (leaveFrames ++ joinFrames) ++ frame (Join n newest) []
+  unfolding frames flat
+  changed-listed h = changed-frames ∙ rw (lt-ltb lower after h, append-nil)
+
+  pub changed-unlisted : after ≤ lower → frames (changed s before after newest lower n) ≡ leaveFrames ++ joinFrames
+  unfolding frames flat
+  changed-unlisted h = changed-frames ∙ rw (le-ltb lower after h) (append-nil (leaveFrames ++ joinFrames))
+
+  -- there is room for the rows' leaves and joins where there is room for all
+  pub rows-fit : (room : ℕ) → length (frames (changed s before after newest lower n)) ≤ room → length (leaveFrames ++ joinFrames) ≤ room
+  rows-fit room h = omega (arith, rw (changed-frames, length-append) at h)
+
+  pub changed-length : length (frames (changed s before after newest lower n)) ≡ 7 * (length (moving s before after false) + length (joining s before after newest lower))
+  unfolding changed
+  changed-length = rw (frames-append, length-append, leaves-length n, joins-length n) (omega arith)

@@ -6,19 +6,19 @@ use native.Mathlib.Decide.{decLt}
 use native.Mathlib.Omega.{arith}
 use mathlib.Core.Bool.{Bool, true, false, _&&_, _||_, not}
 use mathlib.Core.List.{List, [], _∷_, _++_, map}
-use lib.Dec.{ltb, leb, eqb}
-use lib.ListN.{length, getD, take}
-use lib.Seq.{getD-take}
-use borrow.Author.Tests.{lt-ltb, le-ltb, le-leb, not-false}
-use Rattle.lists.specs.Lists.{keep, filter, any, lastOr, flat, run, contains, rising}
+use lib.Dec.{ltb, eqb}
+use lib.ListN.{length, getD, take, length-map, length-take}
+use lib.Seq.{take-all, getD-take}
+use borrow.Author.Tests.{lt-ltb, le-ltb, ltb-false, le-leb, not-false}
+use Rattle.lists.specs.Lists.{keep, filter, any, lastOr, flat, run, rising}
 use Rattle.lists.proofs.Booleans.{none-left, none-right}
-use Rattle.lists.proofs.Filters.{filter-append, filter-filter, filter-map, any-append, map-append, map-map}
-use Rattle.lists.proofs.Runs.{getD-run}
+use Rattle.lists.proofs.Filters.{filter-append, filter-filter, filter-map, map-append, map-map}
+use Rattle.lists.proofs.Runs.{length-run, getD-run}
 use Rattle.skyline.specs.Skyline.{windowStart, stabbed}
 use Rattle.head.specs.declared.Head.{Head}
-use Rattle.head.specs.Heads.{afterQuote, lastPosition}
+use Rattle.head.specs.Heads.{lastPosition}
 use Rattle.frames.specs.declared.Message.{Message}
-use Rattle.model.specs.Rows.{Row, Tables, rowAt, rowsIn, expiring, renamed, renamedRow, listed, remains, remaining, lowerEndAmong, rowsAfter}
+use Rattle.model.specs.Rows.{Row, Tables, rowAt, rowsIn, expiring, renamedRow, listed, remains, remaining, lowerEndAmong, rowsAfter}
 use Rattle.model.specs.Changes.{missing, changes, allChanges, frames}
 use Rattle.model.specs.Book.{tornRows, bookRows, standing, listOf, quoteRows, quoteHead, quoteBytes}
 use Rattle.changes.specs.Picked.{picked}
@@ -26,8 +26,8 @@ use Rattle.changes.specs.Swept.{Swept, swept, wasListed, nowListed, move
 use Rattle.changes.specs.Watches.{watchFrames, allFrames}
 use Rattle.changes.proofs.Picking.{rows-picked, listed-picked}
 use Rattle.changes.proofs.Framing.{frames-append}
-use Rattle.changes.proofs.Distinct.{Distinct, rising-distinct, picked-same, filter-picked, missing-picked, missing-behind}
-use Rattle.changes.proofs.Watching.{after-newest, watch-none, watch-some}
+use Rattle.changes.proofs.Distinct.{Distinct, rising-distinct, picked-same, missing-picked, missing-behind}
+use Rattle.changes.proofs.Watching.{after-newest, watch-none, watch-some, all-fit}
 
 -- a row alone makes a list of its position, where it is listed
 new-listed : (after : ℕ) (r : Row) → after ≤ r .position
@@ -116,13 +116,21 @@ rows-positions : (d count : ℕ) (t : Tables) → map Row.position (rowsIn d cou
 unfolding rowsIn rowAt
 rows-positions d count t = map-map Row.position (rowAt d t) (run 0 count)
 
--- the positions of rows that are not torn are distinct
-pub untorn-distinct : (h : Head) (t : Tables) → tornRows h (bookRows h t) ≡ false → Distinct (t .positions) (h .rows) (h .newest)
+-- of rows that are not torn: no more than N, their positions distinct
+pub record Untorn (h : Head) (t : Tables) : Type 0 where
+  pub few : h .rows ≤ h .capacity
+  pub apart : Distinct (t .positions) (h .rows) (h .newest)
+
+pub untorn-rows : (h : Head) (t : Tables) → tornRows h (bookRows h t) ≡ false → Untorn h t
 unfolding tornRows bookRows
-untorn-distinct h t e =
-    rising-distinct (t .positions) (h .rows) (windowStart (h .newest) (h .capacity)) (h .newest)
-    (rw (rows-positions (h .dimensions) (h .rows) t) at
-    (not-false R (none-right A (not R) (none-left (A || not R) B (none-left (A || not R || B) C e)))))
+untorn-rows h t e =
+    let judged = none-left (A || not R) B (none-left (A || not R || B) C e) in
+    record {
+      few = ltb-false (h .capacity) (h .rows) (none-left (ltb (h .capacity) (h .rows)) M (none-left (ltb (h .capacity) (h .rows) || M) K (none-left A (not R) judged)));
+      apart =
+          rising-distinct (t .positions) (h .rows) (windowStart (h .newest) (h .capacity)) (h .newest)
+          (rw (rows-positions (h .dimensions) (h .rows) t) at (not-false R (none-right A (not R) judged)));
+    }
   where
     P : List ℕ
     P = map Row.position (bookRows h t)
@@ -130,11 +138,14 @@ untorn-distinct h t e =
     R : Bool
     R = rising (windowStart (h .newest) (h .capacity)) (h .newest) P
 
+    M : Bool
+    M = ltb lastPosition (h .newest)
+
+    K : Bool
+    K = eqb (h .rows) 0 && ltb 0 (h .newest) || ltb 0 (h .rows) && eqb (h .newest) 0
+
     A : Bool
-    A =
-        ltb (h .capacity) (h .rows)
-        || ltb lastPosition (h .newest)
-        || (eqb (h .rows) 0 && ltb 0 (h .newest) || ltb 0 (h .rows) && eqb (h .newest) 0)
+    A = ltb (h .capacity) (h .rows) || M || K
 
     B : Bool
     B = not (eqb (lastOr 0 P) (h .newest))
@@ -154,7 +165,7 @@ module _ (h : Head) (t : Tables) {x : List ℕ} {kept : List Bool} {gone lower :
   unfolding listOf quoteHead quoteRows bookRows windowStart
   watch-frames ws n l =
       watch-some sweep (h .newest) lower n (λ e. omega arith) B A refl refl
-      ∙ ap frames (changed-is t v B A (untorn-distinct h t untorn) (omega arith) n)
+      ∙ ap frames (changed-is t v B A (untorn-rows h t untorn .apart) (omega arith) n)
       ∙ ap (λ (m : ℕ). frames (changes n (listOf h (bookRows h t) n) (listed (windowStart m n) (quoteRows h x t ws)))) (sym (after-newest h (quoteHead h x t ws) (length (quoteRows h x t ws)) refl below))
     where
       B : ℕ
@@ -187,3 +198,27 @@ module _ (h : Head) (t : Tables) {x : List ℕ} {kept : List Bool} {gone lower :
   pub quote-frames : (ws : List ℕ) → allFrames sweep (h .newest) lower (take 8 ws) ≡ quoteBytes h x t ws
   unfolding quoteBytes standing
   quote-frames ws = records-frames ws (take 8 ws)
+
+-- 57,400 bytes suffice for any quote: 1,025 changes a watch at most, 7 bytes each, eight watches
+pub changes-fit : (h : Head) (t : Tables) (x ws : List ℕ) → tornRows h (bookRows h t) ≡ false → h .newest < lastPosition → h .capacity ≤ 1024
+    → length (quoteBytes h x t ws) ≤ 57400
+unfolding bookRows rowsIn
+changes-fit h t x ws untorn below small =
+    let few = untorn-rows h t untorn .few in
+    let fit = all-fit (swept kept (t .positions) (t .lowerEnds) (h .rows) gone) (h .newest) lower (omega arith) (take 8 ws) in
+    rw (← quote-frames h t untorn below found ws) (omega (arith, length-take 8 ws, fit))
+  where
+    gone : ℕ
+    gone = expiring (h .newest) (h .capacity)
+
+    kept : List Bool
+    kept = map (remains (h .dimensions) (h .directions) x gone) (bookRows h t)
+
+    lower : ℕ
+    lower = lowerEndAmong (h .dimensions) (h .directions) x (remaining (h .dimensions) (h .directions) x gone (bookRows h t))
+
+    long : length kept ≡ h .rows
+    long = simp length-map (length-run 0 (h .rows))
+
+    found : Found (h .dimensions) (h .directions) (h .capacity) (h .newest) (h .rows) (bookRows h t) x kept gone lower
+    found = record { expired = refl; flags = take-all (h .rows) kept (omega (arith, long)); sought = refl }

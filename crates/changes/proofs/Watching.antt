@@ -1,14 +1,14 @@
 -- Laws of the frames of watch records: an empty record has none, and the frames of several stand one behind the other.
 use mathlib.Core.Path.{_≡_, refl, sym, ap, _∙_}
 use Prim.Native.Nat.{ℕ, zero, suc, _+_, _-_, _*_, _≤_, _<_}
-use native.Mathlib.Nat.{suc-add}
+use native.Mathlib.Nat.{suc-add, le-refl}
 use native.Mathlib.Decide.{decLt}
 use native.Mathlib.Omega.{arith}
 use mathlib.Core.Bool.{Bool, true, false, _&&_, not, cond}
 use mathlib.Core.List.{List, [], _∷_, _++_, append-assoc, append-nil}
 use lib.Dec.{ltb, leb, eqb}
 use lib.ListN.{length, getD, take, length-append}
-use lib.Seq.{take-nil, take-all, getD-take}
+use lib.Seq.{take-nil, take-all, take-take, getD-take}
 use borrow.Author.Tests.{lt-ltb, ltb-false, leb-true, eqb-true, eq-eqb, ne-eqb, not-true, not-false}
 use borrow.Rule.Slice.PartMut.{midOf, putMid}
 use Rattle.lists.specs.Lists.{flat, any, laid}
@@ -21,8 +21,7 @@ use Rattle.model.specs.Changes.{frames}
 use Rattle.model.specs.Book.{ordered, tornWatches}
 use Rattle.changes.specs.Swept.{Swept, moving, joining, changed}
 use Rattle.changes.specs.Watches.{watchFrames, allFrames}
-use Rattle.changes.proofs.Framing.{changed-length}
-use Rattle.changes.proofs.Moving.{few-changes}
+use Rattle.changes.proofs.Moving.{few-changes, changed-length}
 
 -- below the last position a quote moves the newest position on
 pub after-newest : (h next : Head) (rows : ℕ) → next ≡ afterQuote h rows → h .newest < lastPosition → next .newest ≡ h .newest + 1
@@ -68,6 +67,12 @@ module _ (s : Swept) (newest lower : ℕ) where
   all-more [] i = rw (take-nil (i + 1), take-nil i, watch-none s newest lower 0 refl)
   all-more (w ∷ ws) zero = append-nil (watchFrames s newest lower w)
   all-more (w ∷ ws) (suc i) = rw (suc-add, all-more ws i, append-assoc)
+
+  -- of at most 1,024 rows, 1,025 changes a watch at most
+  pub all-fit : s .count ≤ 1024 → (ws : List ℕ) → length (allFrames s newest lower ws) ≤ 7175 * length ws
+  unfolding allFrames flat
+  all-fit h [] = omega arith
+  all-fit h (w ∷ ws) = rw length-append (omega (arith, watch-small s newest lower w, all-fit h ws))
 
 -- the frames of the first i of eight watch records stand at the front of the output
 pub record Written (s : Swept) (newest lower : ℕ) (ws entry out : List ℕ) (at i : ℕ) : Type 0 where
@@ -138,6 +143,11 @@ ordered-below lo N (w ∷ ws) i e = go (eqb w 0) refl e i (λ f j. ordered-below
     go true q f (suc j) r = omega (arith, none-above ws j (not-true (any (ltb 0) ws) f))
     go false q f zero r = leb-true w N (and-right (leb lo w) (leb w N) (and-left (leb lo w && leb w N) (ordered (suc w) N ws) f))
     go false q f (suc j) r = r (and-right (leb lo w && leb w N) (ordered (suc w) N ws) f) j
+
+-- records past the eighth are not judged
+pub torn-eight : (N : ℕ) (ws : List ℕ) → tornWatches N (take 8 ws) ≡ tornWatches N ws
+unfolding tornWatches
+torn-eight N ws = rw (take-take 8 8 ws (le-refl 8))
 
 -- no watch record is above N
 pub watch-below : (N : ℕ) (ws : List ℕ) (i : ℕ) → tornWatches N ws ≡ false → i < 8 → getD ws i 0 ≤ N

@@ -6,7 +6,7 @@ use borrow.Author.Needs.{needs}
 use Rattle.frames.specs.declared.Message.the-variants.{Join}
 use Rattle.changes.proofs.Picking.{listedAt, bare-picked}
 use Rattle.changes.proofs.Writing.{Writing, writing-start, writing-pass, writing-all}
-use Rattle.changes.proofs.Framing.{framing, frames-cells, cells-length, join-length, frame-fits, frame-laid}
+use Rattle.changes.proofs.Framing.{framing, join-length, frames-cells, joins-length, frame-fits, frame-laid}
 use Rattle.changes.proofs.listing.write_joins.Statement.{statement}
 use Rattle.changes.proofs.listing.write_joins.Tie as tie
 
@@ -18,7 +18,8 @@ abbrev μ-loop : tie.MeasureT-loop
 
 loop-holds : tie.Need-loop-holds Inv-loop μ-loop
 loop-holds c =
-    writing-start _ _ _ _ _ (rw (cells-length (Join (c .before .before .before .args .n)) (join-length _), ← bare-picked) (c .before .before .before .pre .1 .1))
+    let n = c .before .before .before .args .n in
+    writing-start _ _ _ _ _ (rw (← frames-cells (Join n), joins-length n, ← bare-picked) (c .before .before .before .pre .1 .1))
 
 mul-position : tie.Need-mul-position Inv-loop μ-loop
 mul-position c = search needs

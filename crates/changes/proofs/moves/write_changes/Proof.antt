@@ -1,6 +1,6 @@
 -- `write_changes` meets its contract: the leaves stand at the front, the joins behind them, and the new row's join last.
-use Prim.Native.Nat.{ℕ, _+_, _-_, _≤_, _<_}
-use mathlib.Core.Path.{_≡_, sym}
+use Prim.Native.Nat.{ℕ, _+_, _-_, _≤_}
+use mathlib.Core.Path.{sym}
 use mathlib.Core.List.{List, [], _++_}
 use native.Mathlib.Omega.{arith}
 use lib.ListN.{length, length-append}
@@ -11,7 +11,8 @@ use Rattle.lists.proofs.Laying.{Front, front-one, front-room, front-rest, front
 use Rattle.frames.specs.declared.Message.the-variants.{Join}
 use Rattle.frames.specs.Frames.{frame}
 use Rattle.changes.specs.Swept.{Swept, swept}
-use Rattle.changes.proofs.Framing.{leaveFrames, joinFrames, join-length, changed-listed, changed-unlisted, rows-fit}
+use Rattle.changes.proofs.Framing.{join-length}
+use Rattle.changes.proofs.Moving.{leaveFrames, joinFrames, changed-listed, changed-unlisted, rows-fit}
 use Rattle.changes.proofs.moves.write_changes.Statement.{statement}
 use Rattle.changes.proofs.moves.write_changes.Tie as tie
 

@@ -1,7 +1,7 @@
 -- `write_moves` meets its contract: after i turns the frames of the rows that move, at the places below i, stand at the front of the output.
 use Prim.Native.Nat.{_+_, _-_, _≤_}
 use mathlib.Core.Path.{_≡_}
-use mathlib.Core.Bool.{Bool, _&&_, Bool·beq}
+use mathlib.Core.Bool.{_&&_, Bool·beq}
 use native.Mathlib.Omega.{arith}
 use lib.ListN.{length, length-take, length-drop}
 use denote.Ref.{now}
