@@ -10,6 +10,4 @@ pub mod Laying
 pub mod Growing
 pub mod Storing
 pub mod Apart
-pub mod Storing
-pub mod Apart
 pub mod Places
