@@ -13,7 +13,7 @@ use Rattle.frames.specs.declared.Message.the-variants.{Leave, Join}
 use Rattle.frames.specs.Bytes.{bytes2, bytes4}
 use Rattle.frames.specs.Frames.{frame}
 use Rattle.model.specs.Changes.{frames}
-use Rattle.changes.specs.Swept.{change}
+use Rattle.changes.specs.Flagged.{change}
 use Rattle.changes.proofs.Writing.{cells, Writing, writing-fits, writing-more}
 
 leave-length : (n p : ℕ) → length (frame (Leave n p) []) ≡ 7

@@ -13,8 +13,9 @@ use Rattle.lists.proofs.Filters.{map-append}
 use Rattle.frames.specs.declared.Message.the-variants.{Join}
 use Rattle.frames.specs.Frames.{frame}
 use Rattle.model.specs.Changes.{frames}
+use Rattle.changes.specs.declared.Shift.{Shift}
 use Rattle.changes.specs.Picked.{picked}
-use Rattle.changes.specs.Swept.{Swept, change, wasListed, nowListed, moves, moving, joining, changed}
+use Rattle.changes.specs.Flagged.{Flagged, change, wasListed, nowListed, moves, moving, joining, changed}
 use Rattle.changes.proofs.Picking.{picked-few, byte-small}
 use Rattle.changes.proofs.Framing.{frames-append, leaves-length, joins-length}
 
@@ -61,64 +62,64 @@ leaves-test true false = refl
 leaves-test false true = refl
 leaves-test false false = refl
 
-module _ (s : Swept) (before after : ℕ) where
+module _ (s : Flagged) (w : Shift) where
   -- the row at place i leaves or joins
   abbrev pub changesAt : ℕ → Bool
-  changesAt i = differs (wasListed s before after i) (nowListed s before after i)
+  changesAt i = differs (wasListed s w i) (nowListed s w i)
 
   -- the row at place i joins (true) or leaves (false) where the tests differ and the second is this
-  pub moves-test : (joins : Bool) (i : ℕ) → differs (wasListed s before after i) (nowListed s before after i) && Bool·beq (nowListed s before after i) joins ≡ moves s before after joins i
+  pub moves-test : (joins : Bool) (i : ℕ) (was is : Bool) → was ≡ wasListed s w i → is ≡ nowListed s w i → differs was is && Bool·beq is joins ≡ moves s w joins i
   unfolding moves
-  moves-test true i = joins-test (wasListed s before after i) (nowListed s before after i)
-  moves-test false i = leaves-test (wasListed s before after i) (nowListed s before after i)
+  moves-test true i was is p q = joins-test was is ∙ rw (p, q)
+  moves-test false i was is p q = leaves-test was is ∙ rw (p, q)
 
   -- the rows that leave or join, and the new row where it is listed, are the changes
   pub counted-changes : (newest lower n : ℕ) → n ≡ length (picked changesAt (s .positions) (s .count))
-      → n + boolByte (ltb lower after) ≡ length (moving s before after false) + length (joining s before after newest lower)
+      → n + boolByte (ltb lower (w .after)) ≡ length (moving s w false) + length (joining s w newest lower)
   unfolding moving joining moves
-  counted-changes newest lower n e = rw (length-append, e, picked-differs (wasListed s before after) (nowListed s before after)) (go (ltb lower after))
+  counted-changes newest lower n e = rw (length-append, e, picked-differs (wasListed s w) (nowListed s w)) (go (ltb lower (w .after)))
     where
       L : ℕ
-      L = length (moving s before after false)
+      L = length (moving s w false)
 
       J : ℕ
-      J = length (moving s before after true)
+      J = length (moving s w true)
 
       go : (b : Bool) → L + J + boolByte b ≡ L + (J + length (keep b newest []))
       go true = omega arith
       go false = omega arith
 
   -- at most one change for each row, and one for the new row
-  pub few-changes : (newest lower : ℕ) → length (moving s before after false) + length (joining s before after newest lower) ≤ s .count + 1
+  pub few-changes : (newest lower : ℕ) → length (moving s w false) + length (joining s w newest lower) ≤ s .count + 1
   few-changes newest lower =
       rw (← counted-changes newest lower (length (picked changesAt (s .positions) (s .count))) refl)
-      (omega (arith, byte-small (ltb lower after), picked-few changesAt (s .positions) (s .count)))
+      (omega (arith, byte-small (ltb lower (w .after)), picked-few changesAt (s .positions) (s .count)))
 
-module _ (s : Swept) (before after newest lower n : ℕ) where
+module _ (s : Flagged) (w : Shift) (newest lower n : ℕ) where
   -- the frames of the rows that leave, and of those that join
   abbrev pub leaveFrames : List ℕ
-  leaveFrames = frames (map (change false n) (moving s before after false))
+  leaveFrames = frames (map (change false n) (moving s w false))
 
   abbrev pub joinFrames : List ℕ
-  joinFrames = frames (map (change true n) (moving s before after true))
+  joinFrames = frames (map (change true n) (moving s w true))
 
   -- the frames of the changes: the rows' leaves and joins, then the new row's join, if it is listed
-  changed-frames : frames (changed s before after newest lower n) ≡ (leaveFrames ++ joinFrames) ++ frames (map (Join n) (keep (ltb lower after) newest []))
+  changed-frames : frames (changed s w newest lower n) ≡ (leaveFrames ++ joinFrames) ++ frames (map (Join n) (keep (ltb lower (w .after)) newest []))
   unfolding changed joining change
-  changed-frames = rw (frames-append, map-append, frames-append) (sym (append-assoc leaveFrames joinFrames (frames (map (Join n) (keep (ltb lower after) newest [])))))
+  changed-frames = rw (frames-append, map-append, frames-append) (sym (append-assoc leaveFrames joinFrames (frames (map (Join n) (keep (ltb lower (w .after)) newest [])))))
 
-  pub changed-listed : lower < after → frames (changed s before after newest lower n) ≡ (leaveFrames ++ joinFrames) ++ frame (Join n newest) []
+  pub changed-listed : lower < w .after → frames (changed s w newest lower n) ≡ (leaveFrames ++ joinFrames) ++ frame (Join n newest) []
   unfolding frames flat
-  changed-listed h = changed-frames ∙ rw (lt-ltb lower after h, append-nil)
+  changed-listed h = changed-frames ∙ rw (lt-ltb lower (w .after) h, append-nil)
 
-  pub changed-unlisted : after ≤ lower → frames (changed s before after newest lower n) ≡ leaveFrames ++ joinFrames
+  pub changed-unlisted : w .after ≤ lower → frames (changed s w newest lower n) ≡ leaveFrames ++ joinFrames
   unfolding frames flat
-  changed-unlisted h = changed-frames ∙ rw (le-ltb lower after h) (append-nil (leaveFrames ++ joinFrames))
+  changed-unlisted h = changed-frames ∙ rw (le-ltb lower (w .after) h) (append-nil (leaveFrames ++ joinFrames))
 
   -- there is room for the rows' leaves and joins where there is room for all
-  pub rows-fit : (room : ℕ) → length (frames (changed s before after newest lower n)) ≤ room → length (leaveFrames ++ joinFrames) ≤ room
+  pub rows-fit : (room : ℕ) → length (frames (changed s w newest lower n)) ≤ room → length (leaveFrames ++ joinFrames) ≤ room
   rows-fit room h = omega (arith, rw (changed-frames, length-append) at h)
 
-  pub changed-length : length (frames (changed s before after newest lower n)) ≡ 7 * (length (moving s before after false) + length (joining s before after newest lower))
+  pub changed-length : length (frames (changed s w newest lower n)) ≡ 7 * (length (moving s w false) + length (joining s w newest lower))
   unfolding changed
   changed-length = rw (frames-append, length-append, leaves-length n, joins-length n) (omega arith)

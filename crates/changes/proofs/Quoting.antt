@@ -21,9 +21,10 @@ use Rattle.frames.specs.declared.Message.{Message}
 use Rattle.model.specs.Rows.{Row, Tables, rowAt, rowsIn, expiring, renamedRow, listed, remains, remaining, lowerEndAmong, rowsAfter}
 use Rattle.model.specs.Changes.{missing, changes, allChanges, frames}
 use Rattle.model.specs.Book.{tornRows, bookRows, standing, listOf, quoteRows, quoteHead, quoteBytes}
+use Rattle.changes.specs.declared.Shift.{Shift}
 use Rattle.changes.specs.Picked.{picked}
-use Rattle.changes.specs.Swept.{Swept, swept, wasListed, nowListed, moves, moving, joining, changed}
-use Rattle.changes.specs.Watches.{watchFrames, allFrames}
+use Rattle.changes.specs.Flagged.{Flagged, flagged, wasListed, nowListed, moves, moving, joining, changed}
+use Rattle.changes.specs.Watches.{shiftOf, watchFrames, allFrames}
 use Rattle.changes.proofs.Picking.{rows-picked, listed-picked}
 use Rattle.changes.proofs.Framing.{frames-append}
 use Rattle.changes.proofs.Distinct.{Distinct, rising-distinct, picked-same, missing-picked, missing-behind}
@@ -50,8 +51,8 @@ module _ {d directions N newest count gone lower : ℕ} {x : List ℕ} {kept : L
   abbrev rs : List Row
   rs = rowsIn d count t
 
-  abbrev s : Swept
-  s = swept kept (t .positions) (t .lowerEnds) count gone
+  abbrev s : Flagged
+  s = flagged kept (t .positions) (t .lowerEnds) count
 
   abbrev stays : Row → Bool
   stays = remains d directions x gone
@@ -65,11 +66,14 @@ module _ {d directions N newest count gone lower : ℕ} {x : List ℕ} {kept : L
       ∙ ap (λ (k : ℕ). stays (rowAt d t k)) (zero-add i)
 
   module _ (before after : ℕ) where
+    abbrev w : Shift
+    w = record { before = before; after = after; gone = gone }
+
     abbrev was : ℕ → Bool
-    was = wasListed s before after
+    was = wasListed s w
 
     abbrev is : ℕ → Bool
-    is = nowListed s before after
+    is = nowListed s w
 
     -- the list before the quote
     list-before : listed before rs ≡ picked was (t .positions) count
@@ -99,16 +103,16 @@ module _ {d directions N newest count gone lower : ℕ} {x : List ℕ} {kept : L
         rw (← v .expired, ← v .sought, filter-append, map-append, left-after, new-listed after (record { position = newest + 1; lowerEnd = lower; columns = x }) h)
 
     module _ (apart : Distinct (t .positions) count newest) where
-      leaves-missing : missing (picked was (t .positions) count) (picked is (t .positions) count ++ keep (ltb lower after) (newest + 1) []) ≡ moving s before after false
+      leaves-missing : missing (picked was (t .positions) count) (picked is (t .positions) count ++ keep (ltb lower after) (newest + 1) []) ≡ moving s w false
       unfolding moving moves
       leaves-missing = missing-picked apart is was (ltb lower after)
 
-      joins-missing : missing (picked is (t .positions) count ++ keep (ltb lower after) (newest + 1) []) (picked was (t .positions) count) ≡ joining s before after (newest + 1) lower
+      joins-missing : missing (picked is (t .positions) count ++ keep (ltb lower after) (newest + 1) []) (picked was (t .positions) count) ≡ joining s w (newest + 1) lower
       unfolding moving moves joining
       joins-missing = missing-behind apart was is (ltb lower after)
 
       -- the changes told by flags are those of the model, from the list before to the list after
-      pub changed-is : after ≤ newest + 1 → (n : ℕ) → changed s before after (newest + 1) lower n ≡ changes n (listed before rs) (listed after (rowsAfter d directions N newest x rs))
+      pub changed-is : after ≤ newest + 1 → (n : ℕ) → changed s w (newest + 1) lower n ≡ changes n (listed before rs) (listed after (rowsAfter d directions N newest x rs))
       unfolding changed changes
       changed-is h n = rw (list-before, list-after h, leaves-missing, joins-missing)
 
@@ -156,15 +160,15 @@ untorn-rows h t e =
 -- an untorn book below the last position, and what is found of a quote
 module _ (h : Head) (t : Tables) {x : List ℕ} {kept : List Bool} {gone lower : ℕ} (untorn : tornRows h (bookRows h t) ≡ false) (below : h .newest < lastPosition)
     (v : Found (h .dimensions) (h .directions) (h .capacity) (h .newest) (h .rows) (bookRows h t) x kept gone lower) where
-  abbrev sweep : Swept
-  sweep = swept kept (t .positions) (t .lowerEnds) (h .rows) gone
+  abbrev rows : Flagged
+  rows = flagged kept (t .positions) (t .lowerEnds) (h .rows)
 
   -- the frames of one watch are those of the model's changes
   watch-frames : (ws : List ℕ) (n : ℕ) → 0 < n
-      → watchFrames sweep (h .newest) lower n ≡ frames (changes n (listOf h (bookRows h t) n) (listOf (quoteHead h x t ws) (quoteRows h x t ws) n))
-  unfolding listOf quoteHead quoteRows bookRows windowStart
+      → watchFrames gone (h .newest) rows lower n ≡ frames (changes n (listOf h (bookRows h t) n) (listOf (quoteHead h x t ws) (quoteRows h x t ws) n))
+  unfolding listOf quoteHead quoteRows bookRows windowStart shiftOf
   watch-frames ws n l =
-      watch-some sweep (h .newest) lower n (λ e. omega arith) B A refl refl
+      watch-some gone (h .newest) rows lower n (λ e. omega arith) (shiftOf gone (h .newest) n) refl
       ∙ ap frames (changed-is t v B A (untorn-rows h t untorn .apart) (omega arith) n)
       ∙ ap (λ (m : ℕ). frames (changes n (listOf h (bookRows h t) n) (listed (windowStart m n) (quoteRows h x t ws)))) (sym (after-newest h (quoteHead h x t ws) (length (quoteRows h x t ws)) refl below))
     where
@@ -179,7 +183,7 @@ module _ (h : Head) (t : Tables) {x : List ℕ} {kept : List Bool} {gone lower :
     abbrev messages : List ℕ → List Message
     messages ws = allChanges ws (listOf h (bookRows h t)) (listOf (quoteHead h x t all) (quoteRows h x t all))
 
-    records-frames : (ws : List ℕ) → allFrames sweep (h .newest) lower ws ≡ frames (messages (filter (ltb 0) ws))
+    records-frames : (ws : List ℕ) → allFrames gone (h .newest) rows lower ws ≡ frames (messages (filter (ltb 0) ws))
     unfolding allFrames allChanges frames flat filter
     records-frames [] = refl
     records-frames (w ∷ ws) = go (decLt 0 w) (records-frames ws)
@@ -187,15 +191,15 @@ module _ (h : Head) (t : Tables) {x : List ℕ} {kept : List Bool} {gone lower :
         C : List Message
         C = changes w (listOf h (bookRows h t) w) (listOf (quoteHead h x t all) (quoteRows h x t all) w)
 
-        go : Dec (0 < w) → allFrames sweep (h .newest) lower ws ≡ frames (messages (filter (ltb 0) ws))
-            → allFrames sweep (h .newest) lower (w ∷ ws) ≡ frames (messages (keep (ltb 0 w) w (filter (ltb 0) ws)))
+        go : Dec (0 < w) → allFrames gone (h .newest) rows lower ws ≡ frames (messages (filter (ltb 0) ws))
+            → allFrames gone (h .newest) rows lower (w ∷ ws) ≡ frames (messages (keep (ltb 0 w) w (filter (ltb 0) ws)))
         go (yes l) e =
             rw (lt-ltb 0 w l, watch-frames all w l)
             (ap (λ (r : List ℕ). frames C ++ r) e ∙ sym (frames-append C (messages (filter (ltb 0) ws))))
-        go (no l) e = rw (le-ltb 0 w (omega arith), watch-none sweep (h .newest) lower w (omega arith)) e
+        go (no l) e = rw (le-ltb 0 w (omega arith), watch-none gone (h .newest) rows lower w (omega arith)) e
 
   -- the frames of the first eight records are the bytes that the model's quote writes
-  pub quote-frames : (ws : List ℕ) → allFrames sweep (h .newest) lower (take 8 ws) ≡ quoteBytes h x t ws
+  pub quote-frames : (ws : List ℕ) → allFrames gone (h .newest) rows lower (take 8 ws) ≡ quoteBytes h x t ws
   unfolding quoteBytes standing
   quote-frames ws = records-frames ws (take 8 ws)
 
@@ -205,7 +209,7 @@ pub changes-fit : (h : Head) (t : Tables) (x ws : List ℕ) → tornRows h (book
 unfolding bookRows rowsIn
 changes-fit h t x ws untorn below small =
     let few = untorn-rows h t untorn .few in
-    let fit = all-fit (swept kept (t .positions) (t .lowerEnds) (h .rows) gone) (h .newest) lower (omega arith) (take 8 ws) in
+    let fit = all-fit gone (h .newest) (flagged kept (t .positions) (t .lowerEnds) (h .rows)) lower (omega arith) (take 8 ws) in
     rw (← quote-frames h t untorn below found ws) (omega (arith, length-take 8 ws, fit))
   where
     gone : ℕ

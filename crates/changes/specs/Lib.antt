@@ -1,4 +1,4 @@
 -- The definitions of the crate.
 pub mod Picked
-pub mod Swept
+pub mod Flagged
 pub mod Watches

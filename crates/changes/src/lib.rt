@@ -11,3 +11,10 @@ pub use moves::write_changes;
 pub use watches::count_all_changes;
 pub use watches::start_of;
 pub use watches::write_all_changes;
+
+// How the window of a watch moves at a quote: its start before and after it, and the position that expires.
+pub struct Shift {
+    pub before: u32,
+    pub after: u32,
+    pub gone: u32,
+}

@@ -9,7 +9,8 @@ ghost use Rattle.skyline.specs.Skyline.{stabbed};
 ghost use Rattle.frames.specs.Frames.{frame};
 ghost use Rattle.model.specs.Rows.{renamed};
 ghost use Rattle.model.specs.Changes.{frames};
-ghost use Rattle.changes.specs.Swept.{swept, change, moving, joining, changed};
+ghost use Rattle.changes.specs.Flagged.{flagged, change, moving, joining, changed};
+use crate::Shift;
 use crate::listing::is_listed;
 use frames::write_join;
 use frames::write_leave;
@@ -31,34 +32,32 @@ fn stays_listed(keep: bool, gone: u32, after: u32, lower: u32, position: u32) ->
     keep & is_listed(after, rename(gone, lower), position)
 }
 
-// How many positions leave or join the list of a window at a quote; before and after are the starts of the window.
+// How many positions leave or join the list of a window at a quote; shift says how the window moves.
 pub fn count_changes(
     keep: &[bool],
     positions: &[u32],
     lower_ends: &[u32],
     count: usize,
-    gone: u32,
-    before: u32,
-    after: u32,
+    shift: Shift,
     newest: u32,
     lower: u32,
 ) -> usize
     requires { ⌜ count ≤ length (now keep) ⌝ }
     requires { ⌜ count ≤ length (now positions) ⌝ }
     requires { ⌜ count ≤ length (now «lower_ends») ⌝ }
-    ensures { λ r. ⌜ r ≡ length (moving (swept (now (keep .entry)) (now (positions .entry)) (now («lower_ends» .entry)) count gone) before after false) + length (joining (swept (now (keep .entry)) (now (positions .entry)) (now («lower_ends» .entry)) count gone) before after newest lower) ⌝ }
+    ensures { λ r. ⌜ r ≡ length (moving (flagged (now (keep .entry)) (now (positions .entry)) (now («lower_ends» .entry)) count) shift false) + length (joining (flagged (now (keep .entry)) (now (positions .entry)) (now («lower_ends» .entry)) count) shift newest lower) ⌝ }
 {
     let mut n: usize = 0;
     let mut i = 0;
     while i < count {
         let position = positions[i];
         let lower_end = lower_ends[i];
-        let was = is_listed(before, lower_end, position);
-        let is = stays_listed(keep[i], gone, after, lower_end, position);
+        let was = is_listed(shift.before, lower_end, position);
+        let is = stays_listed(keep[i], shift.gone, shift.after, lower_end, position);
         n += (was ^ is) as usize;
         i += 1;
     }
-    n + (lower < after) as usize
+    n + (lower < shift.after) as usize
 }
 
 // Lays the frame of a join, or of a leave, of the watch of n.
@@ -81,25 +80,23 @@ fn write_moves(
     positions: &[u32],
     lower_ends: &[u32],
     count: usize,
-    gone: u32,
-    before: u32,
-    after: u32,
+    shift: Shift,
     out: &mut [u8],
 ) -> usize
     requires { ⌜ count ≤ length (now keep) ⌝ }
     requires { ⌜ count ≤ length (now positions) ⌝ }
     requires { ⌜ count ≤ length (now «lower_ends») ⌝ }
-    requires { ⌜ length (frames (map (change joins n) (moving (swept (now keep) (now positions) (now «lower_ends») count gone) before after joins))) ≤ length (now out) ⌝ }
-    ensures { λ r. ⌜ r ≡ length (frames (map (change joins n) (moving (swept (now (keep .entry)) (now (positions .entry)) (now («lower_ends» .entry)) count gone) before after joins))) ⌝ }
-    ensures { λ r. ⌜ now (out .exit) ≡ laid (frames (map (change joins n) (moving (swept (now (keep .entry)) (now (positions .entry)) (now («lower_ends» .entry)) count gone) before after joins))) (now (out .entry)) ⌝ }
+    requires { ⌜ length (frames (map (change joins n) (moving (flagged (now keep) (now positions) (now «lower_ends») count) shift joins))) ≤ length (now out) ⌝ }
+    ensures { λ r. ⌜ r ≡ length (frames (map (change joins n) (moving (flagged (now (keep .entry)) (now (positions .entry)) (now («lower_ends» .entry)) count) shift joins))) ⌝ }
+    ensures { λ r. ⌜ now (out .exit) ≡ laid (frames (map (change joins n) (moving (flagged (now (keep .entry)) (now (positions .entry)) (now («lower_ends» .entry)) count) shift joins))) (now (out .entry)) ⌝ }
 {
     let mut at: usize = 0;
     let mut i = 0;
     while i < count {
         let position = positions[i];
         let lower_end = lower_ends[i];
-        let was = is_listed(before, lower_end, position);
-        let is = stays_listed(keep[i], gone, after, lower_end, position);
+        let was = is_listed(shift.before, lower_end, position);
+        let is = stays_listed(keep[i], shift.gone, shift.after, lower_end, position);
         i += 1;
         if (was ^ is) & (is == joins) {
             write_change(joins, n, position, &mut out[at..]);
@@ -116,9 +113,7 @@ pub fn write_changes(
     positions: &[u32],
     lower_ends: &[u32],
     count: usize,
-    gone: u32,
-    before: u32,
-    after: u32,
+    shift: Shift,
     newest: u32,
     lower: u32,
     out: &mut [u8],
@@ -126,22 +121,11 @@ pub fn write_changes(
     requires { ⌜ count ≤ length (now keep) ⌝ }
     requires { ⌜ count ≤ length (now positions) ⌝ }
     requires { ⌜ count ≤ length (now «lower_ends») ⌝ }
-    requires { ⌜ length (frames (changed (swept (now keep) (now positions) (now «lower_ends») count gone) before after newest lower n)) ≤ length (now out) ⌝ }
-    ensures { λ r. ⌜ r ≡ length (frames (changed (swept (now (keep .entry)) (now (positions .entry)) (now («lower_ends» .entry)) count gone) before after newest lower n)) ⌝ }
-    ensures { λ r. ⌜ now (out .exit) ≡ laid (frames (changed (swept (now (keep .entry)) (now (positions .entry)) (now («lower_ends» .entry)) count gone) before after newest lower n)) (now (out .entry)) ⌝ }
+    requires { ⌜ length (frames (changed (flagged (now keep) (now positions) (now «lower_ends») count) shift newest lower n)) ≤ length (now out) ⌝ }
+    ensures { λ r. ⌜ r ≡ length (frames (changed (flagged (now (keep .entry)) (now (positions .entry)) (now («lower_ends» .entry)) count) shift newest lower n)) ⌝ }
+    ensures { λ r. ⌜ now (out .exit) ≡ laid (frames (changed (flagged (now (keep .entry)) (now (positions .entry)) (now («lower_ends» .entry)) count) shift newest lower n)) (now (out .entry)) ⌝ }
 {
-    let leaves = write_moves(
-        false,
-        n,
-        keep,
-        positions,
-        lower_ends,
-        count,
-        gone,
-        before,
-        after,
-        out,
-    );
+    let leaves = write_moves(false, n, keep, positions, lower_ends, count, shift, out);
     let joins = write_moves(
         true,
         n,
@@ -149,13 +133,11 @@ pub fn write_changes(
         positions,
         lower_ends,
         count,
-        gone,
-        before,
-        after,
+        shift,
         &mut out[leaves..],
     );
     let at = leaves + joins;
-    if after <= lower {
+    if shift.after <= lower {
         return at;
     }
     write_join(n, newest, &mut out[at..]);

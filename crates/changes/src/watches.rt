@@ -1,14 +1,15 @@
 // The changes that a quote makes to the lists of the eight watches: counted, and written as frames.
 ghost use mathlib.Core.Path.{_≡_};
-ghost use Prim.Native.Nat.{_+_, _≤_, _<_};
+ghost use Prim.Native.Nat.{_≤_, _<_};
 ghost use mathlib.Core.Bool.{false};
 ghost use lib.ListN.{length};
 ghost use Rattle.lists.specs.Lists.{laid};
 ghost use Rattle.skyline.specs.Skyline.{windowStart};
 ghost use Rattle.head.specs.Heads.{lastPosition};
 ghost use Rattle.model.specs.Book.{tornWatches};
-ghost use Rattle.changes.specs.Swept.{swept};
-ghost use Rattle.changes.specs.Watches.{watchFrames, allFrames};
+ghost use Rattle.changes.specs.Flagged.{flagged};
+ghost use Rattle.changes.specs.Watches.{shiftOf, watchFrames, allFrames};
+use crate::Shift;
 use crate::moves::count_changes;
 use crate::moves::write_changes;
 use head::Head;
@@ -21,13 +22,17 @@ pub fn start_of(head: Head, n: u32) -> u32
     head.window_start(n) as u32
 }
 
-// The first position of the window of n once a quote has come.
-fn start_after(head: Head, n: u32) -> u32
+// How the window of n moves at a quote with which position gone expires.
+fn shift_of(head: Head, n: u32, gone: u32) -> Shift
     requires { ⌜ head .newest < lastPosition ⌝ }
-    ensures { λ r. ⌜ r ≡ windowStart (head .newest + 1) n ⌝ }
+    ensures { λ r. ⌜ r ≡ shiftOf gone (head .newest) n ⌝ }
 {
     let rows = head.rows;
-    start_of(head.after_quote(rows), n)
+    Shift {
+        before: start_of(head, n),
+        after: start_of(head.after_quote(rows), n),
+        gone,
+    }
 }
 
 // How many bytes the changes of a watch record take; none for an empty record.
@@ -44,27 +49,15 @@ fn count_watch(
     requires { ⌜ head .rows ≤ length (now keep) ⌝ }
     requires { ⌜ head .rows ≤ length (now positions) ⌝ }
     requires { ⌜ head .rows ≤ length (now «lower_ends») ⌝ }
-    ensures { λ r. ⌜ r ≡ length (watchFrames (swept (now (keep .entry)) (now (positions .entry)) (now («lower_ends» .entry)) (head .rows) gone) (head .newest) lower n) ⌝ }
+    ensures { λ r. ⌜ r ≡ length (watchFrames gone (head .newest) (flagged (now (keep .entry)) (now (positions .entry)) (now («lower_ends» .entry)) (head .rows)) lower n) ⌝ }
 {
     if n == 0 {
         return 0;
     }
     let count = head.rows as usize;
     let newest = head.newest + 1;
-    let before = start_of(head, n);
-    let after = start_after(head, n);
-    7
-        * count_changes(
-            keep,
-            positions,
-            lower_ends,
-            count,
-            gone,
-            before,
-            after,
-            newest,
-            lower,
-        )
+    let shift = shift_of(head, n, gone);
+    7 * count_changes(keep, positions, lower_ends, count, shift, newest, lower)
 }
 
 // Writes the changes of a watch record; none for an empty record. Returns how many bytes.
@@ -83,26 +76,23 @@ fn write_watch(
     requires { ⌜ head .rows ≤ length (now keep) ⌝ }
     requires { ⌜ head .rows ≤ length (now positions) ⌝ }
     requires { ⌜ head .rows ≤ length (now «lower_ends») ⌝ }
-    requires { ⌜ length (watchFrames (swept (now keep) (now positions) (now «lower_ends») (head .rows) gone) (head .newest) lower n) ≤ length (now out) ⌝ }
-    ensures { λ r. ⌜ r ≡ length (watchFrames (swept (now (keep .entry)) (now (positions .entry)) (now («lower_ends» .entry)) (head .rows) gone) (head .newest) lower n) ⌝ }
-    ensures { λ r. ⌜ now (out .exit) ≡ laid (watchFrames (swept (now (keep .entry)) (now (positions .entry)) (now («lower_ends» .entry)) (head .rows) gone) (head .newest) lower n) (now (out .entry)) ⌝ }
+    requires { ⌜ length (watchFrames gone (head .newest) (flagged (now keep) (now positions) (now «lower_ends») (head .rows)) lower n) ≤ length (now out) ⌝ }
+    ensures { λ r. ⌜ r ≡ length (watchFrames gone (head .newest) (flagged (now (keep .entry)) (now (positions .entry)) (now («lower_ends» .entry)) (head .rows)) lower n) ⌝ }
+    ensures { λ r. ⌜ now (out .exit) ≡ laid (watchFrames gone (head .newest) (flagged (now (keep .entry)) (now (positions .entry)) (now («lower_ends» .entry)) (head .rows)) lower n) (now (out .entry)) ⌝ }
 {
     if n == 0 {
         return 0;
     }
     let count = head.rows as usize;
     let newest = head.newest + 1;
-    let before = start_of(head, n);
-    let after = start_after(head, n);
+    let shift = shift_of(head, n, gone);
     write_changes(
         n as u16,
         keep,
         positions,
         lower_ends,
         count,
-        gone,
-        before,
-        after,
+        shift,
         newest,
         lower,
         out,
@@ -123,7 +113,7 @@ pub fn count_all_changes(
     requires { ⌜ head .rows ≤ length (now keep) ⌝ }
     requires { ⌜ head .rows ≤ length (now positions) ⌝ }
     requires { ⌜ head .rows ≤ length (now «lower_ends») ⌝ }
-    ensures { λ r. ⌜ r ≡ length (allFrames (swept (now (keep .entry)) (now (positions .entry)) (now («lower_ends» .entry)) (head .rows) gone) (head .newest) lower watches) ⌝ }
+    ensures { λ r. ⌜ r ≡ length (allFrames gone (head .newest) (flagged (now (keep .entry)) (now (positions .entry)) (now («lower_ends» .entry)) (head .rows)) lower watches) ⌝ }
 {
     let mut sum: usize = 0;
     let mut i = 0;
@@ -151,9 +141,9 @@ pub fn write_all_changes(
     requires { ⌜ head .rows ≤ length (now keep) ⌝ }
     requires { ⌜ head .rows ≤ length (now positions) ⌝ }
     requires { ⌜ head .rows ≤ length (now «lower_ends») ⌝ }
-    requires { ⌜ length (allFrames (swept (now keep) (now positions) (now «lower_ends») (head .rows) gone) (head .newest) lower watches) ≤ length (now out) ⌝ }
-    ensures { λ r. ⌜ r ≡ length (allFrames (swept (now (keep .entry)) (now (positions .entry)) (now («lower_ends» .entry)) (head .rows) gone) (head .newest) lower watches) ⌝ }
-    ensures { λ r. ⌜ now (out .exit) ≡ laid (allFrames (swept (now (keep .entry)) (now (positions .entry)) (now («lower_ends» .entry)) (head .rows) gone) (head .newest) lower watches) (now (out .entry)) ⌝ }
+    requires { ⌜ length (allFrames gone (head .newest) (flagged (now keep) (now positions) (now «lower_ends») (head .rows)) lower watches) ≤ length (now out) ⌝ }
+    ensures { λ r. ⌜ r ≡ length (allFrames gone (head .newest) (flagged (now (keep .entry)) (now (positions .entry)) (now («lower_ends» .entry)) (head .rows)) lower watches) ⌝ }
+    ensures { λ r. ⌜ now (out .exit) ≡ laid (allFrames gone (head .newest) (flagged (now (keep .entry)) (now (positions .entry)) (now («lower_ends» .entry)) (head .rows)) lower watches) (now (out .entry)) ⌝ }
 {
     let mut at: usize = 0;
     let mut i = 0;

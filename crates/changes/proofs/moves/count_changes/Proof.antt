@@ -3,18 +3,18 @@ use Prim.Native.Nat.{_-_}
 use native.Mathlib.Omega.{arith}
 use lib.Dec.{ltb}
 use borrow.Author.Needs.{needs}
-use Rattle.changes.specs.Swept.{swept, wasListed, nowListed}
+use Rattle.changes.specs.Flagged.{flagged, wasListed, nowListed}
 use Rattle.changes.proofs.Picking.{byte-small, Counted, counted-start, counted-more, counted-all}
 use Rattle.changes.proofs.Moving.{differs, changesAt, counted-changes}
 use Rattle.changes.proofs.moves.count_changes.Statement.{statement}
 use Rattle.changes.proofs.moves.count_changes.Tie as tie
 
 abbrev Inv-loop : tie.InvT-loop
-Inv-loop keep positions lower-ends count gone before after newest lower n₀ i₀ n i =
-    Counted (changesAt (swept keep positions lower-ends count gone) before after) positions count n i
+Inv-loop keep positions lower-ends count shift newest lower n₀ i₀ n i =
+    Counted (changesAt (flagged keep positions lower-ends count) shift) positions count n i
 
 abbrev μ-loop : tie.MeasureT-loop
-μ-loop keep positions lower-ends count gone before after newest lower n₀ i₀ n i = count - i
+μ-loop keep positions lower-ends count shift newest lower n₀ i₀ n i = count - i
 
 loop-holds : tie.Need-loop-holds Inv-loop μ-loop
 loop-holds c = counted-start _ _ _
@@ -62,10 +62,10 @@ cast-result : tie.Need-cast-result Inv-loop μ-loop
 cast-result c = search needs
 
 add-result : tie.Need-add-result Inv-loop μ-loop
-add-result c = omega (arith, byte-small (ltb (c .before .before .before .before .before .args .lower) (c .before .before .before .before .before .args .after)))
+add-result c = omega (arith, byte-small (ltb (c .before .before .before .before .before .before .args .lower) (c .before .before .before .before .before .before .args .shift .after)))
 
 returns : tie.Need-returns Inv-loop μ-loop
-returns c = counted-changes _ _ _ _ _ _ (counted-all (c .before .loop .inv) (c .loop-test .left))
+returns c = counted-changes _ _ _ _ _ (counted-all (c .before .before .loop .inv) (c .before .loop-test .left))
 
 pub count-changes-spec : {M : Type 1} → statement M
 count-changes-spec =

@@ -1,5 +1,5 @@
 -- `write_change` meets its contract: one of two frames.
-use Rattle.changes.specs.Swept.{change}
+use Rattle.changes.specs.Flagged.{change}
 use borrow.Author.Needs.{needs}
 use Rattle.changes.proofs.moves.write_change.Statement.{statement}
 use Rattle.changes.proofs.moves.write_change.Tie as tie

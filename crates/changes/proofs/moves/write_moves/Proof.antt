@@ -6,7 +6,7 @@ use native.Mathlib.Omega.{arith}
 use lib.ListN.{length, length-take, length-drop}
 use denote.Ref.{now}
 use borrow.Author.Needs.{needs}
-use Rattle.changes.specs.Swept.{swept, change, wasListed, nowListed, moves, moving}
+use Rattle.changes.specs.Flagged.{Flagged, flagged, change, wasListed, nowListed, moves, moving}
 use Rattle.changes.proofs.Writing.{Writing, writing-start, writing-pass, writing-all}
 use Rattle.changes.proofs.Framing.{framing, frames-cells, change-length, frame-fits, frame-laid}
 use Rattle.changes.proofs.Moving.{differs, moves-test}
@@ -14,11 +14,11 @@ use Rattle.changes.proofs.moves.write_moves.Statement.{statement}
 use Rattle.changes.proofs.moves.write_moves.Tie as tie
 
 abbrev Inv-loop : tie.InvT-loop
-Inv-loop joins n keep positions lower-ends count gone before after out₀ at₀ i₀ out at i =
-    Writing (framing (change joins n)) (moves (swept keep positions lower-ends count gone) before after joins) positions count out₀ out at i
+Inv-loop joins n keep positions lower-ends count shift out₀ at₀ i₀ out at i =
+    Writing (framing (change joins n)) (moves (flagged keep positions lower-ends count) shift joins) positions count out₀ out at i
 
 abbrev μ-loop : tie.MeasureT-loop
-μ-loop joins n keep positions lower-ends count gone before after out₀ at₀ i₀ out at i = count - i
+μ-loop joins n keep positions lower-ends count shift out₀ at₀ i₀ out at i = count - i
 
 loop-holds : tie.Need-loop-holds Inv-loop μ-loop
 unfolding moving
@@ -48,11 +48,18 @@ stays-listed-requires c κs = search needs
 add-i : tie.Need-add-i Inv-loop μ-loop
 add-i c = search needs
 
+-- the function's start, from a turn's tests
+abbrev start : tie.After-stays-listed Inv-loop μ-loop → tie.Start Inv-loop μ-loop
+start c = c .before .before .before .before .before .before .before .before .before .before .before
+
+abbrev rows : tie.Start Inv-loop μ-loop → Flagged
+rows c = flagged (now (c .args .keep)) (now (c .args .positions)) (now (c .args .lower-ends)) (c .args .count)
+
 -- the test of the turn is that of the definition
-tested : (c : tie.After-stays-listed Inv-loop μ-loop) → differs (c .before .before .is-listed .result) (c .stays-listed .result) && Bool·beq (c .stays-listed .result) (c .before .before .before .before .before .before .before .before .before .before .before .args .joins)
-    ≡ moves (swept (now (c .before .before .before .before .before .before .before .before .before .before .before .args .keep)) (now (c .before .before .before .before .before .before .before .before .before .before .before .args .positions)) (now (c .before .before .before .before .before .before .before .before .before .before .before .args .lower-ends)) (c .before .before .before .before .before .before .before .before .before .before .before .args .count) (c .before .before .before .before .before .before .before .before .before .before .before .args .gone)) (c .before .before .before .before .before .before .before .before .before .before .before .args .before) (c .before .before .before .before .before .before .before .before .before .before .before .args .after) (c .before .before .before .before .before .before .before .before .before .before .before .args .joins) (c .before .before .before .before .before .before .loop .i)
+tested : (c : tie.After-stays-listed Inv-loop μ-loop) → differs (c .before .before .is-listed .result) (c .stays-listed .result) && Bool·beq (c .stays-listed .result) (start c .args .joins)
+    ≡ moves (rows (start c)) (start c .args .shift) (start c .args .joins) (c .before .before .before .before .before .before .loop .i)
 unfolding wasListed nowListed
-tested c = rw (c .before .before .is-listed .ensures, c .stays-listed .ensures) (moves-test _ _ _ _ _)
+tested c = moves-test _ _ _ _ _ _ (c .before .before .is-listed .ensures) (c .stays-listed .ensures)
 
 -- a row that moves has room for its frame
 fits : (c : tie.Then1 Inv-loop μ-loop) → c .before .before .before .before .before .before .before .loop .at + 7 ≤ length (c .before .before .before .before .before .before .before .loop .out)

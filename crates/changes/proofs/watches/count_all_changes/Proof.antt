@@ -2,19 +2,19 @@
 use Prim.Native.Nat.{_-_}
 use native.Mathlib.Omega.{arith}
 use borrow.Author.Needs.{needs}
-use Rattle.changes.specs.Swept.{swept}
+use Rattle.changes.specs.Flagged.{flagged}
 use Rattle.changes.proofs.Watching.{Summed, summed-start, summed-more, summed-all}
 use Rattle.changes.proofs.watches.count_all_changes.Statement.{statement}
 use Rattle.changes.proofs.watches.count_all_changes.Tie as tie
 
 abbrev Inv-loop : tie.InvT-loop
-Inv-loop head keep positions lower-ends gone lower watches sum₀ i₀ sum i = Summed (swept keep positions lower-ends (head .rows) gone) (head .newest) lower watches sum i
+Inv-loop head keep positions lower-ends gone lower watches sum₀ i₀ sum i = Summed gone (head .newest) (flagged keep positions lower-ends (head .rows)) lower watches sum i
 
 abbrev μ-loop : tie.MeasureT-loop
 μ-loop head keep positions lower-ends gone lower watches sum₀ i₀ sum i = 8 - i
 
 loop-holds : tie.Need-loop-holds Inv-loop μ-loop
-loop-holds c = summed-start _ _ _ _
+loop-holds c = summed-start _ _ _ _ _
 
 mul-count-watch : tie.Need-mul-count-watch Inv-loop μ-loop
 mul-count-watch c = search needs

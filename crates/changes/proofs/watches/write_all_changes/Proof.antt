@@ -2,19 +2,19 @@
 use Prim.Native.Nat.{_-_}
 use native.Mathlib.Omega.{arith}
 use borrow.Author.Needs.{needs}
-use Rattle.changes.specs.Swept.{swept}
+use Rattle.changes.specs.Flagged.{flagged}
 use Rattle.changes.proofs.Watching.{watch-below, Written, written-start, written-fits, written-rest, written-more, written-all}
 use Rattle.changes.proofs.watches.write_all_changes.Statement.{statement}
 use Rattle.changes.proofs.watches.write_all_changes.Tie as tie
 
 abbrev Inv-loop : tie.InvT-loop
-Inv-loop head keep positions lower-ends gone lower out₀ watches at₀ i₀ out at i = Written (swept keep positions lower-ends (head .rows) gone) (head .newest) lower watches out₀ out at i
+Inv-loop head keep positions lower-ends gone lower out₀ watches at₀ i₀ out at i = Written gone (head .newest) (flagged keep positions lower-ends (head .rows)) lower watches out₀ out at i
 
 abbrev μ-loop : tie.MeasureT-loop
 μ-loop head keep positions lower-ends gone lower out₀ watches at₀ i₀ out at i = 8 - i
 
 loop-holds : tie.Need-loop-holds Inv-loop μ-loop
-loop-holds c = written-start _ _ _ _ _ (search needs) (c .before .before .before .before .pre .1 .1 .1 .1 .1 .1)
+loop-holds c = written-start _ _ _ _ _ _ (search needs) (c .before .before .before .before .pre .1 .1 .1 .1 .1 .1)
 
 mul-write-watch : tie.Need-mul-write-watch Inv-loop μ-loop
 mul-write-watch c = search needs

@@ -8,7 +8,7 @@ use Rattle.changes.proofs.watches.write_watch.Tie as tie
 
 returns : tie.Need-returns
 unfolding laid
-returns c = rw (watch-none _ _ _ _ (c .if1 .taken)) (refl, refl)
+returns c = rw (watch-none _ _ _ _ _ (c .if1 .taken)) (refl, refl)
 
 cast-count : tie.Need-cast-count
 cast-count c = search needs
@@ -16,25 +16,22 @@ cast-count c = search needs
 add-newest : tie.Need-add-newest
 add-newest c = search needs
 
-start-of-requires : tie.Need-start-of-requires
-start-of-requires c κs = search needs
-
-start-after-requires : tie.Need-start-after-requires
-start-after-requires c κs = search needs
+shift-of-requires : tie.Need-shift-of-requires
+shift-of-requires c κs = search needs
 
 cast-write-changes : tie.Need-cast-write-changes
 cast-write-changes c = search needs
 
 write-changes-requires : tie.Need-write-changes-requires
 write-changes-requires c κs =
-    let p = c .before .before .before .before .before .before .before .before .before .before .pre in
-    (p .1 .1 .0, (p .1 .1 .1 .0, (p .1 .1 .1 .1 .0, rw (watch-some _ _ _ _ (c .before .before .before .before .before .if1 .left) _ _ (c .before .before .start-of .ensures) (c .before .start-after .ensures)) at (p .1 .1 .1 .1 .1))))
+    let p = c .before .before .before .before .before .before .before .before .before .pre in
+    (p .1 .1 .0, (p .1 .1 .1 .0, (p .1 .1 .1 .1 .0, rw (watch-some _ _ _ _ _ (c .before .before .before .before .if1 .left) _ (c .before .shift-of .ensures)) at (p .1 .1 .1 .1 .1))))
 
 same-length : tie.Need-same-length
 same-length c = search needs
 
 returns-2 : tie.Need-returns-2
-returns-2 c = rw (watch-some _ _ _ _ (c .before .before .before .before .before .before .before .before .if1 .left) _ _ (c .before .before .before .before .before .start-of .ensures) (c .before .before .before .before .start-after .ensures)) (c .before .before .write-changes .ensures)
+returns-2 c = rw (watch-some _ _ _ _ _ (c .before .before .before .before .before .before .before .if1 .left) _ (c .before .before .before .before .shift-of .ensures)) (c .before .before .write-changes .ensures)
 
 pub write-watch-spec : {M : Type 1} → statement M
 write-watch-spec =
@@ -43,8 +40,7 @@ write-watch-spec =
     returns
     cast-count
     add-newest
-    start-of-requires
-    start-after-requires
+    shift-of-requires
     cast-write-changes
     write-changes-requires
     same-length

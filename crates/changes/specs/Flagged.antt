@@ -1,5 +1,5 @@
--- What a quote does to the list of a window, told by flags: which rows stay, the position that expires, and the new row.
-use Prim.Native.Nat.{ℕ, _+_}
+-- What a quote does to the list of a window, told by flags: which rows stay.
+use Prim.Native.Nat.{ℕ}
 use mathlib.Core.Bool.{Bool, true, false, _&&_, not}
 use mathlib.Core.List.{List, [], _++_, map}
 use lib.Dec.{ltb}
@@ -9,33 +9,33 @@ use Rattle.skyline.specs.Skyline.{stabbed}
 use Rattle.frames.specs.declared.Message.{Message}
 use Rattle.frames.specs.declared.Message.the-variants.{Leave, Join}
 use Rattle.model.specs.Rows.{renamed}
+use Rattle.changes.specs.declared.Shift.{Shift}
 use Rattle.changes.specs.Picked.{picked}
 
--- the rows at the places below count, which of them stay at a quote, and the position that expires with it
-pub record Swept : Type 0 where
+-- the rows at the places below count, and which of them stay at a quote
+pub record Flagged : Type 0 where
   pub kept : List Bool
   pub positions : List ℕ
   pub lowerEnds : List ℕ
   pub count : ℕ
-  pub gone : ℕ
 
-abbrev pub swept : List Bool → List ℕ → List ℕ → ℕ → ℕ → Swept
-swept kept positions lowers count gone = record { kept = kept; positions = positions; lowerEnds = lowers; count = count; gone = gone }
+abbrev pub flagged : List Bool → List ℕ → List ℕ → ℕ → Flagged
+flagged kept positions lowers count = record { kept = kept; positions = positions; lowerEnds = lowers; count = count }
 
 -- a join (true) or a leave (false) of the watch of n
 unfoldable pub change : Bool → ℕ → ℕ → Message
 change true n p = Join n p
 change false n p = Leave n p
 
--- before and after: the starts of the window before and after the quote
-module _ (s : Swept) (before after : ℕ) where
+-- w says how the window moves at the quote
+module _ (s : Flagged) (w : Shift) where
   -- the row at place i is on the list before
   unfoldable pub wasListed : ℕ → Bool
-  wasListed i = stabbed before (getD (s .lowerEnds) i 0) (getD (s .positions) i 0)
+  wasListed i = stabbed (w .before) (getD (s .lowerEnds) i 0) (getD (s .positions) i 0)
 
   -- the row at place i stays and is on the list after
   unfoldable pub nowListed : ℕ → Bool
-  nowListed i = getD (s .kept) i false && stabbed after (renamed (s .gone) (getD (s .lowerEnds) i 0)) (getD (s .positions) i 0)
+  nowListed i = getD (s .kept) i false && stabbed (w .after) (renamed (w .gone) (getD (s .lowerEnds) i 0)) (getD (s .positions) i 0)
 
   -- the row at place i joins the list (true) or leaves it (false)
   unfoldable pub moves : Bool → ℕ → Bool
@@ -48,7 +48,7 @@ module _ (s : Swept) (before after : ℕ) where
 
   -- the positions that join the list, rising, the new row's last
   unfoldable pub joining : ℕ → ℕ → List ℕ
-  joining newest lower = moving true ++ keep (ltb lower after) newest []
+  joining newest lower = moving true ++ keep (ltb lower (w .after)) newest []
 
   -- the changes of the watch of n, where the new row has this position and lower end: the leaves, then the joins
   unfoldable pub changed : ℕ → ℕ → ℕ → List Message
