@@ -73,6 +73,11 @@ pub struct Head {
     pub rows: u32,
 }
 
+// One record of the watch list; n is 0 where it is empty.
+pub struct Watch {
+    pub n: u32,
+}
+
 impl Head {
     pub const MAX_DIMENSIONS: u32 = 6;
 

@@ -1,12 +1,13 @@
--- What one more element does: to the tests of a prefix, and to a list written with zeros behind it.
+-- What one more element does: to the tests of a prefix, and to a list written over the front of another.
 use mathlib.Core.Path.{_≡_, refl, ap}
 use Prim.Native.Nat.{ℕ, suc, _+_, _-_, _<_, _≤_}
+use native.Mathlib.Numerals.{add-one}
 use native.Mathlib.Omega.{arith}
 use mathlib.Core.Bool.{Bool, true, false, _||_}
 use mathlib.Core.List.{List, [], _∷_, _++_, append-assoc}
 use lib.ListN.{length, getD, take, drop, set, replicate, length-append, length-take}
-use lib.Seq.{take-suc, set-at}
-use Rattle.lists.specs.Lists.{keep, filter, any, padded}
+use lib.Seq.{take-suc, drop-cons, set-at}
+use Rattle.lists.specs.Lists.{keep, filter, any, laid, padded}
 use Rattle.lists.proofs.Filters.{filter-append, length-filter, any-append}
 
 or-false : (b : Bool) → b || false ≡ b
@@ -34,3 +35,8 @@ unfolding padded
 padded-more n l before x h =
     let e : n - length l ≡ suc (n - (length l + 1)) = omega arith in
     rw (e, append-assoc, length-append) (set-at l 0 (replicate (n - (length l + 1)) 0 ++ drop n before) x (length l) refl)
+
+pub laid-more : (l before : List ℕ) (x : ℕ) → length l < length before → set (laid l before) (length l) x ≡ laid (l ++ (x ∷ [])) before
+unfolding laid
+laid-more l before x h =
+    rw (drop-cons before (length l) 0 h, append-assoc, length-append, add-one) (set-at l (getD before (length l) 0) (drop (suc (length l)) before) x (length l) refl)

@@ -4,7 +4,7 @@ use mathlib.Core.Logic.{_⊎_, inl, inr}
 use Prim.Native.Nat.{ℕ, zero, suc, _+_, _-_, _<_, _≤_}
 use native.Mathlib.Numerals.{add-one}
 use native.Mathlib.Omega.{arith}
-use mathlib.Core.Bool.{Bool, true, false, _&&_, _||_, not, cond}
+use mathlib.Core.Bool.{Bool, true, false, _&&_, _||_, cond}
 use mathlib.Core.List.{List, [], _∷_, _++_, append-nil, append-assoc}
 use lib.Dec.{ltb, leb, eqb}
 use lib.ListN.{length, getD, take, drop, set, replicate, length-set, length-replicate, drop-of-length-le}
@@ -33,7 +33,8 @@ all-empty [] e = refl
 all-empty (zero ∷ xs) e = ap (λ (r : List ℕ). 0 ∷ r) (all-empty xs e)
 all-empty (suc x ∷ xs) e = absurd (clash (ltb 0 (suc x)) (lt-ltb 0 (suc x) (omega arith)) (none-left (ltb 0 (suc x)) (any (ltb 0) xs) e))
 
-none-stand : (k : ℕ) → filter (ltb 0) (replicate k 0) ≡ []
+-- empty records stand for no watch
+pub none-stand : (k : ℕ) → filter (ltb 0) (replicate k 0) ≡ []
 unfolding filter
 none-stand zero = refl
 none-stand (suc k) = none-stand k

@@ -1,5 +1,14 @@
--- The laws of the crate: the invariants of its passes over the eight watches.
+-- The laws of the crate: the invariants of its passes over the eight watches, then the records and the steps of the walks over them.
 pub mod Counting
 pub mod Judging
 pub mod Inserting
 pub mod Removing
+pub mod Records
+pub mod Copying
+pub mod Turns
+pub mod LocalArray
+pub mod Elements
+pub mod Whiles
+pub mod Lending
+pub mod Calling
+pub mod Changing

@@ -1,10 +1,12 @@
-// The eight watches of a book as numbers: the standing ones counted, sought, judged, inserted and removed.
+// The watches of a book: eight numbers that are counted, sought, judged, inserted and removed, and the lent list of records that holds them.
 ghost use mathlib.Core.Path.{_≡_};
-ghost use mathlib.Core.Bool.{false, cond};
-ghost use Prim.Native.Nat.{ℕ, _<_};
+ghost use mathlib.Core.Bool.{cond};
+ghost use Prim.Native.Nat.{_≤_};
 ghost use lib.ListN.{length};
 ghost use Rattle.lists.specs.Lists.{contains, insert, without, padded};
 ghost use Rattle.model.specs.Book.{standing, tornWatches};
+ghost use Rattle.watches.specs.Records.{watched, firstEight, stored, Vacant};
+use head::Watch;
 
 // How many watches stand.
 pub fn standing_count(watches: [u32; 8]) -> usize
@@ -62,8 +64,7 @@ fn choose(test: bool, first: u32, second: u32) -> u32
 
 // The watches with n put into its place: from there on each moves up by one.
 pub fn insert(watches: [u32; 8], n: u32) -> [u32; 8]
-    requires untorn { ⌜ ((N : ℕ) × (tornWatches N watches ≡ false)) ⌝ }
-    requires free { ⌜ length (standing watches) < 8 ⌝ }
+    requires { ⌜ Vacant watches ⌝ }
     ensures { λ r. ⌜ r ≡ padded 8 (insert n (standing watches)) watches ⌝ }
 {
     let mut after = [0u32; 8];
@@ -95,4 +96,56 @@ pub fn remove(watches: [u32; 8], n: u32) -> [u32; 8]
         }
     }
     kept
+}
+
+// The numbers of the first eight records; 0 where there is no record.
+pub fn numbers(records: &[Watch]) -> [u32; 8]
+    ensures { λ r. ⌜ r ≡ firstEight (watched (now (records .entry))) ⌝ }
+{
+    let mut watches = [0u32; 8];
+    let mut i: usize = 0;
+    while (i < 8) & (i < records.len()) {
+        watches[i] = records[i].n;
+        i += 1;
+    }
+    watches
+}
+
+// The first eight records, as far as there are any, get the numbers; those beyond stay.
+pub fn store(records: &mut [Watch], watches: [u32; 8])
+    ensures { λ _. ⌜ watched (now (records .exit)) ≡ stored watches (watched (now (records .entry))) ⌝ }
+{
+    let mut i: usize = 0;
+    while (i < 8) & (i < records.len()) {
+        records[i].n = watches[i];
+        i += 1;
+    }
+}
+
+// Whether n is watched.
+pub fn find_record(records: &[Watch], n: u32) -> bool
+    ensures { λ r. ⌜ r ≡ contains n (standing (watched (now (records .entry)))) ⌝ }
+{
+    let watches = numbers(records);
+    find(watches, n)
+}
+
+// The records with n put into its place.
+pub fn insert_record(records: &mut [Watch], n: u32)
+    requires { ⌜ (8 ≤ length (now records)) × Vacant (watched (now records)) ⌝ }
+    ensures { λ _. ⌜ watched (now (records .exit)) ≡ padded 8 (insert n (standing (watched (now (records .entry))))) (watched (now (records .entry))) ⌝ }
+{
+    let watches = numbers(&*records);
+    let after = insert(watches, n);
+    store(&mut *records, after);
+}
+
+// The records without n, with no gap, and empties behind them.
+pub fn remove_record(records: &mut [Watch], n: u32)
+    requires { ⌜ 8 ≤ length (now records) ⌝ }
+    ensures { λ _. ⌜ watched (now (records .exit)) ≡ padded 8 (without n (standing (watched (now (records .entry))))) (watched (now (records .entry))) ⌝ }
+{
+    let watches = numbers(&*records);
+    let after = remove(watches, n);
+    store(&mut *records, after);
 }

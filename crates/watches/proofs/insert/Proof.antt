@@ -46,7 +46,7 @@ loop-again c = rw (c .before .choose .ensures, c .choose2 .ensures) (more _ _ _ 
 returns : tie.Need-returns Inv-loop μ-loop
 returns c =
     let p = c .before .before .pre in
-    finish _ _ _ _ _ (c .before .loop .inv) (p .0 .0) (c .loop-test .left) (p .0 .1) (p .1)
+    finish _ _ _ _ _ (c .before .loop .inv) (p .capacity) (c .loop-test .left) (p .untorn) (p .free)
 
 pub insert-spec : {M : Type 1} → statement M
 insert-spec =
