@@ -92,8 +92,10 @@ long-enough t d N e =
 
 -- a head and tables that passed 3, 11 and 12
 pub record Passed (h : Head) (t : Tables) : Type 0 where
+  pub held : settingsHold (h .dimensions) (h .capacity) (h .directions) ≡ true
   pub settings : Within (h .dimensions) (h .capacity)
   pub long : Long t (h .dimensions) (h .capacity)
+  pub untorn : tornRows h (bookRows h t) ≡ false
   pub whole : Whole h (bookRows h t)
 
 -- the n of a call that passed 5
@@ -119,8 +121,10 @@ module _ (h : Head) (t : Tables) where
   passed : held h t ≡ true → short h t ≡ false → torn h t ≡ false → Passed h t
   passed s l r =
       record {
+        held = s;
         settings = settings-within (h .dimensions) (h .capacity) (h .directions) s;
         long = long-enough t (h .dimensions) (h .capacity) l;
+        untorn = r;
         whole = untorn-whole h (bookRows h t) r;
       }
 

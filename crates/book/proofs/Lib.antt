@@ -3,3 +3,4 @@ pub mod Answering
 pub mod Listing
 pub mod Watches
 pub mod Openings
+pub mod Quotes

@@ -1,5 +1,5 @@
 -- A watch on a book: the joins of its list, its answer, and what it leaves.
-use mathlib.Core.Path.{_≡_, sym, ap, _∙_}
+use mathlib.Core.Path.{_≡_, sym, _∙_}
 use Prim.Native.Nat.{ℕ, _*_, _≤_, _<_}
 use mathlib.Core.Bool.{false}
 use mathlib.Core.List.{List, map}
@@ -19,14 +19,10 @@ use Rattle.model.specs.Rows.{Tables, listed}
 use Rattle.model.specs.Changes.{frames}
 use Rattle.model.specs.Book.{tornWatches, standing, bookRows, listOf, outOfRange, watchBytes, watchAnswer, watchReply, watchWatches, watchOut}
 use Rattle.changes.specs.Picked.{bareRows}
-use Rattle.changes.proofs.Framing.{frames-cells, cells-length, join-length}
+use Rattle.changes.proofs.Framing.{joins-length}
 use Rattle.book.specs.Left.{Watched}
 use Rattle.book.proofs.Answering.{Passed, InRange, in-range, watchful-passed, refused-reply, refused-left, accepted-reply, accepted-left}
 use Rattle.book.proofs.Listing.{rows-stand, list-cells}
-
--- a join takes seven bytes
-joins-length : (n : ℕ) (l : List ℕ) → length (frames (map (Join n) l)) ≡ 7 * length l
-joins-length n l = ap length (frames-cells (Join n) l) ∙ cells-length (Join n) (join-length n) l
 
 -- what is known where a watch is accepted
 pub record Free (h : Head) (n : ℕ) (t : Tables) (ws : List ℕ) (room : ℕ) : Type 0 where

@@ -3,14 +3,14 @@ use mathlib.Core.Path.{_≡_}
 use Prim.Native.Nat.{ℕ}
 use mathlib.Core.Bool.{not}
 use mathlib.Core.List.{List, [], _∷_}
-use lib.Dec.{leb}
+use lib.Dec.{leb, eqb}
 use lib.ListN.{length}
 use Rattle.lists.specs.Lists.{contains}
 use Rattle.head.specs.declared.Answer.{Answer}
 use Rattle.head.specs.declared.Head.{Head}
-use Rattle.head.specs.declared.Refusal.the-variants.{Settings, WindowSize, AlreadyWatched, NoFreeRecord, ShortLoan}
+use Rattle.head.specs.declared.Refusal.the-variants.{Settings, ColumnCount, WindowSize, TapeFull, AlreadyWatched, NoFreeRecord, ShortLoan}
 use Rattle.head.specs.declared.Reply.{Reply}
-use Rattle.head.specs.Heads.{settingsHold}
+use Rattle.head.specs.Heads.{settingsHold, lastPosition}
 use Rattle.head.specs.Refusals.{first}
 use Rattle.model.specs.Rows.{Tables}
 use Rattle.model.specs.Book
@@ -29,6 +29,10 @@ pub record Opened (d N directions : ℕ) (t : Tables) (ws : List ℕ) (r : Reply
   pub reply : r ≡ Book.openReply d N directions t ws
   pub lent : t' ≡ Book.openTables d N directions t ws
   pub watches : ws' ≡ Book.openWatches d N directions t ws
+
+-- the answer of quote x but for the output: 3, 11, 12, 4, 6
+unfoldable pub rowAnswer : Head → List ℕ → Tables → List ℕ → Answer
+rowAnswer h x t ws = Book.watchfulAnswer h t ws ((not (eqb (length x) (h .dimensions)), ColumnCount) ∷ (leb lastPosition (h .newest), TapeFull) ∷ [])
 
 -- what quote x leaves of tables t and output
 pub record Quoted (h : Head) (x : List ℕ) (t : Tables) (ws before : List ℕ) (r : Reply) (t' : Tables) (after : List ℕ) : Type 0 where

@@ -2,11 +2,13 @@
 mod judging;
 mod looking;
 mod opening;
+mod quoting;
 mod watching;
 
 use head::Reply;
 pub use looking::look;
 pub use opening::open;
+pub use quoting::quote;
 pub use watching::end;
 pub use watching::watch;
 

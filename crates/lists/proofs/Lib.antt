@@ -11,4 +11,4 @@ pub mod Growing
 pub mod Storing
 pub mod Apart
 pub mod Places
-pub mod Growing
+pub mod Few

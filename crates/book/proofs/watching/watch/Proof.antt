@@ -39,7 +39,7 @@ insert-requires : tie.Need-insert-requires
 insert-requires c κs =
     let known = c .before .before .before .before .before .before .before in
     let free = watch-free _ _ _ _ (known .before .before .judge-watch .ensures) (known .enum-told .given .1) in
-    ((_, free .untorn), free .free)
+    record { capacity = _; untorn = free .untorn; free = free .free }
 
 same-length : tie.Need-same-length
 same-length c = search needs
