@@ -9,6 +9,7 @@ pub use listing::write_listed;
 pub use moves::count_changes;
 pub use moves::write_changes;
 pub use watches::count_all_changes;
+pub use watches::start_of;
 pub use watches::write_all_changes;
 
 // How the window of a watch moves at a quote: its start before and after it, and the position that expires.

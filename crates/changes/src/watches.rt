@@ -15,7 +15,7 @@ use crate::moves::write_changes;
 use head::Head;
 
 // The first position of the window of n, as a cell; below the last position it fits.
-fn start_of(head: Head, n: u32) -> u32
+pub fn start_of(head: Head, n: u32) -> u32
     requires { ⌜ head .newest ≤ lastPosition ⌝ }
     ensures { λ r. ⌜ r ≡ windowStart (head .newest) n ⌝ }
 {

@@ -7,7 +7,8 @@ pub mod Cells
 pub mod Rising
 pub mod Writing
 pub mod Laying
+pub mod Growing
 pub mod Storing
 pub mod Apart
 pub mod Places
-pub mod Growing
+pub mod Few

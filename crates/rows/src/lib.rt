@@ -14,7 +14,7 @@ ghost use Rattle.rows.specs.Order.{tornHead, inOrder};
 ghost use Rattle.rows.specs.Lent.{tables, rowsNext, Ready};
 
 // x less y, and 0 where y is larger.
-fn difference(x: u32, y: u32) -> u32
+pub fn difference(x: u32, y: u32) -> u32
     ensures { λ r. ⌜ r ≡ x - y ⌝ }
 {
     if x < y { 0 } else { x - y }
@@ -99,7 +99,15 @@ pub fn mark(
 
 // Takes a quote into the tables: the rows that stay, the quote's row behind them, and zeros up to the capacity; gives how
 // many rows there are.
-pub fn settle(head: Head, quote: &[u32], lower: u32, keep: &[bool], columns: &mut [u32], positions: &mut [u32], lower_ends: &mut [u32]) -> u32
+pub fn settle(
+    head: Head,
+    quote: &[u32],
+    lower: u32,
+    keep: &[bool],
+    columns: &mut [u32],
+    positions: &mut [u32],
+    lower_ends: &mut [u32],
+) -> u32
     requires { ⌜ Ready head (now quote) lower (now keep) (tables (now columns) (now positions) (now «lower_ends»)) ⌝ }
     ensures { λ r. ⌜ r ≡ length (rowsNext head (now (quote .entry)) (tables (now (columns .entry)) (now (positions .entry)) (now («lower_ends» .entry)))) ⌝ }
     ensures { λ _. ⌜ tables (now (columns .exit)) (now (positions .exit)) (now («lower_ends» .exit)) ≡ filled (head .dimensions) (head .capacity) (rowsNext head (now (quote .entry)) (tables (now (columns .entry)) (now (positions .entry)) (now («lower_ends» .entry)))) (tables (now (columns .entry)) (now (positions .entry)) (now («lower_ends» .entry))) ⌝ }

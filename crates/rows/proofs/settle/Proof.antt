@@ -25,17 +25,17 @@ mul-places : tie.Need-mul-places
 mul-places c = search needs
 
 settle-rows-requires : tie.Need-settle-rows-requires
-settle-rows-requires c κs = 
+settle-rows-requires c κs =
     let v = c .before .before .before .before .before .before .before .before .before .before .before .pre in
     (v .flags-fit, (mul-le-mul-right _ (v .rows-fit), (v .columns-fit, columns-room v)))
 
 settle-cells-requires : tie.Need-settle-cells-requires
-settle-cells-requires c κs = 
+settle-cells-requires c κs =
     let v = c .before .before .before .before .before .before .before .before .before .before .before .before .before .before .before .pre in
     (v .flags-fit, (v .rows-fit, (v .lower-ends-fit, lower-ends-room v)))
 
 settle-cells-requires-2 : tie.Need-settle-cells-requires-2
-settle-cells-requires-2 c κs = 
+settle-cells-requires-2 c κs =
     let v = c .before .before .before .before .before .before .before .before .before .before .before .before .before .before .before .before .before .before .before .pre in
     (v .flags-fit, (v .rows-fit, (v .positions-fit, positions-room v)))
 
@@ -52,7 +52,7 @@ same-length-3 : tie.Need-same-length-3
 same-length-3 c = search needs
 
 returns : tie.Need-returns
-returns c = 
+returns c =
     let v = c .before .before .before .before .before .before .before .before .before .before .before .before .before .before .before .before .before .before .before .before .before .before .pre in
     (settled-count v _ (c .before .before .settle-cells2 .ensures .0), settled v _ _ _ _ (c .before .before .before .before .before .before .before .before .before .before .before .before .difference .ensures) (c .before .before .before .before .before .before .before .before .before .before .settle-rows .ensures) (c .before .before .settle-cells2 .ensures .1) (c .before .before .before .before .before .before .settle-cells .ensures .1))
 

@@ -1,0 +1,6 @@
+-- The laws of the crate.
+pub mod Answering
+pub mod Listing
+pub mod Watches
+pub mod Openings
+pub mod Quotes
