@@ -4,3 +4,4 @@ pub mod Listing
 pub mod Watches
 pub mod Openings
 pub mod Quotes
+pub mod Made
