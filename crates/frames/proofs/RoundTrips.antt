@@ -232,7 +232,7 @@ one-frame m m' cs cs' w w' x x' e =
 -- ---- a frame that is read is written as the same bytes
 
 -- a message of a kind that has frames has one
-kind-framed : (tape : List ℕ) (body kind : ℕ) → Kind kind → framed (messageAt tape body kind) ≡ true
+pub kind-framed : (tape : List ℕ) (body kind : ℕ) → Kind kind → framed (messageAt tape body kind) ≡ true
 unfolding messageAt framed
 kind-framed tape body kind (quotes u v) = simp (le-leb 1 kind u, le-leb kind 6 v)
 kind-framed tape body _ looks = refl

@@ -54,7 +54,7 @@ fn take(
     watches: [u32; 8],
     out: &mut [u8],
 ) -> Head {
-    let reply = book::quote(head, &quote, columns, positions, lower_ends, watches, out);
+    let reply = calls::quote(head, &quote, columns, positions, lower_ends, watches, out);
     let answer = reply.answer;
     let next = reply.head;
     let count = reply.count;
@@ -74,7 +74,7 @@ fn take(
 // Looks at the list of n, and prints it, or the refusal.
 fn look(head: Head, n: u32, columns: &[u32], positions: &[u32], lower_ends: &[u32]) {
     let mut cells = [0u32; 9];
-    let reply = book::look(head, n, columns, positions, lower_ends, &mut cells[1..]);
+    let reply = calls::look(head, n, columns, positions, lower_ends, &mut cells[1..]);
     let answer = reply.answer;
     let count = reply.count;
     match answer {
@@ -112,18 +112,18 @@ fn refusals(head: Head, columns: &[u32], positions: &[u32], lower_ends: &[u32], 
     let mut torn = head;
     torn.rows = 0;
     look(head, 6, columns, positions, lower_ends);
-    let again = book::watch(head, 2, columns, positions, lower_ends, watches, &mut out);
+    let again = calls::watch(head, 2, columns, positions, lower_ends, watches, &mut out);
     let again_reply = again.reply;
     print_answer(again_reply);
-    let ended = book::end(head, 3, columns, positions, lower_ends, watches);
+    let ended = calls::end(head, 3, columns, positions, lower_ends, watches);
     let ended_reply = ended.reply;
     print_answer(ended_reply);
     look(wide, 1, columns, positions, lower_ends);
     look(torn, 1, columns, positions, lower_ends);
-    let short = book::watch(head, 5, columns, positions, lower_ends, watches, &mut out);
+    let short = calls::watch(head, 5, columns, positions, lower_ends, watches, &mut out);
     let short_reply = short.reply;
     print_answer(short_reply);
-    let last = book::end(head, 2, columns, positions, lower_ends, watches);
+    let last = calls::end(head, 2, columns, positions, lower_ends, watches);
     let last_reply = last.reply;
     print_answer(last_reply);
     print(b'U', &[2]);
@@ -140,7 +140,7 @@ fn limits() {
     let mut head = Head::fresh(1, 9, 0);
     head.newest = Head::MAX_POSITION;
     head.rows = 1;
-    let opened = book::open(
+    let opened = calls::open(
         7,
         9,
         0,
@@ -152,7 +152,7 @@ fn limits() {
     let opened_reply = opened.reply;
     print_answer(opened_reply);
     let two = [1, 2];
-    print_answer(book::quote(
+    print_answer(calls::quote(
         head,
         &two,
         &mut columns,
@@ -161,7 +161,7 @@ fn limits() {
         watches,
         &mut out,
     ));
-    let full = book::watch(
+    let full = calls::watch(
         head,
         9,
         &columns,
@@ -173,7 +173,7 @@ fn limits() {
     let full_reply = full.reply;
     print_answer(full_reply);
     let one = [1];
-    print_answer(book::quote(
+    print_answer(calls::quote(
         head,
         &one,
         &mut columns,
@@ -190,7 +190,7 @@ fn main() {
     let mut positions = [0u32; 5];
     let mut lower_ends = [0u32; 5];
     let mut out = [0u8; 57400];
-    let opened = book::open(
+    let opened = calls::open(
         2,
         5,
         0,
@@ -247,7 +247,7 @@ fn main() {
         none,
         &mut out,
     );
-    let watching = book::watch(five, 2, &columns, &positions, &lower_ends, none, &mut out);
+    let watching = calls::watch(five, 2, &columns, &positions, &lower_ends, none, &mut out);
     let joined = watching.reply;
     let watches = watching.watches;
     print(b'W', &[2]);
