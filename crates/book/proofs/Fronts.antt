@@ -1,0 +1,121 @@
+-- What a call leaves of lent records is told by the first eight of them: it is what the call leaves of those, with the rest behind.
+use mathlib.Core.Path.{_≡_, refl, sym, _∙_, ap, subst}
+use Prim.Native.Nat.{ℕ, zero, suc, _≤_}
+use native.Mathlib.Omega.{arith}
+use mathlib.Core.Bool.{Bool, true, false, _||_, not}
+use mathlib.Core.List.{List, [], _∷_, _++_, map}
+use lib.Dec.{T, ltb, leb·suc-zero, leb·suc-suc}
+use lib.ListN.{length, take, replicate, length-map}
+use lib.Seq.{take-take, take-nil}
+use borrow.Author.Tests.{ltb-false}
+use Rattle.lists.specs.Lists.{without, padded}
+use Rattle.lists.proofs.Booleans.{none-right}
+use Rattle.head.specs.declared.Answer.{Answer}
+use Rattle.head.specs.declared.Answer.the-variants.{Accepted, Refused}
+use Rattle.head.specs.declared.Head.{Head}
+use Rattle.head.specs.declared.Refusal.{Refusal}
+use Rattle.head.specs.declared.Refusal.the-variants.{Settings, ShortLoan, Torn}
+use Rattle.head.specs.declared.Watch.{Watch}
+use Rattle.head.specs.Heads.{settingsHold}
+use Rattle.head.specs.Refusals.{settled}
+use Rattle.head.proofs.Answers.{accepted-passed}
+use Rattle.model.specs.Rows.{Tables}
+use Rattle.model.specs.Book.{shortTables, shortLoan, tornRows, bookRows, standing, tornWatches, watchfulAnswer, replyOf, endAnswer, endReply, endWatches}
+use Rattle.watches.specs.Records.{watched, firstEight}
+use Rattle.calls.specs.Left.{Ended}
+use Rattle.book.specs.declared.lending.Judgement.{Judgement}
+use Rattle.book.specs.Lent.{judgement}
+
+-- as many numbers as there are records, of eight that are read off them
+pub lent-front : (ws : List ℕ) → take (length ws) (firstEight ws) ≡ take 8 ws
+unfolding firstEight
+lent-front ws = go 8 ws (replicate 8 0)
+  where
+    go : (n : ℕ) (xs ys : List ℕ) → take (length xs) (take n (xs ++ ys)) ≡ take n xs
+    go zero xs ys = take-nil (length xs)
+    go (suc n) [] ys = refl
+    go (suc n) (x ∷ xs) ys = ap (λ (l : List ℕ). x ∷ l) (go n xs ys)
+
+-- a list is too short exactly if its front is
+few-in : (n : ℕ) (ws : List ℕ) → ltb (length (take n ws)) n ≡ ltb (length ws) n
+few-in zero ws = sym (leb·suc-zero (length ws))
+few-in (suc n) [] = refl
+few-in (suc n) (w ∷ ws) = leb·suc-suc (suc (length (take n ws))) n ∙ few-in n ws ∙ sym (leb·suc-suc (suc (length ws)) n)
+
+-- a test of a reply that came out so
+accepted-is : (a : Answer) {b : Bool} → b ≡ settled a true false → T b → a ≡ Accepted
+unfolding settled
+accepted-is Accepted e y = refl
+accepted-is (Refused k) e y = absurd (subst T e y)
+
+refused-leaves : {A : Type 0} (a : Answer) {b : Bool} → b ≡ settled a true false → T (not b) → (x : A) {y : A} → y ≡ settled a x y
+unfolding settled
+refused-leaves Accepted e n x = absurd (subst (λ (c : Bool). T (not c)) e n)
+refused-leaves (Refused k) e n x = refl
+
+-- an accepted call on the watches was lent eight records
+eight-lent : (h : Head) (t : Tables) (ws : List ℕ) (more : List (Bool × Refusal)) → watchfulAnswer h t ws more ≡ Accepted → 8 ≤ length ws
+unfolding watchfulAnswer shortLoan
+eight-lent h t ws more e =
+    let few = ltb (length ws) 8 in
+    let short = shortTables t (h .dimensions) (h .capacity) in
+    let s = accepted-passed (not (settingsHold (h .dimensions) (h .capacity) (h .directions))) Settings ((short || few, ShortLoan) ∷ (tornRows h (bookRows h t) || tornWatches (h .capacity) ws, Torn) ∷ more) e in
+    let l = accepted-passed (short || few) ShortLoan ((tornRows h (bookRows h t) || tornWatches (h .capacity) ws, Torn) ∷ more) (s .1) in
+    ltb-false (length ws) 8 (none-right short few (l .0))
+
+module _ (ws : List ℕ) where
+  torn-front : (N : ℕ) → tornWatches N (take 8 ws) ≡ tornWatches N ws
+  unfolding tornWatches
+  torn-front N = rw (take-take 8 8 ws (omega arith))
+
+  standing-front : standing (take 8 ws) ≡ standing ws
+  unfolding standing
+  standing-front = rw (take-take 8 8 ws (omega arith))
+
+  short-front : (t : Tables) (d N : ℕ) → shortLoan t (take 8 ws) d N ≡ shortLoan t ws d N
+  unfolding shortLoan
+  short-front t d N = rw (few-in 8 ws)
+
+  watchful-front : (h : Head) (t : Tables) (more : List (Bool × Refusal)) → watchfulAnswer h t (take 8 ws) more ≡ watchfulAnswer h t ws more
+  unfolding watchfulAnswer
+  watchful-front h t more = rw (short-front t (h .dimensions) (h .capacity), torn-front (h .capacity))
+
+  end-front : (h : Head) (n : ℕ) (t : Tables) → endAnswer h n t (take 8 ws) ≡ endAnswer h n t ws
+  unfolding endAnswer
+  end-front h n t = rw (standing-front, watchful-front h t)
+
+-- ---- the records ys, of which the numbers are read off
+module _ (ys : List Watch) where
+  abbrev ws : List ℕ
+  ws = watched ys
+
+  front : {ns : List ℕ} → ns ≡ firstEight ws → take (length ys) ns ≡ take 8 ws
+  unfolding watched
+  front e = rw (e, ← length-map ys Watch.n) (lent-front (map Watch.n ys))
+
+  as-many : 8 ≤ length ws → 8 ≤ length ys
+  unfolding watched
+  as-many h = rw (← length-map ys Watch.n) h
+
+  module _ (h : Head) (n : ℕ) (t : Tables) {ns : List ℕ} (e : ns ≡ firstEight ws) (j : Judgement) (f : j ≡ judgement (endReply h n t (take (length ys) ns))) where
+    end-reply : j .reply ≡ endReply h n t ws
+    unfolding judgement endReply
+    end-reply = ap Judgement.reply f ∙ rw (front e, end-front ws h n t)
+
+    end-accepts : j .accepted ≡ settled (endAnswer h n t ws) true false
+    unfolding judgement endReply replyOf
+    end-accepts = ap Judgement.accepted f ∙ rw (front e, end-front ws h n t)
+
+    -- a refused end leaves the records
+    pub end-left : T (not (j .accepted)) → Ended h n t ws (j .reply) ws
+    unfolding endWatches
+    end-left off = record { reply = end-reply; watches = refused-leaves (endAnswer h n t ws) end-accepts off _ }
+
+    -- an accepted one was lent eight, and removes n
+    pub end-enough : T (j .accepted) → 8 ≤ length ys
+    unfolding endAnswer
+    end-enough on = as-many (eight-lent h t ws _ (accepted-is (endAnswer h n t ws) end-accepts on))
+
+    pub end-removed : T (j .accepted) → (after : List ℕ) → after ≡ padded 8 (without n (standing ws)) ws → Ended h n t ws (j .reply) after
+    unfolding endWatches settled
+    end-removed on after m = record { reply = end-reply; watches = m ∙ rw (accepted-is (endAnswer h n t ws) end-accepts on) }

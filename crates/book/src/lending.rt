@@ -1,0 +1,71 @@
+// The calls with the watches as the numbers of the first eight records, and how many records are lent.
+ghost use mathlib.Core.Path.{_≡_};
+ghost use lib.ListN.{take};
+ghost use Rattle.model.specs.Book.{endReply};
+ghost use Rattle.calls.specs.Left.{tables, Opened, Quoted, Watched, Ended};
+ghost use Rattle.book.specs.Lent.{judgement, fewReply};
+use calls::end;
+use head::Answer;
+use head::Head;
+use head::Refusal;
+use head::Reply;
+
+// What a call that may change the records answers: its reply, and whether they change.
+pub struct Judgement {
+    pub reply: Reply,
+    pub accepted: bool,
+}
+
+// The reply where fewer than eight records are lent, with these settings, to a call that hands back this head: 3, 11.
+fn few(settings: Head, head: Head) -> Reply
+    ensures { λ r. ⌜ r ≡ fewReply settings head ⌝ }
+{
+    if settings.settings_hold() {
+        return Reply {
+            answer: Answer::Refused(Refusal::ShortLoan),
+            head,
+            count: 0,
+        };
+    }
+    Reply {
+        answer: Answer::Refused(Refusal::Settings),
+        head,
+        count: 0,
+    }
+}
+
+// A reply, and whether it accepts.
+fn judge(reply: Reply) -> Judgement
+    ensures { λ r. ⌜ r ≡ judgement reply ⌝ }
+{
+    let answer = reply.answer;
+    match answer {
+        Answer::Accepted => Judgement {
+            reply,
+            accepted: true,
+        },
+        Answer::Refused(_) => Judgement {
+            reply,
+            accepted: false,
+        },
+    }
+}
+
+// The reply to the end of the watch of n.
+pub fn end_lent(
+    head: Head,
+    n: u32,
+    columns: &[u32],
+    positions: &[u32],
+    lower_ends: &[u32],
+    watches: [u32; 8],
+    lent: usize,
+) -> Judgement
+    ensures { λ r. ⌜ r ≡ judgement (endReply head n (tables (now (columns .entry)) (now (positions .entry)) (now («lower_ends» .entry))) (take lent watches)) ⌝ }
+{
+    if lent < 8 {
+        return judge(few(head, head));
+    }
+    let made = end(head, n, columns, positions, lower_ends, watches);
+    judge(made.reply)
+}
