@@ -2,9 +2,12 @@
 ghost use mathlib.Core.Path.{_≡_};
 ghost use lib.ListN.{take};
 ghost use Rattle.model.specs.Book.{endReply};
-ghost use Rattle.calls.specs.Left.{tables, Opened, Quoted, Watched, Ended};
-ghost use Rattle.book.specs.Lent.{judgement, fewReply};
+ghost use Rattle.calls.specs.Left.{tables, Quoted};
+ghost use Rattle.book.specs.Lent.{judgement, fewReply, OpenJudged, WatchJudged};
 use calls::end;
+use calls::open;
+use calls::quote;
+use calls::watch;
 use head::Answer;
 use head::Head;
 use head::Refusal;
@@ -49,6 +52,82 @@ fn judge(reply: Reply) -> Judgement
             accepted: false,
         },
     }
+}
+
+// The reply to an opening; the tables are cleared, and the records wait.
+pub fn open_lent(
+    dimensions: u32,
+    capacity: u32,
+    directions: u32,
+    columns: &mut [u32],
+    positions: &mut [u32],
+    lower_ends: &mut [u32],
+    watches: [u32; 8],
+    lent: usize,
+) -> Judgement
+    ensures { λ r. ⌜ OpenJudged dimensions capacity directions (tables (now (columns .entry)) (now (positions .entry)) (now («lower_ends» .entry))) (take lent watches) r (tables (now (columns .exit)) (now (positions .exit)) (now («lower_ends» .exit))) ⌝ }
+{
+    if lent < 8 {
+        let settings = Head::fresh(dimensions, capacity, directions);
+        return judge(few(settings, Head::fresh(0, 0, 0)));
+    }
+    let made = open(
+        dimensions,
+        capacity,
+        directions,
+        columns,
+        positions,
+        lower_ends,
+        watches,
+    );
+    judge(made.reply)
+}
+
+// Takes a quote.
+pub fn quote_lent(
+    head: Head,
+    columns_of: &[u32],
+    columns: &mut [u32],
+    positions: &mut [u32],
+    lower_ends: &mut [u32],
+    watches: [u32; 8],
+    lent: usize,
+    out: &mut [u8],
+) -> Reply
+    ensures { λ r. ⌜ Quoted head (now («columns_of» .entry)) (tables (now (columns .entry)) (now (positions .entry)) (now («lower_ends» .entry))) (take lent watches) (now (out .entry)) r (tables (now (columns .exit)) (now (positions .exit)) (now («lower_ends» .exit))) (now (out .exit)) ⌝ }
+{
+    if lent < 8 {
+        return few(head, head);
+    }
+    quote(
+        head,
+        columns_of,
+        columns,
+        positions,
+        lower_ends,
+        watches,
+        out,
+    )
+}
+
+// The reply to a watch of n; its joins are written, and the records wait.
+pub fn watch_lent(
+    head: Head,
+    n: u32,
+    columns: &[u32],
+    positions: &[u32],
+    lower_ends: &[u32],
+    watches: [u32; 8],
+    lent: usize,
+    out: &mut [u8],
+) -> Judgement
+    ensures { λ r. ⌜ WatchJudged head n (tables (now (columns .entry)) (now (positions .entry)) (now («lower_ends» .entry))) (take lent watches) (now (out .entry)) r (now (out .exit)) ⌝ }
+{
+    if lent < 8 {
+        return judge(few(head, head));
+    }
+    let made = watch(head, n, columns, positions, lower_ends, watches, out);
+    judge(made.reply)
 }
 
 // The reply to the end of the watch of n.

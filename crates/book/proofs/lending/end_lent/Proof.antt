@@ -3,7 +3,7 @@ use mathlib.Core.Path.{_∙_, ap}
 use native.Mathlib.Omega.{arith}
 use borrow.Author.Needs.{needs}
 use Rattle.book.specs.Lent.{judgement}
-use Rattle.book.proofs.Fewer.{end-enough, end-few}
+use Rattle.book.proofs.Fewer.{end-eight, end-few}
 use Rattle.book.proofs.lending.end_lent.Statement.{statement}
 use Rattle.book.proofs.lending.end_lent.Tie as tie
 
@@ -29,7 +29,7 @@ returns-2 c =
     let s = c .before .before .before .before .before .before in
     let a = s .args in
     let g = s .good .1 .1 .1 .1 .1 .0 in
-    c .judge2 .ensures ∙ ap judgement (end-enough (a .watches) (a .lent) _ _ _ (omega (arith, g)) (c .before .end .ensures))
+    c .judge2 .ensures ∙ ap judgement (end-eight (a .watches) (a .lent) _ _ _ (omega (arith, g)) (c .before .end .ensures))
 
 pub end-lent-spec : {M : Type 1} → statement M
 end-lent-spec = tie.close (tie.spec few-requires judge-requires returns end-requires judge-requires-2 returns-2)
