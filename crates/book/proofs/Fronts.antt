@@ -5,26 +5,28 @@ use native.Mathlib.Omega.{arith}
 use mathlib.Core.Bool.{Bool, true, false, _||_, not}
 use mathlib.Core.List.{List, [], _∷_, _++_, map}
 use lib.Dec.{T, ltb, leb·suc-zero, leb·suc-suc}
-use lib.ListN.{length, take, replicate, length-map}
-use lib.Seq.{take-take, take-nil}
+use lib.ListN.{length, take, drop, replicate, length-map, length-append, length-drop, length-replicate}
+use lib.Seq.{take-all, take-take, take-nil}
 use borrow.Author.Tests.{ltb-false}
-use Rattle.lists.specs.Lists.{without, padded}
+use Rattle.lists.specs.Lists.{insert, without, laid, padded}
 use Rattle.lists.proofs.Booleans.{none-right}
 use Rattle.head.specs.declared.Answer.{Answer}
 use Rattle.head.specs.declared.Answer.the-variants.{Accepted, Refused}
 use Rattle.head.specs.declared.Head.{Head}
 use Rattle.head.specs.declared.Refusal.{Refusal}
 use Rattle.head.specs.declared.Refusal.the-variants.{Settings, ShortLoan, Torn}
+use Rattle.head.specs.declared.Reply.{Reply}
 use Rattle.head.specs.declared.Watch.{Watch}
 use Rattle.head.specs.Heads.{settingsHold}
 use Rattle.head.specs.Refusals.{settled}
 use Rattle.head.proofs.Answers.{accepted-passed}
 use Rattle.model.specs.Rows.{Tables}
-use Rattle.model.specs.Book.{shortTables, shortLoan, tornRows, bookRows, standing, tornWatches, watchfulAnswer, replyOf, endAnswer, endReply, endWatches}
-use Rattle.watches.specs.Records.{watched, firstEight}
-use Rattle.calls.specs.Left.{Ended}
+use Rattle.model.specs.Book.{shortTables, shortLoan, tornRows, bookRows, standing, tornWatches, watchfulAnswer, replyOf, openAnswer, openReply, openTables, openWatches, quoteRows, quoteHead, quoteBytes, quoteAnswer, quoteReply, quoteTables, quoteOut, watchBytes, watchAnswer, watchReply, watchWatches, watchOut, endAnswer, endReply, endWatches}
+use Rattle.watches.specs.Records.{watched, firstEight, stored, Vacant}
+use Rattle.calls.specs.Left.{Opened, Quoted, Watched, Ended}
+use Rattle.calls.proofs.Watches.{watch-free}
 use Rattle.book.specs.declared.lending.Judgement.{Judgement}
-use Rattle.book.specs.Lent.{judgement}
+use Rattle.book.specs.Lent.{judgement, OpenJudged, WatchJudged}
 
 -- as many numbers as there are records, of eight that are read off them
 pub lent-front : (ws : List ℕ) → take (length ws) (firstEight ws) ≡ take 8 ws
@@ -53,6 +55,11 @@ unfolding settled
 refused-leaves Accepted e n x = absurd (subst (λ (c : Bool). T (not c)) e n)
 refused-leaves (Refused k) e n x = refl
 
+-- a loan that is not short has eight records
+eight-of : (t : Tables) (ws : List ℕ) (d N : ℕ) → shortLoan t ws d N ≡ false → 8 ≤ length ws
+unfolding shortLoan
+eight-of t ws d N e = ltb-false (length ws) 8 (none-right (shortTables t d N) (ltb (length ws) 8) e)
+
 -- an accepted call on the watches was lent eight records
 eight-lent : (h : Head) (t : Tables) (ws : List ℕ) (more : List (Bool × Refusal)) → watchfulAnswer h t ws more ≡ Accepted → 8 ≤ length ws
 unfolding watchfulAnswer shortLoan
@@ -61,7 +68,7 @@ eight-lent h t ws more e =
     let short = shortTables t (h .dimensions) (h .capacity) in
     let s = accepted-passed (not (settingsHold (h .dimensions) (h .capacity) (h .directions))) Settings ((short || few, ShortLoan) ∷ (tornRows h (bookRows h t) || tornWatches (h .capacity) ws, Torn) ∷ more) e in
     let l = accepted-passed (short || few) ShortLoan ((tornRows h (bookRows h t) || tornWatches (h .capacity) ws, Torn) ∷ more) (s .1) in
-    ltb-false (length ws) 8 (none-right short few (l .0))
+    eight-of t ws (h .dimensions) (h .capacity) (l .0)
 
 module _ (ws : List ℕ) where
   torn-front : (N : ℕ) → tornWatches N (take 8 ws) ≡ tornWatches N ws
@@ -83,6 +90,27 @@ module _ (ws : List ℕ) where
   end-front : (h : Head) (n : ℕ) (t : Tables) → endAnswer h n t (take 8 ws) ≡ endAnswer h n t ws
   unfolding endAnswer
   end-front h n t = rw (standing-front, watchful-front h t)
+
+  watch-front : (h : Head) (n : ℕ) (t : Tables) (room : ℕ) → watchAnswer h n t (take 8 ws) room ≡ watchAnswer h n t ws room
+  unfolding watchAnswer watchBytes
+  watch-front h n t room = rw (standing-front, watchful-front h t)
+
+  quote-front : (h : Head) (x : List ℕ) (t : Tables) (room : ℕ) → quoteAnswer h x t (take 8 ws) room ≡ quoteAnswer h x t ws room
+  unfolding quoteAnswer quoteBytes quoteHead quoteRows
+  quote-front h x t room = rw (standing-front, watchful-front h t)
+
+  bytes-front : (h : Head) (x : List ℕ) (t : Tables) → quoteBytes h x t (take 8 ws) ≡ quoteBytes h x t ws
+  unfolding quoteBytes quoteHead quoteRows
+  bytes-front h x t = rw standing-front
+
+  open-front : (d N directions : ℕ) (t : Tables) → openAnswer d N directions t (take 8 ws) ≡ openAnswer d N directions t ws
+  unfolding openAnswer
+  open-front d N directions t = rw (short-front t d N)
+
+  -- empties over eight records
+  cleared : 8 ≤ length ws → stored (replicate 8 0) ws ≡ padded 8 [] ws
+  unfolding stored laid padded
+  cleared h = take-all (length ws) (replicate 8 0 ++ drop 8 ws) (simp (length-append, length-replicate, length-drop) (omega arith))
 
 -- ---- the records ys, of which the numbers are read off
 module _ (ys : List Watch) where
@@ -119,3 +147,73 @@ module _ (ys : List Watch) where
     pub end-removed : T (j .accepted) → (after : List ℕ) → after ≡ padded 8 (without n (standing ws)) ws → Ended h n t ws (j .reply) after
     unfolding endWatches settled
     end-removed on after m = record { reply = end-reply; watches = m ∙ rw (accepted-is (endAnswer h n t ws) end-accepts on) }
+
+  module _ (h : Head) (n : ℕ) (t : Tables) {ns : List ℕ} (e : ns ≡ firstEight ws) {before after : List ℕ} (j : Judgement) (f : WatchJudged h n t (take (length ys) ns) before j after) where
+    watch-reply : j .reply ≡ watchReply h n t ws (length before)
+    unfolding judgement watchReply watchBytes
+    watch-reply = ap Judgement.reply (f .judged) ∙ rw (front e, watch-front ws h n t)
+
+    watch-accepts : j .accepted ≡ settled (watchAnswer h n t ws (length before)) true false
+    unfolding judgement watchReply replyOf
+    watch-accepts = ap Judgement.accepted (f .judged) ∙ rw (front e, watch-front ws h n t)
+
+    watch-out : after ≡ watchOut h n t ws before
+    unfolding watchOut watchBytes
+    watch-out = f .out ∙ rw (front e, watch-front ws h n t)
+
+    -- a refused watch leaves the records
+    pub watch-left : T (not (j .accepted)) → Watched h n t ws before (j .reply) ws after
+    unfolding watchWatches
+    watch-left off = record { reply = watch-reply; watches = refused-leaves (watchAnswer h n t ws (length before)) watch-accepts off _; out = watch-out }
+
+    module _ (on : T (j .accepted)) where
+      watch-is : watchAnswer h n t ws (length before) ≡ Accepted
+      watch-is = accepted-is (watchAnswer h n t ws (length before)) watch-accepts on
+
+      -- an accepted one was lent eight, of which one is free, and inserts n
+      pub watch-asks : (8 ≤ length ys) × Vacant ws
+      unfolding watchAnswer
+      watch-asks =
+          let free = watch-free h n t ws refl watch-is in
+          (as-many (eight-lent h t ws _ watch-is), record { capacity = h .capacity; untorn = free .untorn; free = free .free })
+
+      pub watch-inserted : (last : List ℕ) → last ≡ padded 8 (insert n (standing ws)) ws → Watched h n t ws before (j .reply) last after
+      unfolding watchWatches settled
+      watch-inserted last m = record { reply = watch-reply; watches = m ∙ rw watch-is; out = watch-out }
+
+  module _ (d N directions : ℕ) (t : Tables) {ns : List ℕ} (e : ns ≡ firstEight ws) {t' : Tables} (j : Judgement) (f : OpenJudged d N directions t (take (length ys) ns) j t') where
+    open-reply : j .reply ≡ openReply d N directions t ws
+    unfolding judgement openReply
+    open-reply = ap Judgement.reply (f .judged) ∙ rw (front e, open-front ws d N directions t)
+
+    open-accepts : j .accepted ≡ settled (openAnswer d N directions t ws) true false
+    unfolding judgement openReply replyOf
+    open-accepts = ap Judgement.accepted (f .judged) ∙ rw (front e, open-front ws d N directions t)
+
+    open-tables : t' ≡ openTables d N directions t ws
+    unfolding openTables
+    open-tables = f .lent ∙ rw (front e, open-front ws d N directions t)
+
+    -- a refused opening leaves the records
+    pub open-left : T (not (j .accepted)) → Opened d N directions t ws (j .reply) t' ws
+    unfolding openWatches
+    open-left off = record { reply = open-reply; lent = open-tables; watches = refused-leaves (openAnswer d N directions t ws) open-accepts off _ }
+
+    -- an accepted one empties them
+    pub open-emptied : T (j .accepted) → (last : List ℕ) → last ≡ stored (replicate 8 0) ws → Opened d N directions t ws (j .reply) t' last
+    unfolding openWatches openAnswer settled
+    open-emptied on last m =
+        let a = accepted-is (openAnswer d N directions t ws) open-accepts on in
+        let s = accepted-passed (not (settingsHold d N directions)) Settings ((shortLoan t ws d N, ShortLoan) ∷ []) a in
+        let l = accepted-passed (shortLoan t ws d N) ShortLoan [] (s .1) in
+        record { reply = open-reply; lent = open-tables; watches = m ∙ cleared ws (eight-of t ws d N (l .0)) ∙ rw a }
+
+  -- a quote on as many numbers as records are lent is one on the records
+  pub quote-records : (h : Head) (x : List ℕ) (t : Tables) {ns : List ℕ} → ns ≡ firstEight ws → {before : List ℕ} {r : Reply} {t' : Tables} {after : List ℕ} → Quoted h x t (take (length ys) ns) before r t' after → Quoted h x t ws before r t' after
+  unfolding quoteReply quoteTables quoteOut quoteHead quoteRows
+  quote-records h x t e m =
+      record {
+        reply = m .reply ∙ rw (front e, quote-front ws h x t, bytes-front ws h x t);
+        lent = m .lent ∙ rw (front e, quote-front ws h x t);
+        out = m .out ∙ rw (front e, quote-front ws h x t, bytes-front ws h x t);
+      }
