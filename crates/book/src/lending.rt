@@ -86,7 +86,7 @@ pub fn open_lent(
 // Takes a quote.
 pub fn quote_lent(
     head: Head,
-    columns_of: &[u32],
+    quoted: &[u32],
     columns: &mut [u32],
     positions: &mut [u32],
     lower_ends: &mut [u32],
@@ -94,20 +94,12 @@ pub fn quote_lent(
     lent: usize,
     out: &mut [u8],
 ) -> Reply
-    ensures { λ r. ⌜ Quoted head (now («columns_of» .entry)) (tables (now (columns .entry)) (now (positions .entry)) (now («lower_ends» .entry))) (take lent watches) (now (out .entry)) r (tables (now (columns .exit)) (now (positions .exit)) (now («lower_ends» .exit))) (now (out .exit)) ⌝ }
+    ensures { λ r. ⌜ Quoted head (now (quoted .entry)) (tables (now (columns .entry)) (now (positions .entry)) (now («lower_ends» .entry))) (take lent watches) (now (out .entry)) r (tables (now (columns .exit)) (now (positions .exit)) (now («lower_ends» .exit))) (now (out .exit)) ⌝ }
 {
     if lent < 8 {
         return few(head, head);
     }
-    quote(
-        head,
-        columns_of,
-        columns,
-        positions,
-        lower_ends,
-        watches,
-        out,
-    )
+    quote(head, quoted, columns, positions, lower_ends, watches, out)
 }
 
 // The reply to a watch of n; its joins are written, and the records wait.

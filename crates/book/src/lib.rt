@@ -4,12 +4,95 @@ mod lending;
 ghost use Rattle.watches.specs.Records.{watched};
 ghost use Rattle.calls.specs.Left.{tables, Opened, Quoted, Watched, Ended};
 use crate::lending::end_lent;
+use crate::lending::open_lent;
+use crate::lending::quote_lent;
+use crate::lending::watch_lent;
 pub use calls::look;
 use head::Head;
 use head::Reply;
 use head::Watch;
+use watches::insert_record;
 use watches::numbers;
 use watches::remove_record;
+use watches::store;
+
+// Begins a new book: the head is fresh, the places of the tables are zeros, and the eight records are empty.
+pub fn open(
+    dimensions: u32,
+    capacity: u32,
+    directions: u32,
+    columns: &mut [u32],
+    positions: &mut [u32],
+    lower_ends: &mut [u32],
+    watches: &mut [Watch],
+) -> Reply
+    ensures { λ r. ⌜ Opened dimensions capacity directions (tables (now (columns .entry)) (now (positions .entry)) (now («lower_ends» .entry))) (watched (now (watches .entry))) r (tables (now (columns .exit)) (now (positions .exit)) (now («lower_ends» .exit))) (watched (now (watches .exit))) ⌝ }
+{
+    let before = numbers(&*watches);
+    let lent = watches.len();
+    let judged = open_lent(
+        dimensions,
+        capacity,
+        directions,
+        columns,
+        positions,
+        lower_ends,
+        before,
+        lent,
+    );
+    if judged.accepted {
+        store(&mut *watches, [0; 8]);
+    }
+    judged.reply
+}
+
+// Takes a quote: writes the changes of every watch, puts the quote's row into the tables, and hands back the next head and how
+// many bytes were written.
+pub fn quote(
+    head: Head,
+    quote: &[u32],
+    columns: &mut [u32],
+    positions: &mut [u32],
+    lower_ends: &mut [u32],
+    watches: &[Watch],
+    out: &mut [u8],
+) -> Reply
+    ensures { λ r. ⌜ Quoted head (now (quote .entry)) (tables (now (columns .entry)) (now (positions .entry)) (now («lower_ends» .entry))) (watched (now (watches .entry))) (now (out .entry)) r (tables (now (columns .exit)) (now (positions .exit)) (now («lower_ends» .exit))) (now (out .exit)) ⌝ }
+{
+    let before = numbers(watches);
+    let lent = watches.len();
+    quote_lent(
+        head,
+        quote,
+        columns,
+        positions,
+        lower_ends,
+        before,
+        lent,
+        out,
+    )
+}
+
+// Sets a watch of n and writes a join for each position of its list; hands back how many bytes.
+pub fn watch(
+    head: Head,
+    n: u32,
+    columns: &[u32],
+    positions: &[u32],
+    lower_ends: &[u32],
+    watches: &mut [Watch],
+    out: &mut [u8],
+) -> Reply
+    ensures { λ r. ⌜ Watched head n (tables (now (columns .entry)) (now (positions .entry)) (now («lower_ends» .entry))) (watched (now (watches .entry))) (now (out .entry)) r (watched (now (watches .exit))) (now (out .exit)) ⌝ }
+{
+    let before = numbers(&*watches);
+    let lent = watches.len();
+    let judged = watch_lent(head, n, columns, positions, lower_ends, before, lent, out);
+    if judged.accepted {
+        insert_record(&mut *watches, n);
+    }
+    judged.reply
+}
 
 // Ends the watch of n.
 pub fn end(

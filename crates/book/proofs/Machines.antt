@@ -1,0 +1,44 @@
+-- The machine values of what a walk of the calls passes on: heads, replies, judgements, and eight zeros.
+use mathlib.Core.Path.{refl, subst}
+use Prim.Native.Nat.{_<_}
+use mathlib.Core.List.{List, [], _∷_}
+use lib.Dec.{lit<}
+use lib.ListN.{replicate}
+use mir.Syntax.{w32}
+use mir.Val.{Val, vint}
+use denote.Laws.{Is}
+use denote.Array.{Array}
+use denote.Builtin.{u32}
+use denote.Struct.Laws as LL
+use Rattle.head.specs.declared.Head.{Head}
+use Rattle.head.specs.declared.Reply.{Reply}
+use Rattle.head.proofs.Head as Hd
+use Rattle.head.proofs.Head.Laws as Hd′
+use Rattle.head.proofs.Reply as R
+use Rattle.head.proofs.Reply.Laws as R′
+use Rattle.watches.proofs.LocalArray.{machine}
+use Rattle.book.specs.declared.lending.Judgement.{Judgement}
+use Rattle.book.proofs.lending.Judgement as J
+use Rattle.book.proofs.lending.Judgement.Laws as J′
+
+abbrev pub headed : Head → List Val
+headed h = LL.vals Hd.the-type Hd′.the-laws h
+
+abbrev pub machines : Reply → List Val
+machines r = LL.vals R.the-type R′.the-laws r
+
+-- a reply that a call hands back is one as it is spelled
+pub spelled : (r : Reply) (c : Val) → Is R.the-row r (c ∷ []) → Is R.the-row r (machines r)
+spelled r c has = subst (λ (us : List Val). Is R.the-row r us) (LL.tells R.the-type R′.the-laws r (c ∷ []) has) has
+
+-- so is that of a judgement
+pub replied : (j : Judgement) (c : Val) → Is J.the-row j (c ∷ []) → Is R.the-row (j .reply) (machines (j .reply))
+replied j c has = LL.owed J.the-type J′.the-laws j (c ∷ []) has .0
+
+abbrev pub machine-zeros : Val
+machine-zeros = machine (replicate 8 0)
+
+pub zeros : Is (Array u32 8) (replicate 8 0) (machine-zeros ∷ [])
+zeros =
+    let z : 0 < 4294967296 = lit< tt in
+    (replicate 8 (vint w32 0), ((refl, refl), ((refl, z), ((refl, z), ((refl, z), ((refl, z), ((refl, z), ((refl, z), ((refl, z), ((refl, z), tt))))))))))
