@@ -4,3 +4,4 @@ pub mod Fewer
 pub mod Machines
 pub mod Deciding
 pub mod Calling
+pub mod Replay
