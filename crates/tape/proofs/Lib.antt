@@ -1,3 +1,4 @@
 -- The laws of the crate.
 pub mod Agrees
 pub mod Streaming
+pub mod Changed
