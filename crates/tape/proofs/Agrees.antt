@@ -6,7 +6,7 @@ use native.Mathlib.Nat.{mul-le-mul-right}
 use mathlib.Core.Bool.{Bool, true, false, _||_, cond}
 use mathlib.Core.List.{List, [], _++_, map}
 use lib.Dec.{ltb}
-use lib.ListN.{length, drop, length-map}
+use lib.ListN.{length, drop, replicate, length-map, length-replicate}
 use lib.Seq.{take-append-seam}
 use borrow.Author.Tests.{ltb-false}
 use Rattle.lists.specs.Lists.{flat, laid}
@@ -28,6 +28,7 @@ use Rattle.model.proofs.Joined.{Faithful, Joined, referenceWith, some-capacity,
 use Rattle.model.proofs.Replay.{call-agrees, replay-ends}
 use Rattle.tape.specs.Print.{Request, Asked, finished, unread, misplaced, request, asked, textOf}
 use Rattle.tape.specs.Play.{Played, playAsked, playAt, printFrom, print, fedOf, referenceMake, lengthsOf, Player, begun, callOf, bytesAfter, bookMake}
+use Rattle.tape.specs.Ample.{Reaches, start, onward}
 
 -- ---- lengths
 
@@ -234,3 +235,24 @@ print-agrees tape l bytes = frames-agree (lengthsOf l) (length bytes) (suc (leng
 pub prefix-agrees : (frames : ℕ) (tape : List ℕ) (l : Lent) (bytes : List ℕ)
     → printFrom begun bookMake frames tape 0 (record { world = record { head = freshHead 0 0 0; lent = l }; bytes = bytes }) ≡ printFrom opened (referenceMake (lengthsOf l) (length bytes)) frames tape 0 unopened
 prefix-agrees frames tape l bytes = frames-agree (lengthsOf l) (length bytes) frames tape 0 unopened (atFirst l bytes) (at-first l bytes)
+
+-- ---- where a tape comes to
+
+-- tables and watch records of zeros with these lengths
+abbrev blank : Lengths → Lent
+blank lengths = record {
+  tables = record { columns = replicate (lengths .columns) 0; positions = replicate (lengths .positions) 0; lowerEnds = replicate (lengths .lowerEnds) 0 };
+  watches = replicate (lengths .watches) 0;
+}
+
+module _ (lengths : Lengths) (room : ℕ) where
+  -- for all lengths there is a book that begins alike
+  pub begins-alike : (k : Player) × Alike lengths room unopened k
+  begins-alike = (atFirst (blank lengths) (replicate room 0), simp (length-replicate {A = ℕ}) at (at-first (blank lengths) (replicate room 0)))
+
+  -- and wherever a tape comes to, the book has come to stand alike
+  pub reached-alike : (tape : List ℕ) {place : ℕ} {s : Reference} → Reaches opened (referenceMake lengths room) tape unopened place s → (k : Player) × Alike lengths room s k
+  reached-alike tape start = begins-alike
+  reached-alike tape (onward {place} {s} h o) =
+      let t = reached-alike tape h in
+      (playAt begun bookMake tape place (t .0) .state, frame-agrees lengths room tape place s (t .0) (t .1) .state)

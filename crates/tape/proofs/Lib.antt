@@ -2,3 +2,4 @@
 pub mod Agrees
 pub mod Streaming
 pub mod Changed
+pub mod NeverShort

@@ -13,15 +13,19 @@ use borrow.Author.Tests.{ltb-true, lt-ltb, le-ltb, le-leb, leb-true, eqb-true, e
 use Rattle.lists.proofs.Booleans.{either, agree, clash, and-left, and-right, or-cases}
 use Rattle.lists.proofs.Cells.{map-run}
 use Rattle.head.specs.declared.Refusal.the-variants.{UnknownKind, CutFrame}
+use Rattle.head.specs.Heads.{freshHead}
 use Rattle.octets.specs.Bytes.{number2, number4}
 use Rattle.frames.specs.declared.Message.the-variants.{End, Refused}
 use Rattle.frames.specs.declared.Read.{Read}
 use Rattle.frames.specs.Frames.{within, bodyLength, messageAt, columnsAt, stays, readAt}
 use Rattle.frames.proofs.Reading.{message-drop, columns-drop, within-bounds, quote-body, Kind, quotes, looks, watches, unwatches, leaves, joins, opens, kind-of, Found, beyond, at-end, unknown, cut, whole, found}
+use Rattle.model.specs.Reference.{unopened, opened}
+use Rattle.model.specs.Calls.{Lent}
 use Rattle.tape.specs.Print.{Request, Asked, finished, unread, misplaced, request, asked, Answered}
-use Rattle.tape.specs.Play.{Played, playAsked, playAt, printFrom, print}
+use Rattle.tape.specs.Play.{Played, playAsked, playAt, printFrom, print, referenceMake, lengthsOf, begun, bookMake}
 use Rattle.tape.specs.Steps.{ready}
 use Rattle.tape.specs.Streams.{linesFrom, Streams, plays, stops, drops, fills}
+use Rattle.tape.proofs.Agrees.{print-agrees}
 
 -- ---- what is read, however the tape goes on
 
@@ -287,3 +291,40 @@ module _ {S : Type 0} (begun : S → Bool) (make : Request → S → Answered ×
   -- a tape that is read in pieces prints what the whole tape prints
   pub printed-in-pieces : (tape : List ℕ) (s : S) {text : List ℕ} → Streams begun make [] 0 s tape text → text ≡ print begun make tape s
   printed-in-pieces tape s t = streams-lines t ∙ sym (print-lines tape s)
+
+  -- ---- and every tape can be printed so
+
+  frames-stream : (k : ℕ) (piece : List ℕ) (place : ℕ) (s : S) → 1 ≤ k → length piece < place + k → Streams begun make piece place s [] (printFrom begun make k piece place s)
+  unfolding printFrom
+  frames-stream zero piece place s a u = absurd (omega arith)
+  frames-stream (suc k) piece place s a u =
+      go (either (one .over))
+      (λ e.
+      let t = onward piece place s e in
+      let low = t .0 in
+      let high = t .1 in
+      frames-stream k piece (one .next) (one .state) (omega arith) (omega arith))
+    where
+      one : Played S
+      one = playAt begun make piece place s
+
+      rest : List ℕ
+      rest = printFrom begun make k piece (one .next) (one .state)
+
+      go : (one .over ≡ true) ⊎ (one .over ≡ false) → (one .over ≡ false → Streams begun make piece (one .next) (one .state) [] rest)
+          → Streams begun make piece place s [] (one .text ++ cond (one .over) [] rest)
+      go (inl e) more = rw (e, append-nil) (stops (inr refl) e)
+      go (inr e) more = rw e (plays (inr refl) e (more e))
+
+  -- whatever stands in the buffer, its lines can be printed
+  pub lines-stream : (piece rest : List ℕ) (place : ℕ) (s : S) → Streams begun make piece place s rest (linesFrom begun make (piece ++ rest) place s)
+  unfolding linesFrom
+  lines-stream piece rest place s =
+      let k = suc (length (piece ++ rest) - place) in
+      let t : Streams begun make piece place s (rest ++ []) (printFrom begun make k (piece ++ rest) place s) = fills rest (frames-stream k (piece ++ rest) place s (omega arith) (omega arith)) in
+      rw (append-nil rest) at t
+
+-- what the book prints of a tape that is read in pieces is the print by the reference model
+pub streamed-agrees : (tape : List ℕ) (l : Lent) (bytes : List ℕ) {text : List ℕ} → Streams begun bookMake [] 0 (record { world = record { head = freshHead 0 0 0; lent = l }; bytes = bytes }) tape text
+    → text ≡ print opened (referenceMake (lengthsOf l) (length bytes)) tape unopened
+streamed-agrees tape l bytes t = printed-in-pieces begun bookMake tape _ t ∙ print-agrees tape l bytes

@@ -3,3 +3,4 @@ pub mod Print
 pub mod Play
 pub mod Steps
 pub mod Streams
+pub mod Ample
