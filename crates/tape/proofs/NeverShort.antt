@@ -58,7 +58,10 @@ roomy lengths room d N directions a e =
 skyline-short : (s : Reference) (n : ℕ) → 1 ≤ n → length (skylineOf s n) ≤ n
 unfolding skylineOf skyline between windowStart
 skyline-short s n h =
-    omega (arith, length-filter (λ p. not (dominatedIn (over s) (windowStart (newest s) n) (newest s) p)) (between (windowStart (newest s) n) (newest s)), length-run (windowStart (newest s) n) (suc (newest s) - windowStart (newest s) n))
+    omega (arith, length-filter (λ p. not (dominatedIn (over s) from (newest s) p)) (between from (newest s)), length-run from (suc (newest s) - from))
+  where
+    from : ℕ
+    from = windowStart (newest s) n
 
 -- the list of an n in range fits into 1,024 cells
 list-short : (s : Reference) (n : ℕ) → opened s ≡ true → outside s n ≡ false → length (skylineOf s n) ≤ 1024

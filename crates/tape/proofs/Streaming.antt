@@ -110,6 +110,29 @@ module _ (piece rest : List ℕ) where
             columns-same (place + 1) kind h,
           )
 
+-- the body of a frame has at most 24 bytes
+body-most : (kind : ℕ) → Kind kind → bodyLength kind ≤ 24
+unfolding bodyLength
+body-most kind (quotes u v) = omega (arith, quote-body kind u v)
+body-most _ looks = omega arith
+body-most _ watches = omega arith
+body-most _ unwatches = omega arith
+body-most _ leaves = omega arith
+body-most _ joins = omega arith
+body-most _ opens = omega arith
+
+-- so a frame is ready where 25 bytes have come
+pub ready-soon : (piece : List ℕ) (place : ℕ) → place + 25 ≤ length piece → ready piece place ≡ true
+unfolding ready
+ready-soon piece place h = rw (lt-ltb place (length piece) (omega arith)) (go (either (eqb (bodyLength kind) 255)))
+  where
+    kind : ℕ
+    kind = getD piece place 0
+
+    go : (eqb (bodyLength kind) 255 ≡ true) ⊎ (eqb (bodyLength kind) 255 ≡ false) → eqb (bodyLength kind) 255 || leb (place + 1 + bodyLength kind) (length piece) ≡ true
+    go (inl e) = rw e
+    go (inr e) = rw (e, le-leb (place + 1 + bodyLength kind) (length piece) (omega (arith, body-most kind (kind-of kind e))))
+
 -- ---- what is read, whatever stood before
 
 less-shifted : (a x y : ℕ) → ltb (a + x) (a + y) ≡ ltb x y
@@ -247,7 +270,9 @@ module _ {S : Type 0} (begun : S → Bool) (make : Request → S → Answered ×
   print-lines tape s = let e : length tape - 0 ≡ length tape = omega arith in rw e
 
   -- the lines from a place on: those of the frame there, and then those behind it
-  pub lines-play : (tape : List ℕ) (place : ℕ) (s : S) → let one = playAt begun make tape place s in linesFrom begun make tape place s ≡ one .text ++ cond (one .over) [] (linesFrom begun make tape (one .next) (one .state))
+  pub lines-play : (tape : List ℕ) (place : ℕ) (s : S)
+      → let one = playAt begun make tape place s in
+      linesFrom begun make tape place s ≡ one .text ++ cond (one .over) [] (linesFrom begun make tape (one .next) (one .state))
   unfolding linesFrom printFrom
   lines-play tape place s =
       let one = playAt begun make tape place s in
@@ -325,6 +350,7 @@ module _ {S : Type 0} (begun : S → Bool) (make : Request → S → Answered ×
       rw (append-nil rest) at t
 
 -- what the book prints of a tape that is read in pieces is the print by the reference model
-pub streamed-agrees : (tape : List ℕ) (l : Lent) (bytes : List ℕ) {text : List ℕ} → Streams begun bookMake [] 0 (record { world = record { head = freshHead 0 0 0; lent = l }; bytes = bytes }) tape text
+pub streamed-agrees : (tape : List ℕ) (l : Lent) (bytes : List ℕ) {text : List ℕ}
+    → Streams begun bookMake [] 0 (record { world = record { head = freshHead 0 0 0; lent = l }; bytes = bytes }) tape text
     → text ≡ print opened (referenceMake (lengthsOf l) (length bytes)) tape unopened
 streamed-agrees tape l bytes t = printed-in-pieces begun bookMake tape _ t ∙ print-agrees tape l bytes
