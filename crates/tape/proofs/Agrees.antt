@@ -52,11 +52,12 @@ long-after l (Call.Look n out) s h = either-way (Long l) _ s s (λ _. h) h
 long-after l (Call.Watch n out) s h = either-way (Long l) _ (withWatched s _) s (λ _. h) h
 long-after l (Call.End n) s h = either-way (Long l) _ (withWatched s _) s (λ _. h) h
 
--- tables that are long enough keep their lengths when they are filled with the rows of a reference model
 module _ (s : Reference) (l kept : Lent) (f : Faithful s kept) (enough : shortLoan (l .tables) (l .watches) (s .dimensions) (s .capacity) ≡ false) where
+  -- the rows are at most N
   few : length (rowsOf s) ≤ s .capacity
   few = rows-few s (some-capacity s kept f)
 
+  -- tables that are long enough keep their lengths when they are filled with the rows of a reference model
   filled-lengths : lengthsOf (shown s l) ≡ lengthsOf l
   unfolding filled shortTables
   filled-lengths =
@@ -150,6 +151,7 @@ module _ (lengths : Lengths) (room : ℕ) (r : Request) (s : Reference) (k : Pla
   told-alike : referenceStep (fed l c) s ≡ referenceStep (fedOf lengths room r) s
   told-alike = ap (λ (f : Fed). referenceStep f s) (fed-alike l r (k .bytes) ∙ rw (v .lent, v .bytes))
 
+  -- the call is seen alike, and leaves the models joined
   agree : (bookStep c (k .world) .0 ≡ expectedStep c (referenceWith s l) .0) × Joined (expectedStep c (referenceWith s l) .1) (bookStep c (k .world) .1)
   agree = call-agrees c (referenceWith s l) (k .world) (v .joined)
 
@@ -189,6 +191,7 @@ pub record Matches (lengths : Lengths) (room : ℕ) (one : Played Player) (other
   pub state : Alike lengths room (other .state) (one .state)
 
 module _ (lengths : Lengths) (room : ℕ) where
+  -- what is asked at a place is played alike
   asked-matches : (a : Asked) (next : ℕ) (s : Reference) (k : Player) → Alike lengths room s k
       → Matches lengths room (playAsked begun bookMake a next k) (playAsked opened (referenceMake lengths room) a next s)
   unfolding playAsked
@@ -220,6 +223,7 @@ module _ (lengths : Lengths) (room : ℕ) where
 abbrev atFirst : Lent → List ℕ → Player
 atFirst l bytes = record { world = record { head = freshHead 0 0 0; lent = l }; bytes = bytes }
 
+-- it stands alike with the reference model before any opening
 at-first : (l : Lent) (bytes : List ℕ) → Alike (lengthsOf l) (length bytes) unopened (atFirst l bytes)
 unfolding runs
 at-first l bytes = record { joined = replay-ends [] l; lent = refl; bytes = refl }

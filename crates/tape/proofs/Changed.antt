@@ -46,6 +46,7 @@ module _ (s : Reference) (ok : Bounded s) where
 -- ---- wherever a tape comes to
 
 module _ (lengths : Lengths) (room : ℕ) (tape : List ℕ) (place : ℕ) (s : Reference) (h : Reaches opened (referenceMake lengths room) tape unopened place s) where
+  -- the reference model is bounded there
   reached-bounded : Bounded s
   reached-bounded = let t = reached-alike lengths room tape h in bounded s (t .0 .world .lent) (t .1 .joined .since)
 

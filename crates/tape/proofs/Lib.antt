@@ -3,3 +3,4 @@ pub mod Agrees
 pub mod Streaming
 pub mod Changed
 pub mod NeverShort
+pub mod Worked

@@ -151,10 +151,12 @@ unnamed (c ∷ cs) k n e = go (c .0) e (unnamed cs k (none-right (eqb (number (c
 abbrev pub Unshort : Answer → Type 0
 Unshort answer = (answer ≡ Refused ShortLoan → ⊥) × (answer ≡ Refused ShortOutput → ⊥)
 
+-- nor is an answer by conditions of which none gives 11 or 13
 plainly : (cs : List (Bool × Refusal)) {answer : Answer} → answer ≡ first cs → named ShortLoan cs ≡ false → named ShortOutput cs ≡ false → Unshort answer
 plainly cs e u v = (λ f. unnamed cs ShortLoan u (sym e ∙ f), λ f. unnamed cs ShortOutput v (sym e ∙ f))
 
 module _ (lengths : Lengths) (room : ℕ) (a : Ample lengths room) where
+  -- no call is answered with 11 or 13
   unshort : (r : Request) (s : Reference) (k : Player) → Alike lengths room s k → Unshort (referenceMake lengths room r s .0 .answer)
   unfolding referenceMake fedOf referenceStep tells watchfulAnswer any
   unshort (Request.Open d N directions) s k v = plainly _ (open-plain lengths room a s d N directions) refl refl
@@ -184,6 +186,7 @@ module _ (lengths lengths' : Lengths) (room room' : ℕ) (a : Ample lengths room
   made-same (Request.Watch n) s k v = rw (watch-plain lengths room a s n, watch-plain lengths' room' a' s n)
   made-same (Request.End n) s k v = refl
 
+  -- what is asked at a place is played alike
   asked-same : (q : Asked) (next : ℕ) (s : Reference) (k : Player) → Alike lengths room s k
       → playAsked opened (referenceMake lengths room) q next s ≡ playAsked opened (referenceMake lengths' room') q next s
   unfolding playAsked
@@ -192,6 +195,7 @@ module _ (lengths lengths' : Lengths) (room room' : ℕ) (a : Ample lengths room
   asked-same misplaced next s k v = refl
   asked-same (request r) next s k v = rw (made-same r s k v)
 
+  -- and so is any number of frames
   frames-same : (frames : ℕ) (tape : List ℕ) (place : ℕ) (s : Reference) (k : Player) → Alike lengths room s k
       → printFrom opened (referenceMake lengths room) frames tape place s ≡ printFrom opened (referenceMake lengths' room') frames tape place s
   unfolding printFrom playAt

@@ -30,6 +30,7 @@ use Rattle.tape.proofs.Agrees.{print-agrees}
 -- ---- what is read, however the tape goes on
 
 module _ (piece rest : List ℕ) where
+  -- a byte of the piece, and the numbers that stand in it
   cell : (i : ℕ) → i < length piece → getD (piece ++ rest) i 0 ≡ getD piece i 0
   cell i h = List·getD-append piece rest 0 i h
 
@@ -135,6 +136,7 @@ ready-soon piece place h = rw (lt-ltb place (length piece) (omega arith)) (go (e
 
 -- ---- what is read, whatever stood before
 
+-- numbers compare as before when the same is added to both
 less-shifted : (a x y : ℕ) → ltb (a + x) (a + y) ≡ ltb x y
 less-shifted a x y =
     agree (ltb (a + x) (a + y)) (ltb x y) (λ t. lt-ltb x y (omega (arith, ltb-true (a + x) (a + y) t))) (λ t. lt-ltb (a + x) (a + y) (omega (arith, ltb-true x y t)))
@@ -203,6 +205,7 @@ module _ {S : Type 0} (begun : S → Bool) (make : Request → S → Answered ×
   unfolding playAt
   ready-same piece rest place s e = rw (read-same piece rest place e)
 
+  -- what is asked there is played the same
   asked-behind : (n : ℕ) (a : Asked) (next : ℕ) (s : S) → playAsked begun make a (n + next) s ≡ further n (playAsked begun make a next s)
   unfolding playAsked
   asked-behind n finished next s = refl
@@ -284,6 +287,7 @@ module _ {S : Type 0} (begun : S → Bool) (make : Request → S → Answered ×
       let high = t .1 in
       enough (length tape - place) (suc (length tape - one .next)) tape (one .next) (one .state) (omega arith) (omega arith) (omega arith) (omega arith)))
 
+  -- frames behind other bytes print the same
   frames-behind : (k : ℕ) (before tape : List ℕ) (place : ℕ) (s : S) → printFrom begun make k (before ++ tape) (length before + place) s ≡ printFrom begun make k tape place s
   unfolding printFrom
   frames-behind zero before tape place s = refl
@@ -319,6 +323,7 @@ module _ {S : Type 0} (begun : S → Bool) (make : Request → S → Answered ×
 
   -- ---- and every tape can be printed so
 
+  -- once nothing more comes, the frames are played to the end
   frames-stream : (k : ℕ) (piece : List ℕ) (place : ℕ) (s : S) → 1 ≤ k → length piece < place + k → Streams begun make piece place s [] (printFrom begun make k piece place s)
   unfolding printFrom
   frames-stream zero piece place s a u = absurd (omega arith)
