@@ -24,7 +24,7 @@ use Rattle.head.proofs.Answers.{accepted-passed}
 use Rattle.frames.specs.declared.Message.{Message}
 use Rattle.frames.specs.declared.Message.the-variants.{Join}
 use Rattle.model.specs.Changes.{allChanges, frames}
-use Rattle.model.specs.Reference.{Reference, newest, over, skylineOf, withQuote, withWatched, opening, tells, referenceStep}
+use Rattle.model.specs.Reference.{Reference, newest, over, skylineOf, outside, withQuote, withWatched, opening, tells, referenceStep}
 use Rattle.model.specs.Calls.{Call, Open, Quote, Look, Watch, End, Lent, Seen, fed, outputOf, expectedStep}
 use Rattle.model.specs.Watcher.{Held, Nothing, Holding, messagesFrom, heedsAll, reads, watcherStep, heldBy}
 use Rattle.model.proofs.Joined.{in-range}
@@ -77,6 +77,28 @@ skyline-rises s n hi h =
   where
     start : ℕ
     start = windowStart (newest s) n
+
+module _ (s : Reference) (ok : Bounded s) where
+  -- every skyline rises
+  before-rises : (n : ℕ) → rising 1 lastPosition (skylineOf s n) ≡ true
+  before-rises n = skyline-rises s n lastPosition (ok .short)
+
+  -- the joins of a watch have frames
+  pub sent-watch : (n : ℕ) → outside s n ≡ false → Sent (map (Join n) (skylineOf s n))
+  sent-watch n e =
+      let r = in-range s n e in
+      let small : n < 65536 = omega (arith, ok .small) in
+      sent-joins 1 lastPosition (omega arith) n (skylineOf s n) small (before-rises n)
+
+  module _ (x : List ℕ) (room : newest s < lastPosition) where
+    -- every skyline after a quote rises
+    after-rises : (n : ℕ) → rising 1 lastPosition (skylineOf (withQuote s x) n) ≡ true
+    unfolding withQuote
+    after-rises n = skyline-rises (withQuote s x) n lastPosition (omega (arith, length-append (s .quotes) (x ∷ [])))
+
+    -- the changes of a quote have frames
+    pub sent-quote : Sent (allChanges (s .watched) (skylineOf s) (skylineOf (withQuote s x)))
+    sent-quote = sent-all 1 lastPosition (omega arith) (skylineOf s) (skylineOf (withQuote s x)) before-rises after-rises 1 (s .capacity) (omega (arith, ok .small)) (s .watched) (ok .risen)
 
 module _ (n : ℕ) (s : Reference) (l : Lent) (ok : Bounded s) where
   -- the watcher of n after a call of the reference model
@@ -146,7 +168,7 @@ module _ (n : ℕ) (s : Reference) (l : Lent) (ok : Bounded s) where
       where
         pick : (eqb m n ≡ true) ⊎ (eqb m n ≡ false) → heldAfter n joins (cond (eqb m n) (Holding []) (heldBy n s)) ≡ heldBy n watching
         pick (inl t) =
-            rw (contains-insert, eq-eqb n m (sym (eqb-true m n t)), t, still, eqb-true m n t) (ap Holding (first-heeded 1 lastPosition n (skylineOf s n) (skyline-rises s n lastPosition (ok .short))))
+            rw (contains-insert, eq-eqb n m (sym (eqb-true m n t)), t, still, eqb-true m n t) (ap Holding (first-heeded 1 lastPosition n (skylineOf s n) (before-rises s ok n)))
         pick (inr t) = rw t (held-on n s watching joins (others-stand t) (λ u. other-joins n m t (skylineOf s m) (skylineOf s n) ∙ sym still))
 
     -- the joins of an accepted watch are read
@@ -156,9 +178,8 @@ module _ (n : ℕ) (s : Reference) (l : Lent) (ok : Bounded s) where
       where
         go : (a : Answer) → answered (Watch m out) ≡ a → Follows (Watch m out)
         go Accepted e =
-            let r = in-range s m (accepted-passed _ _ _ (accepted-passed _ _ _ e .1) .0) in
-            let small : m < 65536 = omega (arith, ok .small) in
-            rw e (reads-frames n joins (sent-joins 1 lastPosition (omega arith) m (skylineOf s m) small (skyline-rises s m lastPosition (ok .short))) _ out refl refl _ ∙ begun)
+            let inside = accepted-passed _ _ _ (accepted-passed _ _ _ e .1) .0 in
+            rw e (reads-frames n joins (sent-watch s ok m inside) _ out refl refl _ ∙ begun)
         go (Refused k) e = rw e (reads-nothing n _ refl (heldBy n s))
 
   -- ---- quote
@@ -172,21 +193,10 @@ module _ (n : ℕ) (s : Reference) (l : Lent) (ok : Bounded s) where
     messages = allChanges (s .watched) (skylineOf s) (skylineOf next)
 
     module _ (room : newest s < lastPosition) where
-      -- the skylines before and after rise, and their changes have frames
-      before-rises : (m : ℕ) → rising 1 lastPosition (skylineOf s m) ≡ true
-      before-rises m = skyline-rises s m lastPosition (ok .short)
-
-      after-rises : (m : ℕ) → rising 1 lastPosition (skylineOf next m) ≡ true
-      unfolding withQuote
-      after-rises m = skyline-rises next m lastPosition (omega (arith, length-append (s .quotes) (x ∷ [])))
-
-      fits : Sent messages
-      fits = sent-all 1 lastPosition (omega arith) (skylineOf s) (skylineOf next) before-rises after-rises 1 (s .capacity) (omega (arith, ok .small)) (s .watched) (ok .risen)
-
       -- they lead from what is held before to what is to be held after
       moved : heldAfter n messages (heldBy n s) ≡ heldBy n next
       unfolding withQuote
-      moved = held-on n s next messages refl (λ t. all-heeded n (skylineOf s) (skylineOf next) 1 lastPosition 1 (s .capacity) (s .watched) (before-rises n) (after-rises n) (ok .risen) t)
+      moved = held-on n s next messages refl (λ t. all-heeded n (skylineOf s) (skylineOf next) 1 lastPosition 1 (s .capacity) (s .watched) (before-rises s ok n) (after-rises s ok x room n) (ok .risen) t)
 
     -- the changes of an accepted quote are read
     quotes : Follows (Quote x out)
@@ -196,7 +206,7 @@ module _ (n : ℕ) (s : Reference) (l : Lent) (ok : Bounded s) where
         go : (a : Answer) → answered (Quote x out) ≡ a → Follows (Quote x out)
         go Accepted e =
             let room = leb-false lastPosition (newest s) (accepted-passed _ _ _ (accepted-passed _ _ _ (accepted-passed _ _ _ e .1) .1) .0) in
-            rw e (reads-frames n messages (fits room) _ out refl refl (heldBy n s) ∙ moved room)
+            rw e (reads-frames n messages (sent-quote s ok x room) _ out refl refl (heldBy n s) ∙ moved room)
         go (Refused k) e = rw e (reads-nothing n _ refl (heldBy n s))
 
   -- after each call the watcher holds what it is to hold

@@ -15,7 +15,7 @@ use Rattle.model.proofs.Replay.{call-agrees, replay-ends}
 use Rattle.model.proofs.Following.{Bounded, follows}
 
 -- the reference model is bounded wherever the two models are joined
-bounded : (s : Reference) (l : Lent) → (s ≡ unopened) ⊎ Faithful s l → Bounded s
+pub bounded : (s : Reference) (l : Lent) → (s ≡ unopened) ⊎ Faithful s l → Bounded s
 unfolding opened rising
 bounded s l (inl e) = rw e (record { short = omega arith; small = omega arith; risen = refl })
 bounded s l (inr f) =

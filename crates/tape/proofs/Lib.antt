@@ -5,3 +5,8 @@ pub mod Behind
 pub mod Turning
 pub mod Plays
 pub mod Waits
+pub mod Agrees
+pub mod Streaming
+pub mod Changed
+pub mod NeverShort
+pub mod Worked

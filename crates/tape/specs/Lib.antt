@@ -3,3 +3,5 @@ pub mod Print
 pub mod Play
 pub mod Steps
 pub mod Turns
+pub mod Streams
+pub mod Ample

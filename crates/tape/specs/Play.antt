@@ -8,7 +8,7 @@ use Rattle.head.specs.declared.Refusal.the-variants.{OutOfPlace}
 use Rattle.head.specs.Heads.{settingsHold}
 use Rattle.frames.specs.Frames.{readAt}
 use Rattle.model.specs.Reference.{Reference, Lengths, Fed, Told, opened, referenceStep}
-use Rattle.model.specs.Calls.{Call, World, bookStep}
+use Rattle.model.specs.Calls.{Call, Lent, World, bookStep}
 use Rattle.tape.specs.Print.{Request, Asked, finished, unread, misplaced, request, asked, Answered, refusalLine, textOf}
 
 -- after one frame: its lines, who makes the calls, the place behind it, and whether the tape is over
@@ -52,6 +52,15 @@ fedOf lengths room (Request.Quote x) = Fed.Quote x room
 fedOf lengths room (Request.Look n) = Fed.Look n 1024
 fedOf lengths room (Request.Watch n) = Fed.Watch n room
 fedOf lengths room (Request.End n) = Fed.End n
+
+-- the lengths of what is lent
+abbrev pub lengthsOf : Lent → Lengths
+lengthsOf l = record {
+  columns = length (l .tables .columns);
+  positions = length (l .tables .positions);
+  lowerEnds = length (l .tables .lowerEnds);
+  watches = length (l .watches);
+}
 
 -- a call made by the reference model
 unfoldable pub referenceMake : Lengths → ℕ → Request → Reference → Answered × Reference
