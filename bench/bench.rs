@@ -170,13 +170,13 @@ fn ratio(value: f64) -> String {
     }
 }
 
-/// What a command prints on its first line, or nothing.
-fn first_line(command: &str, argument: &str) -> String {
-    let output = Command::new(command).arg(argument).output().map(|output| output.stdout).unwrap_or_default();
-    String::from_utf8_lossy(&output).lines().next().unwrap_or_default().to_string()
+/// The date, as the command of that name prints it.
+fn date() -> String {
+    let output = Command::new("date").arg("+%F").output().map(|output| output.stdout).unwrap_or_default();
+    String::from_utf8_lossy(&output).trim().to_string()
 }
 
-/// The processor's name and the number of its cores.
+/// The processor's name, the number of its cores and the load.
 fn machine() -> String {
     let cpu = std::fs::read_to_string("/proc/cpuinfo").unwrap_or_default();
     let name = cpu.lines().find_map(|line| line.strip_prefix("model name")).unwrap_or(": unknown processor");
@@ -185,38 +185,62 @@ fn machine() -> String {
     format!("{}, {} cores, load {load}", name.trim_start_matches([' ', '\t', ':']), cpu.matches("model name").count())
 }
 
-/// One row of the table; the slow contenders are measured where the memory is the longest.
-fn row(ours: &str, tape: Tape, times: &[f64]) -> String {
-    let slow = tape.memory == MEMORIES[0];
-    let plain = if slow { Some(plain_time(ours, tape)) } else { None };
-    let emoa = if slow { emoa_time(ours, tape) } else { None };
-    let counted = instructions_a_quote(ours, tape);
-    let yardstick = beside(instructions_a_quote(YARDSTICK, tape), counted.unwrap_or(f64::NAN));
-    format!(
-        "| {} | {} | {} | {} | {} | {} | {} | {} |",
-        tape.shape,
-        number(tape.memory as f64),
-        number(times[0]),
-        beside(Some(times[1]), times[0]),
-        beside(plain, times[0]),
-        beside(emoa, times[0]),
-        counted.map_or("-".to_string(), number),
-        yardstick
-    )
+/// One row of the table: nanoseconds and instructions a quote on one tape.
+struct Row {
+    tape: Tape,
+    ours: f64,
+    yardstick: f64,
+    plain: Option<f64>,
+    emoa: Option<f64>,
+    our_instructions: Option<f64>,
+    yardstick_instructions: Option<f64>,
 }
 
-/// What the numbers of the table are.
-fn notes(runs: usize) {
+impl Row {
+    /// Measures what is missing beside the times; the slow contenders only where the memory is the longest.
+    fn new(ours: &str, tape: Tape, times: &[f64]) -> Row {
+        let longest = tape.memory == MEMORIES[0];
+        Row {
+            tape,
+            ours: times[0],
+            yardstick: times[1],
+            plain: longest.then(|| plain_time(ours, tape)),
+            emoa: longest.then(|| emoa_time(ours, tape)).flatten(),
+            our_instructions: instructions_a_quote(ours, tape),
+            yardstick_instructions: instructions_a_quote(YARDSTICK, tape),
+        }
+    }
+
+    /// The row in print.
+    fn print(&self) {
+        println!(
+            "| {} | {} | {} | {} | {} | {} | {} | {} |",
+            self.tape.shape,
+            number(self.tape.memory as f64),
+            number(self.ours),
+            beside(Some(self.yardstick), self.ours),
+            beside(self.plain, self.ours),
+            beside(self.emoa, self.ours),
+            self.our_instructions.map_or("-".to_string(), number),
+            beside(self.yardstick_instructions, self.our_instructions.unwrap_or(f64::NAN))
+        );
+    }
+}
+
+/// What the numbers of the table are, and what was skipped.
+fn notes(rows: &[Row], runs: usize) {
     println!();
     println!("ns: nanoseconds a quote; x: times ours; instr: instructions a quote by callgrind.");
     println!("Ours and the yardstick: median of {runs} runs over {QUOTES} quotes and eight watches, taken in turn; their prints are equal.");
     println!("Plain model: one run over the first {SHORT} quotes, where most windows are not full yet; its print is equal to ours.");
-    println!("emoa: one run over {EMOA} quotes after {FILL}; its lists are as long as ours.");
-    println!("Instructions: {COUNTED} quotes after {FILL}.");
-    if first_line("Rscript", "--version").is_empty() || first_line("Rscript", "-elibrary(emoa);cat('emoa')") != "emoa" {
+    if rows[0].emoa.is_some() {
+        println!("emoa: one run over {EMOA} quotes after {FILL}; its lists are as long as ours.");
+    } else {
         println!("emoa is skipped: Rscript or its package emoa (Debian's r-cran-emoa) is not installed.");
     }
-    if first_line("valgrind", "--version").is_empty() {
+    if rows[0].our_instructions.is_some() {
+        println!("Instructions: {COUNTED} quotes after {FILL}.");
+    } else {
         println!("Instructions are skipped: valgrind is not installed.");
     }
 }
@@ -232,13 +256,16 @@ fn main() {
     for tape in &tapes {
         assert!(print_of(&[&ours], *tape) == print_of(&[YARDSTICK], *tape), "ours and the yardstick differ on {}", tape.path());
     }
-    println!("{}, {}", first_line("date", "+%F"), machine());
+    println!("{}, {}", date(), machine());
     println!();
     println!("| tape | N | ours ns | yardstick ns | x | plain ns | x | emoa ns | x | ours instr | yardstick instr | x |");
     println!("|---|---|---|---|---|---|---|---|---|---|---|---|");
     let times = times(&[&ours, YARDSTICK], &tapes, runs);
+    let mut rows = Vec::new();
     for (tape, times) in tapes.iter().zip(&times) {
-        println!("{}", row(&ours, *tape, times));
+        let row = Row::new(&ours, *tape, times);
+        row.print();
+        rows.push(row);
     }
-    notes(runs);
+    notes(&rows, runs);
 }
