@@ -1,0 +1,100 @@
+//! Makes a tape to measure with: an opening, eight watches, then quotes of one shape.
+//!
+//! usage: make_tape uniform|frontier|drift|duplicates QUOTES [MEMORY [SEED]] > TAPE
+
+#[path = "../tests/frames.rs"]
+mod frames;
+#[path = "../tests/random.rs"]
+mod random;
+
+use random::Random;
+use std::io::Write;
+
+/// The watched n for a memory of 1,024; for a shorter one they shrink with it.
+const WATCHED: [u32; 8] = [1_024, 900, 700, 500, 300, 100, 50, 10];
+/// So many quotes after each other drift up, then as many down.
+const DRIFT: u32 = 2_000;
+
+/// A tape's shape: how its quotes lie to each other.
+#[derive(Clone, Copy)]
+enum Shape {
+    /// Three columns of random values.
+    Uniform,
+    /// Six columns of one sum, so that no quote beats another and every row is live.
+    Frontier,
+    /// Two columns that follow a trend, up and down in turn.
+    Drift,
+    /// Three columns of four values each.
+    Duplicates,
+}
+
+impl Shape {
+    /// The shape with a name.
+    fn named(name: &str) -> Shape {
+        match name {
+            "uniform" => Shape::Uniform,
+            "frontier" => Shape::Frontier,
+            "drift" => Shape::Drift,
+            "duplicates" => Shape::Duplicates,
+            _ => panic!("no shape has the name {name}"),
+        }
+    }
+
+    /// Its column count and directions.
+    fn settings(self) -> (u8, u8) {
+        match self {
+            Shape::Uniform => (3, 0b101),
+            Shape::Frontier => (6, 0),
+            Shape::Drift => (2, 0b10),
+            Shape::Duplicates => (3, 0b010),
+        }
+    }
+
+    /// The columns of the quote at a step.
+    fn quote(self, r: &mut Random, step: u32) -> Vec<u32> {
+        match self {
+            Shape::Uniform => (0..3).map(|_| r.next() as u32).collect(),
+            Shape::Frontier => frontier(r),
+            Shape::Drift => drift(r, step),
+            Shape::Duplicates => (0..3).map(|_| r.below(4) as u32).collect(),
+        }
+    }
+}
+
+/// Five random columns and one that makes up a fixed sum.
+fn frontier(r: &mut Random) -> Vec<u32> {
+    let mut columns: Vec<u32> = (0..5).map(|_| r.below(1 << 29) as u32).collect();
+    columns.push(5 * (1 << 29) - columns.iter().sum::<u32>());
+    columns
+}
+
+/// A low column and a high one that get worse together for a while, then better, with noise.
+fn drift(r: &mut Random, step: u32) -> Vec<u32> {
+    let phase = step % (2 * DRIFT);
+    let level = 100 * phase.min(2 * DRIFT - phase);
+    vec![1_000_000 + level + r.below(5_000) as u32, 1_000_000 - level + r.below(5_000) as u32]
+}
+
+/// The whole tape.
+fn tape_of(shape: Shape, quotes: u32, memory: u16, seed: u64) -> Vec<u8> {
+    let mut r = Random::new(seed, 0);
+    let mut tape = Vec::new();
+    let (d, directions) = shape.settings();
+    frames::open(&mut tape, d, memory, directions);
+    for n in WATCHED {
+        frames::watch(&mut tape, (n * u32::from(memory) / WATCHED[0]).max(1) as u16);
+    }
+    for step in 0..quotes {
+        frames::quote(&mut tape, &shape.quote(&mut r, step));
+    }
+    tape
+}
+
+fn main() {
+    let mut arguments = std::env::args().skip(1);
+    let shape = Shape::named(&arguments.next().expect("usage: make_tape SHAPE QUOTES [MEMORY [SEED]]"));
+    let quotes = arguments.next().expect("the number of quotes").parse().expect("a number of quotes");
+    let memory = arguments.next().map_or(1_024, |s| s.parse().expect("a memory"));
+    let seed = arguments.next().map_or(1, |s| s.parse().expect("a seed"));
+    std::io::stdout().write_all(&tape_of(shape, quotes, memory, seed)).expect("the tape is written");
+}

@@ -1,0 +1,252 @@
+//! A plain model of a tape and its print: it keeps every quote and works every list out afresh.
+
+use std::fmt::Write as _;
+use std::ops::RangeInclusive;
+
+const LAST_POSITION: usize = 16_777_215;
+const LARGEST_MEMORY: u16 = 1_024;
+const RECORDS: usize = 8;
+
+/// A wrong reading of the rules that can be planted in the model, to show that a comparison with it fails.
+#[derive(Clone, Copy, PartialEq)]
+pub enum Plant {
+    /// No wrong reading.
+    Nothing,
+    /// Equal quotes knock each other out.
+    Equal,
+    /// Lists follow lower ends, and the oldest row that beats a row is its lower end.
+    Oldest,
+    /// n is counted back from the newest position without the larger-of-1 rule.
+    Window,
+    /// Only the list of N is kept, and the other lists are taken from it.
+    Kept,
+}
+
+/// What the model holds: the settings, every quote accepted since they were taken, and the watched n, rising.
+struct Model {
+    plant: Plant,
+    opened: bool,
+    d: usize,
+    memory: usize,
+    directions: u8,
+    quotes: Vec<[u32; 6]>,
+    watched: Vec<u16>,
+}
+
+impl Model {
+    /// A model before any opening.
+    fn new(plant: Plant) -> Model {
+        Model { plant, opened: false, d: 0, memory: 0, directions: 0, quotes: Vec::new(), watched: Vec::new() }
+    }
+
+    /// Whether value x is better than value y in column i.
+    fn better(&self, i: usize, x: u32, y: u32) -> bool {
+        if self.directions >> i & 1 == 1 {
+            x > y
+        } else {
+            x < y
+        }
+    }
+
+    /// Whether the quote at position p beats the one at position q: no worse in every column and better in at least one.
+    fn beats(&self, p: usize, q: usize) -> bool {
+        let (one, other) = (&self.quotes[p - 1], &self.quotes[q - 1]);
+        let no_worse = (0..self.d).all(|i| !self.better(i, other[i], one[i]));
+        let better = (0..self.d).any(|i| self.better(i, one[i], other[i]));
+        no_worse && (better || self.plant == Plant::Equal && p != q)
+    }
+
+    /// The window of n: the larger of 1 and M - n + 1, up to M.
+    fn window(&self, n: usize) -> RangeInclusive<usize> {
+        let newest = self.quotes.len();
+        let start = match self.plant {
+            Plant::Window => (newest + 1).wrapping_sub(n),
+            _ => (newest + 1).saturating_sub(n),
+        };
+        start.max(1)..=newest
+    }
+
+    /// The positions of the window of n that no quote of that window beats, rising.
+    fn unbeaten(&self, n: usize) -> Vec<usize> {
+        let beaten = |p: usize| self.window(n).any(|q| self.beats(q, p));
+        self.window(n).filter(|&p| !beaten(p)).collect()
+    }
+
+    /// The list of n, by the definition or as a planted bug has it.
+    fn list(&self, n: usize) -> Vec<usize> {
+        match self.plant {
+            Plant::Oldest => self.listed_by_oldest(n),
+            Plant::Kept => self.unbeaten(self.memory).into_iter().filter(|p| self.window(n).contains(p)).collect(),
+            _ => self.unbeaten(n),
+        }
+    }
+
+    /// A planted bug: the rows whose oldest beating row is older than the window of n.
+    fn listed_by_oldest(&self, n: usize) -> Vec<usize> {
+        let start = *self.window(n).start();
+        let rows = self.rows();
+        let lower_end = |p: usize| rows.iter().copied().find(|&q| q < p && self.beats(q, p)).unwrap_or(0);
+        rows.iter().copied().filter(|&p| lower_end(p) < start && start <= p).collect()
+    }
+
+    /// The positions of the window of N that no younger quote beats, rising.
+    fn rows(&self) -> Vec<usize> {
+        if self.plant == Plant::Kept {
+            return self.unbeaten(self.memory);
+        }
+        let newest = self.quotes.len();
+        let beaten = |p: usize| (p + 1..=newest).any(|q| self.beats(q, p));
+        self.window(self.memory).filter(|&p| !beaten(p)).collect()
+    }
+
+    /// An opening.
+    fn open(&mut self, d: u8, memory: u16, directions: u8, print: &mut String) {
+        if self.opened {
+            return refuse(7, print);
+        }
+        let fits = (1..=6).contains(&d) && (1..=LARGEST_MEMORY).contains(&memory) && u32::from(directions) < 1 << d;
+        if !fits {
+            return refuse(3, print);
+        }
+        self.opened = true;
+        self.d = d.into();
+        self.memory = memory.into();
+        self.directions = directions;
+        writeln!(print, "O {d} {memory} {directions}").unwrap();
+    }
+
+    /// A quote of some columns, with the changes that it brings.
+    fn quote(&mut self, columns: &[u32], print: &mut String) {
+        if !self.opened {
+            return refuse(7, print);
+        }
+        if columns.len() != self.d {
+            return refuse(4, print);
+        }
+        if self.quotes.len() >= LAST_POSITION {
+            return refuse(6, print);
+        }
+        let before: Vec<_> = self.watched.iter().map(|&n| self.list(n.into())).collect();
+        let mut quote = [0; 6];
+        quote[..self.d].copy_from_slice(columns);
+        self.quotes.push(quote);
+        writeln!(print, "Q {} {}", self.quotes.len(), self.rows().len()).unwrap();
+        for (&n, before) in self.watched.iter().zip(&before) {
+            changes(n, before, &self.list(n.into()), print);
+        }
+    }
+
+    /// The refusal of a call on n that holds whatever the call is.
+    fn refusal(&self, n: u16) -> Option<u8> {
+        match n {
+            _ if !self.opened => Some(7),
+            0 => Some(5),
+            n if usize::from(n) > self.memory => Some(5),
+            _ => None,
+        }
+    }
+
+    /// A look at the list of n.
+    fn look(&self, n: u16, print: &mut String) {
+        if let Some(number) = self.refusal(n) {
+            return refuse(number, print);
+        }
+        write!(print, "L {n}").unwrap();
+        for p in self.list(n.into()) {
+            write!(print, " {p}").unwrap();
+        }
+        print.push('\n');
+    }
+
+    /// A watch of n set, with its joins.
+    fn watch(&mut self, n: u16, print: &mut String) {
+        if let Some(number) = self.refusal(n) {
+            return refuse(number, print);
+        }
+        if self.watched.contains(&n) {
+            return refuse(8, print);
+        }
+        if self.watched.len() == RECORDS {
+            return refuse(9, print);
+        }
+        writeln!(print, "W {n}").unwrap();
+        changes(n, &[], &self.list(n.into()), print);
+        self.watched.push(n);
+        self.watched.sort_unstable();
+    }
+
+    /// The watch of n ended.
+    fn end(&mut self, n: u16, print: &mut String) {
+        if let Some(number) = self.refusal(n) {
+            return refuse(number, print);
+        }
+        if !self.watched.contains(&n) {
+            return refuse(10, print);
+        }
+        self.watched.retain(|&w| w != n);
+        writeln!(print, "U {n}").unwrap();
+    }
+
+    /// One whole frame.
+    fn play(&mut self, kind: u8, body: &[u8], print: &mut String) {
+        let n = || u16::from_le_bytes([body[0], body[1]]);
+        match kind {
+            1..=6 => {
+                let cells = body.chunks(4).map(|c| u32::from_le_bytes([c[0], c[1], c[2], c[3]]));
+                self.quote(&cells.collect::<Vec<_>>(), print);
+            }
+            16 => self.look(n(), print),
+            17 => self.watch(n(), print),
+            18 => self.end(n(), print),
+            48 => self.open(body[0], u16::from_le_bytes([body[1], body[2]]), body[3], print),
+            _ => refuse(7, print),
+        }
+    }
+}
+
+/// The changes from one list of n to another: the leaves, then the joins.
+fn changes(n: u16, before: &[usize], after: &[usize], print: &mut String) {
+    for p in before.iter().filter(|&p| after.binary_search(p).is_err()) {
+        writeln!(print, "- {n} {p}").unwrap();
+    }
+    for p in after.iter().filter(|&p| before.binary_search(p).is_err()) {
+        writeln!(print, "+ {n} {p}").unwrap();
+    }
+}
+
+/// The line of a refusal.
+fn refuse(number: u8, print: &mut String) {
+    writeln!(print, "R {number}").unwrap();
+}
+
+/// How many bytes the body of a kind has; none for an unknown kind.
+fn body_length(kind: u8) -> Option<usize> {
+    match kind {
+        1..=6 => Some(4 * usize::from(kind)),
+        16..=18 => Some(2),
+        32 | 33 => Some(6),
+        48 => Some(4),
+        _ => None,
+    }
+}
+
+/// The print of a tape: its frames played in turn, up to its end or the first unknown or cut frame.
+pub fn print_of(tape: &[u8], plant: Plant) -> String {
+    let mut model = Model::new(plant);
+    let mut print = String::new();
+    let mut rest = tape;
+    while let Some((&kind, behind)) = rest.split_first() {
+        let Some(length) = body_length(kind) else {
+            refuse(1, &mut print);
+            return print;
+        };
+        if behind.len() < length {
+            refuse(2, &mut print);
+            return print;
+        }
+        let (body, next) = behind.split_at(length);
+        model.play(kind, body, &mut print);
+        rest = next;
+    }
+    print
+}

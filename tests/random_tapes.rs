@@ -1,0 +1,296 @@
+//! Tapes made at random from a seed: good ones, cut ones, odd kinds, random bytes, and good ones with bits flipped.
+
+use crate::frames;
+use crate::random::Random;
+
+/// How many pairs of a column count and a directions byte are in range.
+const SETTINGS: u64 = 2 + 4 + 8 + 16 + 32 + 64;
+
+/// How the columns of a tape's quotes are drawn.
+#[derive(Clone, Copy)]
+enum Values {
+    /// One of so many distinct values, so that equal quotes abound.
+    Few(u64),
+    /// Any value.
+    Wide,
+    /// Values that rise along the tape.
+    Rising,
+    /// Values that fall along the tape.
+    Falling,
+    /// The two lowest and the two highest values.
+    Extremes,
+    /// Columns that get better and worse in turn along the tape, so that with two columns or more no quote beats another.
+    Crossing,
+}
+
+/// What a tape's frames are drawn by: the settings, the sort of values, and how often a watch or its end comes.
+struct Style {
+    d: u8,
+    memory: u16,
+    directions: u8,
+    values: Values,
+    watching: u64,
+}
+
+impl Style {
+    /// A style; the settings go round with the tape's index, so that every pair of d and directions comes.
+    fn new(r: &mut Random, index: u64) -> Style {
+        let (d, directions) = settings(index % SETTINGS);
+        let memory = match r.below(8) {
+            0 => 1,
+            1 => 1_024,
+            2 => 1 + r.below(1_024) as u16,
+            3 => 17 + r.below(48) as u16,
+            _ => 2 + r.below(14) as u16,
+        };
+        let values = match r.below(8) {
+            0 => Values::Wide,
+            1 => Values::Rising,
+            2 => Values::Falling,
+            3 => Values::Extremes,
+            4 => Values::Crossing,
+            _ => Values::Few(1 + r.below(5)),
+        };
+        Style { d, memory, directions, values, watching: [1, 2, 12][r.below(3) as usize] }
+    }
+
+    /// A value of column i at a step of the tape.
+    fn column(&self, r: &mut Random, i: u8, step: u32) -> u32 {
+        let up = 3 * step;
+        let down = 1_000_000_000 - 3 * step;
+        let rises = (self.directions >> i ^ i) & 1 == 0;
+        match self.values {
+            Values::Few(k) => r.below(k) as u32,
+            Values::Wide => r.next() as u32,
+            Values::Rising => up + r.below(4) as u32,
+            Values::Falling => down + r.below(4) as u32,
+            Values::Extremes => [0, 1, u32::MAX - 1, u32::MAX][r.below(4) as usize],
+            Values::Crossing if rises => up,
+            Values::Crossing => down,
+        }
+    }
+
+    /// A window size: mostly in range, sometimes at or beyond an edge.
+    fn window_size(&self, r: &mut Random) -> u16 {
+        match r.below(14) {
+            0 => 1,
+            1 => self.memory,
+            2 => self.memory + 1,
+            3 => [0, 65_535, 256, 1_024][r.below(4) as usize],
+            4 | 5 => 1 + r.below(self.memory.into()) as u16,
+            _ => 1 + r.below(self.memory.min(12).into()) as u16,
+        }
+    }
+
+    /// A quote, once in 40 with a column count of its own.
+    fn quote(&self, r: &mut Random, step: u32, tape: &mut Vec<u8>) {
+        let count = if r.below(40) == 0 { 1 + r.below(6) as u8 } else { self.d };
+        let columns: Vec<u32> = (0..count).map(|i| self.column(r, i, step)).collect();
+        frames::quote(tape, &columns);
+    }
+
+    /// A burst: one quote many times over, or many quotes in a row.
+    fn burst(&self, r: &mut Random, step: u32, tape: &mut Vec<u8>) {
+        let before = tape.len();
+        self.quote(r, step, tape);
+        let frame = tape[before..].to_vec();
+        let alike = r.below(2) == 0;
+        for _ in 0..4 + r.below(16) {
+            if alike {
+                tape.extend(&frame);
+            } else {
+                self.quote(r, step, tape);
+            }
+        }
+    }
+
+    /// A frame, or a burst of them, for one step of a tape.
+    fn step(&self, r: &mut Random, step: u32, tape: &mut Vec<u8>) {
+        match r.below(24 + 2 * self.watching) {
+            0 => self.burst(r, step, tape),
+            1..=3 => look(tape, self.window_size(r)),
+            4 if r.below(3) == 0 => any_opening(r, tape),
+            5 if r.below(3) == 0 => change(r, tape),
+            24.. if r.below(3) == 0 => end(tape, self.window_size(r)),
+            24.. => frames::watch(tape, self.window_size(r)),
+            _ => self.quote(r, step, tape),
+        }
+    }
+
+    /// Some steps of a tape.
+    fn steps(&self, r: &mut Random, from: u32, count: u64, tape: &mut Vec<u8>) {
+        for step in 0..count as u32 {
+            self.step(r, from + step, tape);
+        }
+    }
+
+    /// The opening with this style's settings.
+    fn open(&self, tape: &mut Vec<u8>) {
+        frames::open(tape, self.d, self.memory, self.directions);
+    }
+}
+
+/// The column count and directions byte with a number below `SETTINGS`.
+fn settings(number: u64) -> (u8, u8) {
+    let mut rest = number;
+    let mut d = 1;
+    while rest >= 1 << d {
+        rest -= 1 << d;
+        d += 1;
+    }
+    (d, rest as u8)
+}
+
+/// A look at the list of n.
+fn look(tape: &mut Vec<u8>, n: u16) {
+    tape.push(16);
+    tape.extend(n.to_le_bytes());
+}
+
+/// The end of the watch of n.
+fn end(tape: &mut Vec<u8>, n: u16) {
+    tape.push(18);
+    tape.extend(n.to_le_bytes());
+}
+
+/// A change frame, which no played tape may hold.
+fn change(r: &mut Random, tape: &mut Vec<u8>) {
+    tape.extend([32 + r.below(2) as u8, 1, 0, 1, 0, 0, 0]);
+}
+
+/// An opening with each setting at or around an edge of its range.
+fn any_opening(r: &mut Random, tape: &mut Vec<u8>) {
+    let d = [0, 1, 2, 6, 7, 255][r.below(6) as usize];
+    let memory = [0, 1, 1_024, 1_025, 65_535][r.below(5) as usize];
+    let directions = [0, 1 << (d % 8), 1, 63, 64, 255][r.below(6) as usize];
+    frames::open(tape, d, memory, directions);
+}
+
+/// A good tape: frames that come too early at times, an opening, then frames that are mostly accepted.
+fn good_tape(r: &mut Random, index: u64) -> Vec<u8> {
+    let style = Style::new(r, index);
+    let mut tape = Vec::new();
+    if r.below(6) == 0 {
+        let early = 1 + r.below(3);
+        style.steps(r, 0, early, &mut tape);
+    }
+    for _ in 0..r.below(12).saturating_sub(8) {
+        any_opening(r, &mut tape);
+    }
+    style.open(&mut tape);
+    let count = r.below(64);
+    style.steps(r, 0, count, &mut tape);
+    tape
+}
+
+/// A tape longer than a reader's buffer, of a book with a short memory.
+fn long_tape(r: &mut Random, index: u64) -> Vec<u8> {
+    let style = Style { memory: 1 + r.below(9) as u16, watching: 2, ..Style::new(r, index) };
+    let mut tape = Vec::new();
+    style.open(&mut tape);
+    let count = 2_000 + r.below(8_000);
+    style.steps(r, 0, count, &mut tape);
+    tape
+}
+
+/// A tape that fills a long memory and goes on with watches once rows age out.
+fn deep_tape(r: &mut Random, index: u64) -> Vec<u8> {
+    let memory = if index % 2 == 0 { 1_024 } else { 100 + r.below(900) as u16 };
+    let style = Style { memory, watching: 6, ..Style::new(r, index) };
+    let mut tape = Vec::new();
+    style.open(&mut tape);
+    for step in 0..u32::from(memory) - 20 {
+        style.quote(r, step, &mut tape);
+    }
+    style.steps(r, u32::from(memory), 60, &mut tape);
+    tape
+}
+
+/// Random bytes, by themselves or behind an opening.
+fn random_bytes(r: &mut Random, index: u64) -> Vec<u8> {
+    let mut tape = Vec::new();
+    if r.below(2) == 0 {
+        Style::new(r, index).open(&mut tape);
+    }
+    tape.extend((0..r.below(60)).map(|_| r.next() as u8).collect::<Vec<_>>());
+    tape
+}
+
+/// Frames of known kinds with random bodies behind an opening.
+fn random_bodies(r: &mut Random, index: u64) -> Vec<u8> {
+    let style = Style::new(r, index);
+    let mut tape = Vec::new();
+    style.open(&mut tape);
+    for _ in 0..r.below(30) {
+        let (kind, length) = [(style.d, 4 * style.d), (16, 2), (17, 2), (18, 2), (32, 6), (33, 6), (48, 4)][r.below(7) as usize];
+        tape.push(kind);
+        tape.extend((0..length).map(|_| (r.next() as u8) >> r.below(9).min(7)).collect::<Vec<_>>());
+    }
+    tape
+}
+
+/// The tape with an index: most are good, the others cut, ended by odd bytes, random, long or deep.
+pub fn random_tape(seed: u64, index: u64) -> Vec<u8> {
+    let mut r = Random::new(seed, index);
+    if index % 2_000 == 1_999 {
+        return long_tape(&mut r, index);
+    }
+    if index % 2_500 == 999 {
+        return deep_tape(&mut r, index / 2_500);
+    }
+    let mut tape = good_tape(&mut r, index);
+    match r.below(10) {
+        0 => tape.truncate(r.below(tape.len() as u64 + 1) as usize),
+        1 => tape.extend((0..1 + r.below(8)).map(|_| r.next() as u8).collect::<Vec<_>>()),
+        2 => tape = random_bytes(&mut r, index),
+        3 => tape = random_bodies(&mut r, index),
+        _ => {}
+    }
+    tape
+}
+
+/// A good tape with one to four of its bits flipped.
+pub fn flipped_tape(seed: u64, index: u64) -> Vec<u8> {
+    let mut r = Random::new(!seed, index);
+    let mut tape = good_tape(&mut r, index);
+    for _ in 0..1 + r.below(4) {
+        let at = r.below(tape.len() as u64) as usize;
+        tape[at] ^= 1 << r.below(8);
+    }
+    tape
+}
+
+/// A short tape with a frame of every known kind for a column count.
+fn tape_of_every_kind(r: &mut Random, d: u8) -> Vec<u8> {
+    let style = Style { d, memory: 4, directions: 0, values: Values::Few(3), watching: 4 };
+    let mut tape = Vec::new();
+    style.open(&mut tape);
+    for n in [2, 4] {
+        style.quote(r, 0, &mut tape);
+        frames::watch(&mut tape, n);
+        look(&mut tape, n);
+    }
+    style.steps(r, 0, 12, &mut tape);
+    change(r, &mut tape);
+    end(&mut tape, 2);
+    tape
+}
+
+/// Tapes cut at every byte, for every column count, and every kind byte before bodies of several lengths, alone and behind an opening.
+pub fn edge_tapes(seed: u64) -> Vec<Vec<u8>> {
+    let mut tapes = vec![Vec::new()];
+    for d in 1..=6 {
+        let whole = tape_of_every_kind(&mut Random::new(seed, d), d as u8);
+        tapes.extend((0..=whole.len()).map(|keep| whole[..keep].to_vec()));
+    }
+    for kind in 0..=255 {
+        let mut opened = Vec::new();
+        frames::open(&mut opened, 1 + kind % 6, 5, 0);
+        for body in [0, 1, 2, 5, 6, 30] {
+            let frame = [vec![kind], vec![1; body]].concat();
+            tapes.push([&opened[..], &frame[..]].concat());
+            tapes.push(frame);
+        }
+    }
+    tapes
+}
