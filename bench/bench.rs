@@ -231,7 +231,7 @@ impl Row {
 fn notes(rows: &[Row], runs: usize) {
     println!();
     println!("ns: nanoseconds a quote; x: times ours; instr: instructions a quote by callgrind.");
-    println!("Ours and the yardstick: median of {runs} runs over {QUOTES} quotes and eight watches, taken in turn; their prints are equal.");
+    println!("Ours and the yardstick: median of {runs} runs over {QUOTES} quotes and eight watches, in turn; their prints are equal.");
     println!("Plain model: one run over the first {SHORT} quotes, where most windows are not full yet; its print is equal to ours.");
     if rows[0].emoa.is_some() {
         println!("emoa: one run over {EMOA} quotes after {FILL}; its lists are as long as ours.");
