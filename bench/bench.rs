@@ -20,7 +20,7 @@ const FILL: usize = 2_048;
 /// The quotes behind them that instructions are counted on.
 const COUNTED: usize = 5_000;
 /// The quotes behind them that emoa is timed on.
-const EMOA: usize = 200;
+const EMOA: usize = 50;
 /// The quotes that the plain model is timed on, from the opening.
 const SHORT: usize = 1_224;
 
@@ -83,17 +83,20 @@ fn median(mut times: Vec<f64>) -> f64 {
     times[times.len() / 2]
 }
 
-/// The nanoseconds a quote of each printer on each tape: medians of runs that go round all of them in turn.
-fn times(printers: &[&str], tapes: &[Tape], runs: usize) -> Vec<Vec<f64>> {
-    let mut all = vec![vec![Vec::new(); printers.len()]; tapes.len()];
+/// The nanoseconds a quote of ours, the yardstick and, where the memory is the longest, emoa on each tape: medians of runs that go
+/// round all of them in turn.
+fn times(ours: &str, tapes: &[Tape], runs: usize) -> Vec<Vec<f64>> {
+    let mut all = vec![vec![Vec::new(); 3]; tapes.len()];
     for _ in 0..runs {
-        for (tape, row) in tapes.iter().zip(&mut all) {
-            for (printer, times) in printers.iter().zip(row) {
-                times.push(seconds(&[printer], *tape) * 1e9 / tape.quotes as f64);
+        for (&tape, row) in tapes.iter().zip(&mut all) {
+            row[0].push(seconds(&[ours], tape) * 1e9 / tape.quotes as f64);
+            row[1].push(seconds(&[YARDSTICK], tape) * 1e9 / tape.quotes as f64);
+            if tape.memory == MEMORIES[0] {
+                row[2].extend(emoa_time(ours, tape));
             }
         }
     }
-    all.into_iter().map(|row| row.into_iter().map(median).collect()).collect()
+    all.into_iter().map(|row| row.into_iter().filter(|times| !times.is_empty()).map(median).collect()).collect()
 }
 
 /// The nanoseconds a quote of the plain model on a short tape, most of whose quotes find the window unfilled and the lists short.
@@ -197,7 +200,7 @@ struct Row {
 }
 
 impl Row {
-    /// Measures what is missing beside the times; the slow contenders only where the memory is the longest.
+    /// Measures what is missing beside the times; the plain model only where the memory is the longest.
     fn new(ours: &str, tape: Tape, times: &[f64]) -> Row {
         let longest = tape.memory == MEMORIES[0];
         Row {
@@ -205,7 +208,7 @@ impl Row {
             ours: times[0],
             yardstick: times[1],
             plain: longest.then(|| plain_time(ours, tape)),
-            emoa: longest.then(|| emoa_time(ours, tape)).flatten(),
+            emoa: times.get(2).copied(),
             our_instructions: instructions_a_quote(ours, tape),
             yardstick_instructions: instructions_a_quote(YARDSTICK, tape),
         }
@@ -231,10 +234,10 @@ impl Row {
 fn notes(rows: &[Row], runs: usize) {
     println!();
     println!("ns: nanoseconds a quote; x: times ours; instr: instructions a quote by callgrind.");
-    println!("Ours and the yardstick: median of {runs} runs over {QUOTES} quotes and eight watches, taken in turn; their prints are equal.");
+    println!("Ours and the yardstick: median of {runs} runs over {QUOTES} quotes and eight watches, in turn; their prints are equal.");
     println!("Plain model: one run over the first {SHORT} quotes, where most windows are not full yet; its print is equal to ours.");
     if rows[0].emoa.is_some() {
-        println!("emoa: one run over {EMOA} quotes after {FILL}; its lists are as long as ours.");
+        println!("emoa: median of {runs} runs over {EMOA} quotes after {FILL}, in turn with them; its lists are as long as ours.");
     } else {
         println!("emoa is skipped: Rscript or its package emoa (Debian's r-cran-emoa) is not installed.");
     }
@@ -260,7 +263,7 @@ fn main() {
     println!();
     println!("| tape | N | ours ns | yardstick ns | x | plain ns | x | emoa ns | x | ours instr | yardstick instr | x |");
     println!("|---|---|---|---|---|---|---|---|---|---|---|---|");
-    let times = times(&[&ours, YARDSTICK], &tapes, runs);
+    let times = times(&ours, &tapes, runs);
     let mut rows = Vec::new();
     for (tape, times) in tapes.iter().zip(&times) {
         let row = Row::new(&ours, *tape, times);
