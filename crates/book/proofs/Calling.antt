@@ -13,18 +13,20 @@ use prog.Routine.{Routine}
 use prog.Wp.{Heap, Env, Calls, Loops}
 use ghost.Atoms.{Atoms, sem}
 use contract.Monad.{Fun, fact}
-use types.Kit.{Given, Item, Post, runs, settles, Seq, ‵, raw, some, later, _⊛_, _$_, _∵_, !, qed, move, drop, use1, split, join, pick, fsplit, fjoin, feqL, frame, await, done}
+use types.Kit.{Given, Item, Post, runs, settles, Seq, ‵, raw, some, later, _⊛_, _$_, _∵_, !, qed, by, move, drop, use1, split, join, pick, fsplit, fjoin, feqL, frame, await, done}
 use types.Run.{Opds}
 use sound.WpLaws.{FmC}
 use denote.Laws.{Is, shows}
 use denote.Array.{Array, array-makes}
 use denote.Plain.{uint-makes}
 use denote.Builtin.{u32, unit}
+use denote.Ref.{RefT}
 use denote.Slice.{slice-vals, MutSlice, finally}
 use denote.Steps.{only, owned, peeks, heard, nothing}
 use denote.Triple.Statement.{Contract, Triple}
 use denote.Triple.Call.{calls-from-last}
 use denote.Triple.Clauses.{lasts}
+use denote.Triple.Entry.{onEntry}
 use denote.Triple.Spec.{tripleOf}
 use denote.Triple.Walked.{says}
 use Rattle.lists.specs.Lists.{insert, without, padded}
@@ -72,27 +74,29 @@ module _ {M : Type 1} (𝓤 : URA M) (H : Heap 𝓤) (A : Atoms 𝓤) (κ : Lft)
         (known (to-store 𝓤 H A mem run κ q b o ys γ ns u))
 
     module _ (n : ℕ) (fits : n < 2 ^ 32) where
+      -- what `insert_record` and `remove_record` bind outside, and what they are given
+      abbrev x : RefT (List Watch) × (ℕ × Unit {0})
+      x = (at-name b o ys γ, (n, tt))
+
+      abbrev at : List Val × (List Val × Unit {0})
+      at = (slice ∷ [], (vint w32 n ∷ [], tt))
+
+      handed : ent 𝓤 (sep 𝓤 (A .lft κ q) (sem 𝓤 H A Mutable)) (onEntry 𝓤 H A removing.signature (κ, tt) (q, tt) x at)
+      handed =
+          qed W (‵ (flft κ q) ∷ ‵ Mutable ∷ []) ∵ nothing ! $ move ! (1 ∷ 0 ∷ []) $ join ! $ move ! (1 ∷ []) $ nothing ! $ owned ! u32 (Is u32) (uint-makes 𝓤 H A W w32) n (vint w32 n ∷ []) (refl, fits) $
+          fjoin ! $ move ! (1 ∷ 0 ∷ []) $ fjoin ! $ move ! (1 ∷ 0 ∷ []) $ join ! $ done !
+
       pub inserts : (8 ≤ length ys) × Vacant (watched ys) → Triple 𝓤 (C #watches·insert-record) (Insert 𝓤 H A mem run)
           → ent 𝓤 (sep 𝓤 (A .lft κ q) (sem 𝓤 H A Mutable)) (C #watches·insert-record (slice ∷ vint w32 n ∷ []) (Changed (λ l. l ≡ padded 8 (insert n (standing (watched ys))) (watched ys))))
       inserts asked known =
-          via 𝓤 (Insert 𝓤 H A mem run .pre to)
-          (qed W (‵ (flft κ q) ∷ ‵ Mutable ∷ []) ∵ says ! asked $ nothing ! $ move ! (1 ∷ 0 ∷ []) $ join ! $ move ! (1 ∷ []) $ nothing ! $ owned ! u32 (Is u32) (uint-makes 𝓤 H A W w32) n (vint w32 n ∷ []) (refl, fits) $
-          fjoin ! $ move ! (1 ∷ 0 ∷ []) $ fjoin ! $ move ! (1 ∷ 0 ∷ []) $ join ! $ done !)
-          (known to)
-        where
-          to : Insert 𝓤 H A mem run .Ghost
-          to = (((κ, tt), (q, tt), tt, (at-name b o ys γ, (n, tt)), (slice ∷ [], (vint w32 n ∷ [], tt))), tt)
+          let to : Insert 𝓤 H A mem run .Ghost = (((κ, tt), (q, tt), tt, x, at), tt) in
+          via 𝓤 (Insert 𝓤 H A mem run .pre to) (qed W (‵ (flft κ q) ∷ ‵ Mutable ∷ []) ∵ says ! asked $ by ! handed) (known to)
 
       pub removes : 8 ≤ length ys → Triple 𝓤 (C #watches·remove-record) (Remove 𝓤 H A mem run)
           → ent 𝓤 (sep 𝓤 (A .lft κ q) (sem 𝓤 H A Mutable)) (C #watches·remove-record (slice ∷ vint w32 n ∷ []) (Changed (λ l. l ≡ padded 8 (without n (standing (watched ys))) (watched ys))))
       removes asked known =
-          via 𝓤 (Remove 𝓤 H A mem run .pre to)
-          (qed W (‵ (flft κ q) ∷ ‵ Mutable ∷ []) ∵ says ! asked $ nothing ! $ move ! (1 ∷ 0 ∷ []) $ join ! $ move ! (1 ∷ []) $ nothing ! $ owned ! u32 (Is u32) (uint-makes 𝓤 H A W w32) n (vint w32 n ∷ []) (refl, fits) $
-          fjoin ! $ move ! (1 ∷ 0 ∷ []) $ fjoin ! $ move ! (1 ∷ 0 ∷ []) $ join ! $ done !)
-          (known to)
-        where
-          to : Remove 𝓤 H A mem run .Ghost
-          to = (((κ, tt), (q, tt), tt, (at-name b o ys γ, (n, tt)), (slice ∷ [], (vint w32 n ∷ [], tt))), tt)
+          let to : Remove 𝓤 H A mem run .Ghost = (((κ, tt), (q, tt), tt, x, at), tt) in
+          via 𝓤 (Remove 𝓤 H A mem run .pre to) (qed W (‵ (flft κ q) ∷ ‵ Mutable ∷ []) ∵ says ! asked $ by ! handed) (known to)
 
 module _ {M : Type 1} {𝓤 : URA M} {H : Heap 𝓤} {A : Atoms 𝓤} {K : Type 0} {W : Given 𝓤 H A} {Γ : List (Item 𝓤)} {E : Env 𝓤 H} {C : Calls 𝓤 H} {Λ : Loops 𝓤 H} {p : Post 𝓤 H} {g : Name} {xs : List Operand} {d : Place} where
   -- one of them is called with the records and v: what is known of the records is their last value

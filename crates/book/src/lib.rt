@@ -8,6 +8,7 @@ use crate::lending::open_lent;
 use crate::lending::quote_lent;
 use crate::lending::watch_lent;
 pub use calls::look;
+pub use watches::find_record;
 use head::Head;
 use head::Reply;
 use head::Watch;
