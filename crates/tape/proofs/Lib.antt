@@ -10,3 +10,4 @@ pub mod Streaming
 pub mod Changed
 pub mod NeverShort
 pub mod Worked
+pub mod Made
