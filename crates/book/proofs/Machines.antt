@@ -1,14 +1,8 @@
--- The machine values of what a walk of the calls passes on: heads, replies, judgements, and eight zeros.
-use mathlib.Core.Path.{refl, subst}
-use Prim.Native.Nat.{_<_}
+-- The machine values of what a walk of the calls passes on: heads, replies and judgements.
+use mathlib.Core.Path.{subst}
 use mathlib.Core.List.{List, [], _∷_}
-use lib.Dec.{lit<}
-use lib.ListN.{replicate}
-use mir.Syntax.{w32}
-use mir.Val.{Val, vint}
+use mir.Val.{Val}
 use denote.Laws.{Is}
-use denote.Array.{Array}
-use denote.Builtin.{u32}
 use denote.Struct.Laws as LL
 use Rattle.head.specs.declared.Head.{Head}
 use Rattle.head.specs.declared.Reply.{Reply}
@@ -16,7 +10,6 @@ use Rattle.head.proofs.Head as Hd
 use Rattle.head.proofs.Head.Laws as Hd′
 use Rattle.head.proofs.Reply as R
 use Rattle.head.proofs.Reply.Laws as R′
-use Rattle.watches.proofs.LocalArray.{machine}
 use Rattle.book.specs.declared.lending.Judgement.{Judgement}
 use Rattle.book.proofs.lending.Judgement as J
 use Rattle.book.proofs.lending.Judgement.Laws as J′
@@ -34,11 +27,3 @@ spelled r c has = subst (λ (us : List Val). Is R.the-row r us) (LL.tells R.the-
 -- so is that of a judgement
 pub replied : (j : Judgement) (c : Val) → Is J.the-row j (c ∷ []) → Is R.the-row (j .reply) (machines (j .reply))
 replied j c has = LL.owed J.the-type J′.the-laws j (c ∷ []) has .0
-
-abbrev pub machine-zeros : Val
-machine-zeros = machine (replicate 8 0)
-
-pub zeros : Is (Array u32 8) (replicate 8 0) (machine-zeros ∷ [])
-zeros =
-    let z : 0 < 4294967296 = lit< tt in
-    (replicate 8 (vint w32 0), ((refl, refl), ((refl, z), ((refl, z), ((refl, z), ((refl, z), ((refl, z), ((refl, z), ((refl, z), ((refl, z), tt))))))))))

@@ -18,7 +18,7 @@ use Rattle.book.specs.declared.lending.Judgement.{Judgement}
 unfoldable pub judgement : Reply → Judgement
 judgement r = record { reply = r; accepted = settled (r .answer) true false }
 
--- the answer of a call on a book with the settings of h: 3, 11
+-- the answer of a call that is lent fewer than eight records, with the settings of h: 3, 11
 unfoldable pub fewAnswer : Head → Answer
 fewAnswer h = first ((not (settingsHold (h .dimensions) (h .capacity) (h .directions)), Settings) ∷ (true, ShortLoan) ∷ [])
 
@@ -26,12 +26,12 @@ fewAnswer h = first ((not (settingsHold (h .dimensions) (h .capacity) (h .direct
 unfoldable pub fewReply : Head → Head → Reply
 fewReply h back = replyOf (fewAnswer h) back back 0
 
--- an opening is answered and leaves the tables so; the records wait
+-- an opening is answered and leaves the tables so; the records change after it
 pub record OpenJudged (d N directions : ℕ) (t : Tables) (ws : List ℕ) (j : Judgement) (t' : Tables) : Type 0 where
   pub judged : j ≡ judgement (openReply d N directions t ws)
   pub lent : t' ≡ openTables d N directions t ws
 
--- a watch of n is answered and leaves the output so; the records wait
+-- a watch of n is answered and leaves the output so; the records change after it
 pub record WatchJudged (h : Head) (n : ℕ) (t : Tables) (ws before : List ℕ) (j : Judgement) (after : List ℕ) : Type 0 where
   pub judged : j ≡ judgement (watchReply h n t ws (length before))
   pub out : after ≡ watchOut h n t ws before

@@ -54,7 +54,7 @@ fn judge(reply: Reply) -> Judgement
     }
 }
 
-// The reply to an opening; the tables are cleared, and the records wait.
+// Begins a new book but for the records: clears the tables, and says whether the records are to be emptied.
 pub fn open_lent(
     dimensions: u32,
     capacity: u32,
@@ -102,7 +102,7 @@ pub fn quote_lent(
     quote(head, quoted, columns, positions, lower_ends, watches, out)
 }
 
-// The reply to a watch of n; its joins are written, and the records wait.
+// Sets a watch of n but for the records: writes its joins, and says whether n is to be inserted.
 pub fn watch_lent(
     head: Head,
     n: u32,
@@ -122,7 +122,7 @@ pub fn watch_lent(
     judge(made.reply)
 }
 
-// The reply to the end of the watch of n.
+// Ends the watch of n but for the records: says whether n is to be removed.
 pub fn end_lent(
     head: Head,
     n: u32,

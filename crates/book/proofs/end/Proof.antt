@@ -49,6 +49,7 @@ use Rattle.head.proofs.Watch as T
 use Rattle.model.specs.Rows.{Tables as Lent}
 use Rattle.model.specs.Book.{standing, endReply}
 use Rattle.watches.specs.Records.{watched}
+use Rattle.watches.proofs.LocalArray.{machine}
 use Rattle.watches.proofs.Lending.{at-name}
 use Rattle.watches.proofs.Calling.{Numbers, reads-records}
 use Rattle.watches.proofs.numbers.Symbol as numbers-def
@@ -75,6 +76,7 @@ use Rattle.book.proofs.end as f
 use Rattle.book.proofs.end.Statement as stated
 use Rattle.book.proofs.end.Code as code
 
+-- what is had of each parameter at the end: of what is lent for good its last value, of the others nothing
 abbrev stayed : Stays (f.ended .signature .params) (f.ended .kept)
 stayed = (stay-dropped (plain (λ _. Hd.the-row)) yes, (stay-dropped (plain (λ _. u32)) yes, (stay-dropped (shrSliceOf (0 ∷ []) tt (plain (λ _. u32))) yes, (stay-dropped (shrSliceOf (1 ∷ []) tt (plain (λ _. u32))) yes, (stay-dropped (shrSliceOf (2 ∷ []) tt (plain (λ _. u32))) yes, (gave-slice (3 ∷ []) tt (plain (λ _. T.the-row)), tt))))))
 
@@ -157,6 +159,7 @@ module _ {M : Type 1} (𝓤 : URA M) (H : Heap 𝓤) (A : Atoms 𝓤) (W : Given
         assigns ! (addr ! (from ! (fld ! refl (hop ! (look-in ! 18 (sub ! 0 refl (whole !))) (stop !))))) (from ! (stop !)) (init ! 10 refl (tt, tt)) $
         assigns ! (agg ! (and-then ! (load ! (from ! (stop !)) (look ! 10 refl)) (and-then ! (load ! (from ! (fld ! refl (stop !))) (look-in ! 18 (sub ! 1 refl (whole !)))) (no-more !)))) (from ! (stop !)) (init ! 8 refl (tt, (tt, (record { fits = room .0 }, tt)))) $
         move ! (33 ∷ []) $ fsplit ! $ move ! (1 ∷ []) $ fsplit ! $ move ! (1 ∷ []) $ fsplit ! $ move ! (1 ∷ []) $ fsplit ! $ move ! (1 ∷ []) $ fsplit ! $ move ! (1 ∷ []) $ fsplit ! $ move ! (1 ∷ []) $ move ! (39 ∷ []) $ split ! $ move ! (1 ∷ []) $ split ! $ move ! (1 ∷ []) $ split ! $ move ! (1 ∷ []) $ split ! $ move ! (1 ∷ []) $
+        -- [true; κ₃; κ₂; κ₁; κ₀; true; watches; lowerEnds; positions; columns; n; head; the locals]
         move ! (6 ∷ 1 ∷ []) $ reads-records ! fm mem run known-numbers κ₃ q₃ b o ys γ room (λ ν δ. (and-then ! (load ! (from ! (stop !)) (look ! 20 refl)) (no-more !))) (λ u r is e.
         land ! (from ! (stop !)) (init ! 28 refl (array-typed u32 (uint-lawful 𝓤 H A W w32 .typed) 8 r _ is .0)) $
         assigns ! (of-opd ! (load ! (from ! (fld ! refl (stop !))) (look-in ! 30 (sub ! 1 refl (whole !))))) (from ! (stop !)) (init ! 26 refl (tt, record { fits = room .0 })) $
@@ -167,6 +170,7 @@ module _ {M : Type 1} (𝓤 : URA M) (H : Heap 𝓤) (A : Atoms 𝓤) (W : Given
         use1 W (later (some (λ (j : Judgement). (Tokens ⊛ ‵ (J.the-row .own j (c ∷ []))) ⊛ some (λ (zs : Ends). ‵ (lasts callee.ended lives (asked r) zs) ⊛ raw (fact 𝓤 (Said r j zs)))))) (id⊢ 𝓤 _) $ await ! tt $ pick ! (λ j. split ! $ move ! (1 ∷ []) $ pick ! (λ zs. split ! $ move ! (1 ∷ []) $ heard ! (Said r j zs) (λ said.
         fsplit ! $ drop ! $ move ! (0 ∷ []) $ fsplit ! $ drop ! $ move ! (0 ∷ []) $ fsplit ! $ drop ! $ move ! (0 ∷ []) $ fsplit ! $ drop ! $ move ! (0 ∷ []) $ fsplit ! $ drop ! $ move ! (0 ∷ []) $ fsplit ! $ drop ! $ move ! (0 ∷ []) $ fsplit ! $ drop ! $ move ! (0 ∷ []) $ drop ! $
         move ! (0 ∷ []) $ split ! $ move ! (1 ∷ []) $ peeks ! J.the-row (Is J.the-row) (shows 𝓤 H A J.the-row) j (c ∷ []) (λ has. drop ! $
+        -- [the tokens of the callee; watches; κ₃; true; the locals]
         land ! (from ! (stop !)) (init ! 16 refl (LL.lawful J.the-type J′.the-laws 𝓤 H A W .typed j _ has .0)) $ rewrite ! 16 (λ (z : Val). ‵ (fat fullShare J′.mir l₉ 0 z)) (ap only (LL.tells J.the-type J′.the-laws j (c ∷ []) has)) refl $
         assigns ! (of-opd ! (load ! (from ! (fld ! refl (stop !))) (look-in ! 16 (sub ! 1 refl (whole !))))) (from ! (stop !)) (init ! 10 refl (tt, tt)) $
         decides ! (load ! (from ! (stop !)) (look ! 10 refl))

@@ -44,6 +44,7 @@ use Rattle.head.proofs.Reply.Laws as R′
 use Rattle.head.proofs.Watch as T
 use Rattle.model.specs.Rows.{Tables as Lent}
 use Rattle.watches.specs.Records.{watched, stored}
+use Rattle.watches.proofs.LocalArray.{machine, zeros}
 use Rattle.watches.proofs.Lending.{at-name}
 use Rattle.watches.proofs.Calling.{Numbers, Store, reads-records}
 use Rattle.watches.proofs.numbers.Symbol as numbers-def
@@ -56,7 +57,7 @@ use Rattle.calls.specs.Left.{tables as lent-tables, Opened}
 use Rattle.book.specs.declared.lending.Judgement.{Judgement}
 use Rattle.book.specs.Lent.{OpenJudged}
 use Rattle.book.proofs.Fronts.{open-left, open-emptied}
-use Rattle.book.proofs.Machines.{machines, replied, machine-zeros, zeros}
+use Rattle.book.proofs.Machines.{machines, replied}
 use Rattle.book.proofs.Deciding.{decides, stays-last}
 use Rattle.book.proofs.Calling.{stores, changes-last}
 use Rattle.book.proofs.lending.Judgement as J
@@ -70,6 +71,7 @@ use Rattle.book.proofs.open as f
 use Rattle.book.proofs.open.Statement as stated
 use Rattle.book.proofs.open.Code as code
 
+-- what is had of each parameter at the end: of what is lent for good its last value, of the others nothing
 abbrev stayed : Stays (f.ended .signature .params) (f.ended .kept)
 stayed = (stay-dropped (plain (λ _. u32)) yes, (stay-dropped (plain (λ _. u32)) yes, (stay-dropped (plain (λ _. u32)) yes, (gave-slice (0 ∷ []) tt (plain (λ _. u32)), (gave-slice (1 ∷ []) tt (plain (λ _. u32)), (gave-slice (2 ∷ []) tt (plain (λ _. u32)), (gave-slice (3 ∷ []) tt (plain (λ _. T.the-row)), tt)))))))
 
@@ -152,6 +154,7 @@ module _ {M : Type 1} (𝓤 : URA M) (H : Heap 𝓤) (A : Atoms 𝓤) (W : Given
         assigns ! (addr ! (from ! (fld ! refl (hop ! (look-in ! 32 (sub ! 0 refl (whole !))) (stop !))))) (from ! (stop !)) (init ! 24 refl (tt, tt)) $
         assigns ! (agg ! (and-then ! (load ! (from ! (stop !)) (look ! 24 refl)) (and-then ! (load ! (from ! (fld ! refl (stop !))) (look-in ! 32 (sub ! 1 refl (whole !)))) (no-more !)))) (from ! (stop !)) (init ! 22 refl (tt, (tt, (record { fits = room .0 }, tt)))) $
         move ! (49 ∷ []) $ fsplit ! $ move ! (1 ∷ []) $ fsplit ! $ move ! (1 ∷ []) $ fsplit ! $ move ! (1 ∷ []) $ fsplit ! $ move ! (1 ∷ []) $ fsplit ! $ move ! (1 ∷ []) $ fsplit ! $ move ! (1 ∷ []) $ fsplit ! $ move ! (1 ∷ []) $ move ! (56 ∷ []) $ split ! $ move ! (1 ∷ []) $ split ! $ move ! (1 ∷ []) $ split ! $ move ! (1 ∷ []) $ split ! $ move ! (1 ∷ []) $
+        -- [true; κ₃; κ₂; κ₁; κ₀; true; watches; lowerEnds; positions; columns; directions; capacity; dimensions; the locals]
         move ! (6 ∷ 1 ∷ []) $ reads-records ! fm mem run known-numbers κ₃ q₃ b o ys γ room (λ ν δ. (and-then ! (load ! (from ! (stop !)) (look ! 35 refl)) (no-more !))) (λ u r is e.
         land ! (from ! (stop !)) (init ! 43 refl (array-typed u32 (uint-lawful 𝓤 H A W w32 .typed) 8 r _ is .0)) $
         assigns ! (of-opd ! (load ! (from ! (fld ! refl (stop !))) (look-in ! 45 (sub ! 1 refl (whole !))))) (from ! (stop !)) (init ! 41 refl (tt, record { fits = room .0 })) $
@@ -168,6 +171,7 @@ module _ {M : Type 1} (𝓤 : URA M) (H : Heap 𝓤) (A : Atoms 𝓤) (W : Given
         use1 W (later (some (λ (j : Judgement). (Tokens ⊛ ‵ (J.the-row .own j (c ∷ []))) ⊛ some (λ (zs : Ends). ‵ (lasts callee.ended lives (asked r) zs) ⊛ raw (fact 𝓤 (Said r j zs)))))) (id⊢ 𝓤 _) $ await ! tt $ pick ! (λ j. split ! $ move ! (1 ∷ []) $ pick ! (λ zs. split ! $ move ! (1 ∷ []) $ heard ! (Said r j zs) (λ said.
         fsplit ! $ drop ! $ move ! (0 ∷ []) $ fsplit ! $ drop ! $ move ! (0 ∷ []) $ fsplit ! $ drop ! $ move ! (0 ∷ []) $ fsplit ! $ fsplit ! $ move ! (1 ∷ []) $ feqL ! (λ columns-same. move ! (1 ∷ []) $ fsplit ! $ fsplit ! $ move ! (1 ∷ []) $ feqL ! (λ positions-same. move ! (1 ∷ []) $ fsplit ! $ fsplit ! $ move ! (1 ∷ []) $ feqL ! (λ lowerEnds-same. move ! (1 ∷ []) $ fsplit ! $ drop ! $ move ! (0 ∷ []) $ fsplit ! $ drop ! $ move ! (0 ∷ []) $ drop ! $
         move ! (3 ∷ []) $ split ! $ move ! (1 ∷ []) $ peeks ! J.the-row (Is J.the-row) (shows 𝓤 H A J.the-row) j (c ∷ []) (λ has. drop ! $
+        -- [the tokens of the callee; the last lowerEnds; the last positions; the last columns; watches; κ₃; true; the locals]
         land ! (from ! (stop !)) (init ! 33 refl (LL.lawful J.the-type J′.the-laws 𝓤 H A W .typed j _ has .0)) $ rewrite ! 33 (λ (z : Val). ‵ (fat fullShare J′.mir l₁₀ 0 z)) (ap only (LL.tells J.the-type J′.the-laws j (c ∷ []) has)) refl $
         assigns ! (of-opd ! (load ! (from ! (fld ! refl (stop !))) (look-in ! 33 (sub ! 1 refl (whole !))))) (from ! (stop !)) (init ! 15 refl (tt, tt)) $
         decides ! (load ! (from ! (stop !)) (look ! 15 refl))
@@ -175,7 +179,7 @@ module _ {M : Type 1} (𝓤 : URA M) (H : Heap 𝓤) (A : Atoms 𝓤) (W : Given
         assigns ! (addr ! (from ! (fld ! refl (hop ! (look-in ! 39 (sub ! 0 refl (whole !))) (stop !))))) (from ! (stop !)) (init ! 11 refl (tt, tt)) $
         assigns ! (agg ! (and-then ! (load ! (from ! (stop !)) (look ! 11 refl)) (and-then ! (load ! (from ! (fld ! refl (stop !))) (look-in ! 39 (sub ! 1 refl (whole !)))) (no-more !)))) (from ! (stop !)) (init ! 9 refl (tt, (tt, (record { fits = room .0 }, tt)))) $
         assigns ! (rep ! 8 (lit ! tt)) (from ! (stop !)) (init ! 7 refl (array-typed u32 (uint-lawful 𝓤 H A W w32 .typed) 8 (replicate 8 0) _ zeros .0)) $
-        move ! (5 ∷ 4 ∷ []) $ changes-last ! fm κ₃ q₃ b o ys γ machine-zeros Last (stores 𝓤 H A κ₃ q₃ b o ys γ W mem run C (replicate 8 0) machine-zeros zeros known-change) (and-then ! (load ! (from ! (stop !)) (look ! 8 refl)) (and-then ! (load ! (from ! (stop !)) (look ! 6 refl)) (no-more !))) (λ v ws isv m len. next _ _ _ $
+        move ! (5 ∷ 4 ∷ []) $ changes-last ! fm κ₃ q₃ b o ys γ (machine (replicate 8 0)) Last (stores 𝓤 H A κ₃ q₃ b o ys γ W mem run C (replicate 8 0) (machine (replicate 8 0)) zeros known-change) (and-then ! (load ! (from ! (stop !)) (look ! 8 refl)) (and-then ! (load ! (from ! (stop !)) (look ! 6 refl)) (no-more !))) (λ v ws isv m len. next _ _ _ $
         land ! (from ! (stop !)) (init ! 13 refl (nothing-lawful 𝓤 H A W .typed tt _ isv .0)) $
         assigns ! (of-opd ! (load ! (from ! (fld ! refl (stop !))) (look-in ! 33 (sub ! 0 refl (whole !))))) (from ! (stop !)) (init ! 53 refl (LL.lawful R.the-type R′.the-laws 𝓤 H A W .typed (j .reply) _ (replied j c has) .0)) $
         returns ! (look ! 53 refl) $ forget ! 7 refl $ forget ! 9 refl $ forget ! 11 refl $ forget ! 13 refl $ forget ! 15 refl $ forget ! 17 refl $ forget ! 19 refl $ forget ! 21 refl $ forget ! 23 refl $ forget ! 25 refl $ forget ! 27 refl $ forget ! 29 refl $ forget ! 31 refl $ forget ! 33 refl $ forget ! 35 refl $ forget ! 37 refl $ forget ! 39 refl $ forget ! 41 refl $ forget ! 43 refl $ forget ! 45 refl $ forget ! 47 refl $ forget ! 49 refl $ forget ! 51 refl $ forget ! 53 refl $

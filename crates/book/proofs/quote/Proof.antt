@@ -47,6 +47,7 @@ use Rattle.head.proofs.Reply.Laws as R′
 use Rattle.head.proofs.Watch as T
 use Rattle.model.specs.Rows.{Tables as Lent}
 use Rattle.watches.specs.Records.{watched}
+use Rattle.watches.proofs.LocalArray.{machine}
 use Rattle.watches.proofs.Lending.{at-name}
 use Rattle.watches.proofs.Calling.{Numbers, calls-numbers}
 use Rattle.watches.proofs.numbers.Symbol as numbers-def
@@ -64,6 +65,7 @@ use Rattle.book.proofs.quote as f
 use Rattle.book.proofs.quote.Statement as stated
 use Rattle.book.proofs.quote.Code as code
 
+-- what is had of each parameter at the end: of what is lent for good its last value, of the others nothing
 abbrev stayed : Stays (f.ended .signature .params) (f.ended .kept)
 stayed = (stay-dropped (plain (λ _. Hd.the-row)) yes, (stay-dropped (shrSliceOf (0 ∷ []) tt (plain (λ _. u32))) yes, (gave-slice (1 ∷ []) tt (plain (λ _. u32)), (gave-slice (2 ∷ []) tt (plain (λ _. u32)), (gave-slice (3 ∷ []) tt (plain (λ _. u32)), (stay-dropped (shrSliceOf (4 ∷ []) tt (plain (λ _. T.the-row))) yes, (gave-slice (5 ∷ []) tt (plain (λ _. u8)), tt)))))))
 
@@ -140,6 +142,7 @@ module _ {M : Type 1} (𝓤 : URA M) (H : Heap 𝓤) (A : Atoms 𝓤) (W : Given
         qed W Entry ∵ enter ! C Λ code.function given _ $
         alloc1 ! (λ l₀. alloc1 ! (λ l₁. alloc1 ! (λ l₂. alloc1 ! (λ l₃. alloc1 ! (λ l₄. alloc1 ! (λ l₅. alloc1 ! (λ l₆. alloc1 ! (λ l₇. alloc1 ! (λ l₈. alloc1 ! (λ l₉. alloc1 ! (λ l₁₀. alloc1 ! (λ l₁₁. alloc1 ! (λ l₁₂. alloc1 ! (λ l₁₃. alloc1 ! (λ l₁₄. alloc1 ! (λ l₁₅. alloc1 ! (λ l₁₆. alloc1 ! (λ l₁₇. alloc0 ! $ params1 ! $ pass1 ! (init ! 32 refl (LL.lawful Hd.the-type Hd′.the-laws 𝓤 H A W .typed head _ is-head .0)) $ pass1 ! (init ! 30 refl (tt, (tt, (record { fits = quote-fits }, tt)))) $ pass1 ! (init ! 28 refl (tt, (tt, (record { fits = columns-fits }, tt)))) $ pass1 ! (init ! 26 refl (tt, (tt, (record { fits = positions-fits }, tt)))) $ pass1 ! (init ! 24 refl (tt, (tt, (record { fits = lowerEnds-fits }, tt)))) $ pass1 ! (init ! 22 refl (tt, (tt, (record { fits = room .0 }, tt)))) $ pass1 ! (init ! 20 refl (tt, (tt, (record { fits = out-fits }, tt)))) $ pass0 ! $
         move ! (37 ∷ []) $ fsplit ! $ move ! (1 ∷ []) $ fsplit ! $ move ! (1 ∷ []) $ fsplit ! $ move ! (1 ∷ []) $ fsplit ! $ move ! (1 ∷ []) $ fsplit ! $ move ! (1 ∷ []) $ fsplit ! $ move ! (1 ∷ []) $ fsplit ! $ move ! (1 ∷ []) $ move ! (44 ∷ []) $ split ! $ move ! (1 ∷ []) $ split ! $ move ! (1 ∷ []) $ split ! $ move ! (1 ∷ []) $ split ! $ move ! (1 ∷ []) $ split ! $ move ! (1 ∷ []) $ split ! $ move ! (1 ∷ []) $
+        -- [true; κ₅; κ₄; κ₃; κ₂; κ₁; κ₀; true; out; watches; lowerEnds; positions; columns; quote; head; the locals]
         move ! (2 ∷ 9 ∷ []) $ calls-numbers ! fm mem run known-numbers κ₄ q₄ b o ys γ (and-then ! (load ! (from ! (stop !)) (look ! 36 refl)) (no-more !)) (λ u r is e.
         land ! (from ! (stop !)) (init ! 32 refl (array-typed u32 (uint-lawful 𝓤 H A W w32 .typed) 8 r _ is .0)) $
         assigns ! (of-opd ! (load ! (from ! (fld ! refl (stop !))) (look-in ! 36 (sub ! 1 refl (whole !))))) (from ! (stop !)) (init ! 30 refl (tt, record { fits = room .0 })) $
@@ -158,6 +161,7 @@ module _ {M : Type 1} (𝓤 : URA M) (H : Heap 𝓤) (A : Atoms 𝓤) (W : Given
         use1 W (later (some (λ (j : Reply). (Tokens ⊛ ‵ (R.the-row .own j (c ∷ []))) ⊛ some (λ (zs : Ends). ‵ (lasts callee.ended lives (asked r) zs) ⊛ raw (fact 𝓤 (Said r j zs)))))) (id⊢ 𝓤 _) $ await ! tt $ pick ! (λ j. split ! $ move ! (1 ∷ []) $ pick ! (λ zs. split ! $ move ! (1 ∷ []) $ heard ! (Said r j zs) (λ said.
         fsplit ! $ drop ! $ move ! (0 ∷ []) $ fsplit ! $ drop ! $ move ! (0 ∷ []) $ fsplit ! $ fsplit ! $ move ! (1 ∷ []) $ feqL ! (λ columns-same. move ! (1 ∷ []) $ fsplit ! $ fsplit ! $ move ! (1 ∷ []) $ feqL ! (λ positions-same. move ! (1 ∷ []) $ fsplit ! $ fsplit ! $ move ! (1 ∷ []) $ feqL ! (λ lowerEnds-same. move ! (1 ∷ []) $ fsplit ! $ drop ! $ move ! (0 ∷ []) $ fsplit ! $ drop ! $ move ! (0 ∷ []) $ fsplit ! $ fsplit ! $ move ! (1 ∷ []) $ feqL ! (λ out-same. move ! (1 ∷ []) $ drop ! $
         move ! (4 ∷ []) $ split ! $ move ! (1 ∷ []) $ peeks ! R.the-row (Is R.the-row) (shows 𝓤 H A R.the-row) j (c ∷ []) (λ has. drop ! $
+        -- [the tokens of the callee; the last out; the last lowerEnds; the last positions; the last columns; κ₄; true; the locals]
         land ! (from ! (stop !)) (init ! 41 refl (LL.lawful R.the-type R′.the-laws 𝓤 H A W .typed j _ has .0)) $ rewrite ! 41 (λ (z : Val). ‵ (fat fullShare R′.mir l₀ 0 z)) (ap only (LL.tells R.the-type R′.the-laws j (c ∷ []) has)) refl $
         returns ! (look ! 41 refl) $ forget ! 7 refl $ forget ! 9 refl $ forget ! 11 refl $ forget ! 13 refl $ forget ! 15 refl $ forget ! 17 refl $ forget ! 19 refl $ forget ! 21 refl $ forget ! 23 refl $ forget ! 25 refl $ forget ! 27 refl $ forget ! 29 refl $ forget ! 31 refl $ forget ! 33 refl $ forget ! 35 refl $ forget ! 37 refl $ forget ! 39 refl $ forget ! 41 refl $
         move ! (41 ∷ 42 ∷ []) $ free1 ! $ move ! (39 ∷ 40 ∷ []) $ free1 ! $ move ! (37 ∷ 38 ∷ []) $ free1 ! $ move ! (35 ∷ 36 ∷ []) $ free1 ! $ move ! (33 ∷ 34 ∷ []) $ free1 ! $ move ! (31 ∷ 32 ∷ []) $ free1 ! $ move ! (29 ∷ 30 ∷ []) $ free1 ! $ move ! (27 ∷ 28 ∷ []) $ free1 ! $ move ! (25 ∷ 26 ∷ []) $ free1 ! $ move ! (23 ∷ 24 ∷ []) $ free1 ! $ move ! (21 ∷ 22 ∷ []) $ free1 ! $ move ! (19 ∷ 20 ∷ []) $ free1 ! $ move ! (17 ∷ 18 ∷ []) $ free1 ! $ move ! (15 ∷ 16 ∷ []) $ free1 ! $ move ! (13 ∷ 14 ∷ []) $ free1 ! $ move ! (11 ∷ 12 ∷ []) $ free1 ! $ move ! (9 ∷ 10 ∷ []) $ free1 ! $ move ! (7 ∷ 8 ∷ []) $ free1 ! $ free0 ! $

@@ -47,7 +47,7 @@ use Rattle.head.proofs.Watch.Laws as T′
 use Rattle.watches.specs.Records.{watched}
 use Rattle.watches.proofs.Copying.{copied, length-copied, read-on, all-read}
 use Rattle.watches.proofs.Turns.{goes-on, stops}
-use Rattle.watches.proofs.LocalArray.{machine, taken-apart, put-together}
+use Rattle.watches.proofs.LocalArray.{machine, zeros, taken-apart, put-together}
 use Rattle.watches.proofs.Elements.{empty, record-out, record-back, number-out, number-put}
 use Rattle.watches.proofs.Whiles.{tests}
 use Rattle.watches.proofs.numbers.Key.{name as #watches·numbers}
@@ -58,12 +58,6 @@ use Rattle.watches.proofs.numbers.Code.Mir.{turn-1, t-4}
 
 abbrev stayed : Stays (f.ended .signature .params) (f.ended .kept)
 stayed = (stay-none-slice (0 ∷ []) tt (plain (λ _. T.the-row)) yes, tt)
-
--- the array of zeros is an array of numbers of 32 bits
-zeros : Is (Array u32 8) (replicate 8 0) (machine (replicate 8 0) ∷ [])
-zeros =
-    let z : 0 < 4294967296 = lit< tt in
-    (replicate 8 (vint w32 0), ((refl, refl), ((refl, z), ((refl, z), ((refl, z), ((refl, z), ((refl, z), ((refl, z), ((refl, z), ((refl, z), tt))))))))))
 
 module _ {M : Type 1} (𝓤 : URA M) (H : Heap 𝓤) (A : Atoms 𝓤) (W : Given 𝓤 H A) (mem : Memory → SProp 𝓤) (run : Routine → Fun 𝓤) (κ : Lft) (q : Share) (b o : ℕ) (γ : GName) (ys : List Watch) (room : Room T.the-row (length ys)) where
   abbrev s : RefT (List Watch)
