@@ -1,27 +1,85 @@
 // The tape printer: plays the tape on standard input, and prints it on standard output. It keeps one piece of the tape at a time.
-mod gathering;
-mod moving;
-
-use gathering::Stand;
 use head::Head;
-use libc::STDIN_FILENO;
-use libc::STDOUT_FILENO;
 
-// Writes the gathered lines out; where that fails the tape is over.
-fn flush(stand: Stand, text: &[u8]) -> Stand {
-    let used = stand.used;
-    if text.len() < used {
-        return stand.stopped();
-    }
-    let written = io::write_all(STDOUT_FILENO, &text[..used]);
-    if !written {
-        os::fail(b"tape_printer: standard output");
-        return stand.stopped();
-    }
-    stand.emptied()
+// How many bytes of text the lines of any frame fit in.
+const LONGEST_LINES: usize = 208077;
+
+// Where the printer stands: the head and the watches of the book, the place of the next frame and the end of what has come of the tape,
+// how many bytes of text are gathered, and whether the tape is over.
+struct Stand {
+    head: Head,
+    watches: [u32; 8],
+    place: usize,
+    end: usize,
+    used: usize,
+    over: bool,
 }
 
-// Plays every frame of this piece of the tape that has come whole, and writes lines out where the text has no room for more.
+// Writes out the gathered lines; where that fails the tape is over.
+fn flush(stand: Stand, text: &[u8]) -> Stand {
+    let used = stand.used;
+    let mut now = stand;
+    now.used = 0;
+    if !streams::put_out(&text[..used], b"tape_printer: standard output") {
+        now.over = true;
+    }
+    now
+}
+
+// Writes out the gathered lines if there is no room behind them for those of any frame.
+fn with_room(stand: Stand, text: &[u8]) -> Stand {
+    if LONGEST_LINES <= text.len() - stand.used {
+        return stand;
+    }
+    flush(stand, text)
+}
+
+// Plays one frame, its lines behind those that are gathered.
+fn play_one(
+    stand: Stand,
+    tape: &[u8],
+    columns: &mut [u32],
+    positions: &mut [u32],
+    lower_ends: &mut [u32],
+    bytes: &mut [u8],
+    text: &mut [u8],
+) -> Stand {
+    let now = with_room(stand, text);
+    let used = now.used;
+    let head = now.head;
+    let watches = now.watches;
+    let step = tape::play(
+        tape,
+        now.place,
+        head,
+        columns,
+        positions,
+        lower_ends,
+        watches,
+        bytes,
+        &mut text[used..],
+    );
+    let next_head = step.head;
+    let next_watches = step.watches;
+    Stand {
+        head: next_head,
+        watches: next_watches,
+        place: step.next,
+        end: now.end,
+        used: used + step.count,
+        over: now.over | step.over,
+    }
+}
+
+// Whether a frame can be played before more of the tape has come.
+fn plays(stand: Stand, tape: &[u8]) -> bool {
+    if stand.over {
+        return false;
+    }
+    tape::ready(tape, stand.place)
+}
+
+// Plays every frame of this piece of the tape that has come whole.
 fn play_piece(
     stand: Stand,
     tape: &[u8],
@@ -33,17 +91,14 @@ fn play_piece(
 ) -> Stand {
     let mut now = stand;
     let mut turns = tape.len();
-    while 0 < turns && gathering::plays(now, tape) {
+    while 0 < turns && plays(now, tape) {
         turns -= 1;
-        now = gathering::gather(now, tape, columns, positions, lower_ends, bytes, text);
-        if gathering::plays(now, tape) {
-            now = flush(now, text);
-        }
+        now = play_one(now, tape, columns, positions, lower_ends, bytes, text);
     }
     now
 }
 
-// Writes the lines out, reads on behind the part of a frame that is left, and plays what came; at the input's end, what is left.
+// Writes out the lines, reads on behind the begun frame, and plays what came; at the input's end, what is left.
 fn read_on(
     stand: Stand,
     tape: &mut [u8],
@@ -57,17 +112,14 @@ fn read_on(
     if now.over {
         return now;
     }
-    let rest = moving::to_front(tape, now.place, now.end);
-    let got = libc::read(STDIN_FILENO, &mut tape[rest..]);
-    if got < 0 {
-        os::fail(b"tape_printer: standard input");
-        return now.stopped();
-    }
-    let end = rest + io::count(got, &tape[rest..]);
+    let rest = now.end - now.place;
+    streams::to_front(tape, now.place, now.end);
+    let came = streams::take_in(&mut tape[rest..], b"tape_printer: standard input");
+    let end = rest + came.count;
     now.place = 0;
     now.end = end;
-    if got == 0 {
-        let last = gathering::play_one(
+    if came.more {
+        return play_piece(
             now,
             &tape[..end],
             columns,
@@ -76,9 +128,8 @@ fn read_on(
             bytes,
             text,
         );
-        return last.stopped();
     }
-    play_piece(
+    now = play_one(
         now,
         &tape[..end],
         columns,
@@ -86,7 +137,9 @@ fn read_on(
         lower_ends,
         bytes,
         text,
-    )
+    );
+    now.over = true;
+    now
 }
 
 fn main() {
