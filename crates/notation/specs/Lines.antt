@@ -2,7 +2,7 @@
 use Prim.Native.Nat.{ℕ, zero, suc}
 use mathlib.Core.Bool.{Bool, true, false, _&&_, _||_, not, cond}
 use mathlib.Core.List.{List, [], _∷_}
-use lib.Dec.{ltb, leb, eqb}
+use lib.Dec.{ltb, eqb}
 use lib.ListN.{getD}
 use Rattle.head.specs.declared.Refusal.the-variants.{UnknownKind}
 use Rattle.frames.specs.declared.Message.{Message}
@@ -15,17 +15,18 @@ use Rattle.notation.specs.Fields.{noField, fieldsFrom}
 unfoldable pub nothing : Message
 nothing = Refused UnknownKind
 
--- the opening of three numbers that fit its frame
+-- three numbers that fit the frame of an opening
+unfoldable pub opens : Fields → Bool
+opens f =
+    ((eqb (f .count) 3 && ltb (getD (f .numbers) 0 0) 256) && ltb (getD (f .numbers) 1 0) 65536) && ltb (getD (f .numbers) 2 0) 256
+
+-- the opening of three numbers
 unfoldable pub opening : Fields → Message
-opening f =
-    let d = getD (f .numbers) 0 0 in
-    let N = getD (f .numbers) 1 0 in
-    let directions = getD (f .numbers) 2 0 in
-    cond (eqb (f .count) 3 && ltb d 256 && ltb N 65536 && ltb directions 256) (Open d N directions) nothing
+opening f = cond (opens f) (Open (getD (f .numbers) 0 0) (getD (f .numbers) 1 0) (getD (f .numbers) 2 0)) nothing
 
 -- the quote of one to six numbers
 unfoldable pub quoteOf : Fields → Message
-quoteOf f = cond (leb 1 (f .count) && leb (f .count) 6) (Quote (f .count)) nothing
+quoteOf f = cond (ltb (f .count) 1) nothing (cond (ltb 6 (f .count)) nothing (Quote (f .count)))
 
 -- a single number that fits two bytes
 unfoldable pub fits : Fields → Bool

@@ -3,26 +3,31 @@ ghost use mathlib.Core.Path.{_≡_};
 ghost use Prim.Native.Nat.{_+_, _≤_};
 ghost use lib.ListN.{length, drop};
 ghost use Rattle.frames.specs.Writing.{Wrote};
-ghost use Rattle.notation.specs.Lines.{opening, quoteOf, fits, said, saidBy, lineLength};
+ghost use Rattle.notation.specs.Lines.{opens, opening, quoteOf, fits, said, saidBy, lineLength};
 use crate::Fields;
 use crate::Said;
-use crate::fields::fields_from;
+use crate::scanning::fields_from;
 use frames::Message;
 use frames::Written;
 use head::Refusal;
+
+// Whether the fields are three numbers that fit the frame of an opening.
+fn opens(fields: Fields) -> bool
+    ensures { λ r. ⌜ r ≡ opens fields ⌝ }
+{
+    let numbers = fields.numbers;
+    (fields.count == 3) & (numbers[0] < 256) & (numbers[1] < 65536) & (numbers[2] < 256)
+}
 
 // The opening of three numbers.
 fn opening(fields: Fields) -> Message
     ensures { λ r. ⌜ r ≡ opening fields ⌝ }
 {
     let numbers = fields.numbers;
-    let d = numbers[0];
-    let capacity = numbers[1];
-    let directions = numbers[2];
-    if (fields.count == 3) & (d < 256) & (capacity < 65536) & (directions < 256) {
-        return Message::Open(d as u8, capacity as u16, directions as u8);
+    if !opens(fields) {
+        return Message::Refused(Refusal::UnknownKind);
     }
-    Message::Refused(Refusal::UnknownKind)
+    Message::Open(numbers[0] as u8, numbers[1] as u16, numbers[2] as u8)
 }
 
 // The quote of one to six numbers.
@@ -30,10 +35,13 @@ fn quote(fields: Fields) -> Message
     ensures { λ r. ⌜ r ≡ quoteOf fields ⌝ }
 {
     let count = fields.count;
-    if (1 <= count) & (count <= 6) {
-        return Message::Quote(count as u8);
+    if count < 1 {
+        return Message::Refused(Refusal::UnknownKind);
     }
-    Message::Refused(Refusal::UnknownKind)
+    if 6 < count {
+        return Message::Refused(Refusal::UnknownKind);
+    }
+    Message::Quote(count as u8)
 }
 
 // Whether the fields are a single number that fits two bytes.
@@ -106,5 +114,6 @@ pub fn write_line(line: &[u8], out: &mut [u8]) -> Written
 {
     let said = read_line(line);
     let message = said.message;
-    frames::write(message, said.numbers, out)
+    let numbers = said.numbers;
+    frames::write(message, numbers, out)
 }

@@ -1,14 +1,15 @@
 // The fields of a line: a space and a number each, read byte by byte.
 ghost use mathlib.Core.Path.{_≡_};
+ghost use Prim.Native.Nat.{_+_, _*_};
 ghost use lib.ListN.{drop};
 ghost use Rattle.notation.specs.Fields.{noField, unfair, begun, grown, after, fieldsFrom};
+use crate::Fields;
 
-// The fields read so far: whether they are fair, whether the last has no digit yet, how many are begun, and their numbers.
-pub struct Fields {
-    pub fair: bool,
-    pub empty: bool,
-    pub count: usize,
-    pub numbers: [u32; 6],
+// A number with one more digit behind it.
+fn extended(number: u32, digit: u32) -> u64
+    ensures { λ r. ⌜ r ≡ number * 10 + digit ⌝ }
+{
+    number as u64 * 10 + digit as u64
 }
 
 impl Fields {
@@ -43,7 +44,10 @@ impl Fields {
     {
         let count = self.count;
         let numbers = self.numbers;
-        if self.empty | (6 <= count) {
+        if self.empty {
+            return self.unfair();
+        }
+        if 6 <= count {
             return self.unfair();
         }
         Fields {
@@ -61,12 +65,19 @@ impl Fields {
         let count = self.count;
         let empty = self.empty;
         let mut numbers = self.numbers;
-        if (count < 1) | (6 < count) {
+        if count < 1 {
+            return self.unfair();
+        }
+        if 6 < count {
             return self.unfair();
         }
         let last = count - 1;
-        let value = numbers[last] as u64 * 10 + digit as u64;
-        if (!empty & (numbers[last] == 0)) | (4294967295 < value) {
+        let number = numbers[last];
+        if !empty & (number == 0) {
+            return self.unfair();
+        }
+        let value = extended(number, digit);
+        if 4294967295 < value {
             return self.unfair();
         }
         numbers[last] = value as u32;
@@ -88,7 +99,10 @@ impl Fields {
         if byte == 32 {
             return self.begun();
         }
-        if (byte < 48) | (57 < byte) {
+        if byte < 48 {
+            return self.unfair();
+        }
+        if 57 < byte {
             return self.unfair();
         }
         self.grown((byte - 48) as u32)
