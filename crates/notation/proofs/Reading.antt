@@ -7,10 +7,18 @@ use native.Mathlib.Numerals.{add-one}
 use mathlib.Core.Bool.{Bool, true, false, _&&_, _||_, not, cond}
 use mathlib.Core.List.{List, [], _∷_}
 use lib.Dec.{ltb, eqb}
-use lib.ListN.{length, getD, drop, drop-of-length-le}
+use lib.ListN.{length, getD, drop, length-drop, drop-of-length-le}
 use lib.Seq.{drop-cons}
-use borrow.Author.Tests.{lt-ltb, le-ltb, ltb-true, eq-eqb, ne-eqb, not-true, not-false}
+use borrow.Author.Tests.{lt-ltb, le-ltb, ltb-true, ltb-false, eq-eqb, ne-eqb, not-true, not-false}
 use Rattle.lists.proofs.Booleans.{and-left, and-right}
+use Rattle.head.specs.declared.Answer.{Answer}
+use Rattle.head.specs.declared.Answer.the-variants.{Accepted, Refused}
+use Rattle.head.specs.declared.Refusal.the-variants.{UnknownKind, ShortOutput}
+use Rattle.head.specs.Refusals.{settled}
+use Rattle.head.proofs.Answers.{accepted-passed}
+use Rattle.frames.specs.Frames.{framed, frame, writeAnswer, writeReply}
+use Rattle.frames.specs.Writing.{Wrote}
+use Rattle.frames.specs.declared.Written.{Written}
 use Rattle.frames.specs.declared.Message.{Message}
 use Rattle.frames.specs.declared.Message.the-variants.{Quote, Look, Watch, Unwatch, Open}
 use Rattle.notation.specs.declared.Fields.{Fields}
@@ -150,3 +158,29 @@ pub read-some : (line : List ℕ) {f : Fields} {m : Message} → 1 ≤ length li
 unfolding saidBy
 read-some [] h e s = absurd (omega arith)
 read-some (letter ∷ bytes) h e s = rw (s, e)
+
+-- ---- what callers need
+
+-- a line ends within the text
+line-inside : (text : List ℕ) → lineLength text ≤ length text
+unfolding lineLength
+line-inside [] = omega arith
+line-inside (byte ∷ bytes) = go (eqb byte 10) (line-inside bytes)
+  where
+    go : (b : Bool) → lineLength bytes ≤ length bytes → cond b 0 (suc (lineLength bytes)) ≤ suc (length bytes)
+    go true h = omega arith
+    go false h = omega arith
+
+pub end-inside : (text : List ℕ) (place : ℕ) → place ≤ length text → place + lineLength (drop place text) ≤ length text
+end-inside text place h = omega (arith, line-inside (drop place text), length-drop place text)
+
+-- the frame that was written fits the output
+pub wrote-fits : {m : Message} {numbers before after : List ℕ} {r : Written} → Wrote m numbers before r after → r .count ≤ length before
+unfolding writeReply writeAnswer settled
+wrote-fits {m} {numbers} {before} w = rw (w .reply) (go (writeAnswer m numbers (length before)) refl)
+  where
+    go : (a : Answer) → writeAnswer m numbers (length before) ≡ a → settled a (length (frame m numbers)) 0 ≤ length before
+    go Accepted e =
+        let more = accepted-passed (not (framed m)) UnknownKind ((ltb (length before) (length (frame m numbers)), ShortOutput) ∷ []) e in
+        ltb-false (length before) (length (frame m numbers)) (accepted-passed (ltb (length before) (length (frame m numbers))) ShortOutput [] (more .1) .0)
+    go (Refused k) e = omega arith

@@ -1,5 +1,8 @@
 // The tape writer: turns lines of the notation on standard input into a tape on standard output. A line that says no message is named on
 // standard error with its number, and nothing is written for it.
+ghost use mathlib.Core.Path.{_≡_};
+ghost use Prim.Native.Nat.{_+_, _≤_};
+ghost use lib.ListN.{length};
 use head::Answer;
 use libc::STDERR_FILENO;
 use notation::line_end;
@@ -27,7 +30,10 @@ fn name_line(number: u64) {
 }
 
 // Writes out what is gathered; where that fails it is over.
-fn flush(stand: Stand, out: &[u8]) -> Stand {
+fn flush(stand: Stand, out: &[u8]) -> Stand
+    requires { ⌜ stand .used ≤ length (now out) ⌝ }
+    ensures { λ r. ⌜ (r .used ≡ 0) × (r .rest ≡ stand .rest) ⌝ }
+{
     let used = stand.used;
     let mut now = stand;
     now.used = 0;
@@ -38,7 +44,10 @@ fn flush(stand: Stand, out: &[u8]) -> Stand {
 }
 
 // Writes out what is gathered if there is no room behind it for the longest frame.
-fn with_room(stand: Stand, out: &[u8]) -> Stand {
+fn with_room(stand: Stand, out: &[u8]) -> Stand
+    requires { ⌜ stand .used ≤ length (now out) ⌝ }
+    ensures { λ r. ⌜ (r .used ≤ length (now (out .entry))) × (r .rest ≡ stand .rest) ⌝ }
+{
     if LONGEST_FRAME <= out.len() - stand.used {
         return stand;
     }
@@ -46,7 +55,10 @@ fn with_room(stand: Stand, out: &[u8]) -> Stand {
 }
 
 // Lays the frame of a line behind what is gathered, or names the line.
-fn take_line(stand: Stand, line: &[u8], out: &mut [u8]) -> Stand {
+fn take_line(stand: Stand, line: &[u8], out: &mut [u8]) -> Stand
+    requires { ⌜ stand .used ≤ length (now out) ⌝ }
+    ensures { λ r. ⌜ (r .used ≤ length (now (out .entry))) × (r .rest ≡ stand .rest) ⌝ }
+{
     let mut now = with_room(stand, out);
     let used = now.used;
     now.lines = std::num::wrapping_add_u64(now.lines, 1);
@@ -60,7 +72,10 @@ fn take_line(stand: Stand, line: &[u8], out: &mut [u8]) -> Stand {
 }
 
 // Takes the whole lines of the text, and tells in rest how many bytes stand behind them.
-fn take_lines(stand: Stand, text: &[u8], out: &mut [u8]) -> Stand {
+fn take_lines(stand: Stand, text: &[u8], out: &mut [u8]) -> Stand
+    requires { ⌜ stand .used ≤ length (now out) ⌝ }
+    ensures { λ r. ⌜ (r .used ≤ length (now (out .entry))) × (r .rest ≤ length (now (text .entry))) ⌝ }
+{
     let mut now = stand;
     let mut place = 0;
     let mut stop = line_end(text, 0);
@@ -73,13 +88,22 @@ fn take_lines(stand: Stand, text: &[u8], out: &mut [u8]) -> Stand {
     now
 }
 
-// How much is kept of a begun line: enough to show that it is too long.
-fn kept(rest: usize) -> usize {
-    if rest < TOO_LONG { rest } else { TOO_LONG }
+// The end of what is kept of a begun line: enough to show that it is too long.
+fn kept_end(place: usize, end: usize) -> usize
+    requires { ⌜ place ≤ end ⌝ }
+    ensures { λ r. ⌜ (place ≤ r) × (r ≤ end) × (r ≤ place + 68) ⌝ }
+{
+    if TOO_LONG < end - place {
+        return place + TOO_LONG;
+    }
+    end
 }
 
 // Writes out what is gathered, reads on behind the begun line, and takes the lines that came; at the input's end, the begun line.
-fn read_on(stand: Stand, text: &mut [u8], out: &mut [u8]) -> Stand {
+fn read_on(stand: Stand, text: &mut [u8], out: &mut [u8]) -> Stand
+    requires { ⌜ (stand .used ≤ length (now out)) × (stand .rest ≤ 68) × (68 ≤ length (now text)) ⌝ }
+    ensures { λ r. ⌜ (r .used ≤ length (now (out .entry))) × (r .rest ≤ 68) ⌝ }
+{
     let mut now = flush(stand, out);
     if now.over {
         return now;
@@ -90,8 +114,9 @@ fn read_on(stand: Stand, text: &mut [u8], out: &mut [u8]) -> Stand {
     if came.more {
         now = take_lines(now, &text[..end], out);
         let place = end - now.rest;
-        now.rest = kept(now.rest);
-        streams::to_front(text, place, place + now.rest);
+        let stop = kept_end(place, end);
+        streams::to_front(text, place, stop);
+        now.rest = stop - place;
         return now;
     }
     if 0 < end {
