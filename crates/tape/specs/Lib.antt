@@ -2,3 +2,4 @@
 pub mod Print
 pub mod Play
 pub mod Steps
+pub mod Turns

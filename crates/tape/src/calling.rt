@@ -1,13 +1,65 @@
 // The calls that the frames of a tape ask for, each with its lines of print.
+ghost use mathlib.Core.Path.{_≡_};
+ghost use mathlib.Core.List.{List, _++_};
+ghost use Prim.Native.Nat.{ℕ, _+_, _*_, _/_, _≤_};
+ghost use lib.ListN.{length, take};
+ghost use Rattle.calls.specs.Left.{tables};
+ghost use Rattle.head.specs.Refusals.{settled};
+ghost use Rattle.text.specs.Text.{Laid};
+ghost use Rattle.printed.specs.Printed.{changeLines, changesIn};
+ghost use Rattle.tape.specs.Print.{Request, refusalLine};
+ghost use Rattle.tape.specs.Steps.{player, textRoom};
+ghost use Rattle.tape.specs.Turns.{answerLine, made, Turned};
 use crate::Turn;
 use head::Answer;
 use head::Head;
 use head::Refusal;
 
 // Lays the line of a refusal, and returns how many bytes.
-pub fn refuse(refusal: Refusal, text: &mut [u8]) -> usize {
+pub fn refuse(refusal: Refusal, text: &mut [u8]) -> usize
+    requires { ⌜ 13 ≤ length (now text) ⌝ }
+    ensures { λ r. ⌜ Laid (refusalLine refusal) (now (text .entry)) r (now (text .exit)) ⌝ }
+{
     let numbers = [refusal.number()];
     text::put_line(b'R', &numbers, text)
+}
+
+// Lays the line of an accepted call, or that of its refusal, and returns how many bytes.
+fn put_answer(answer: Answer, letter: u8, numbers: &[u32], text: &mut [u8]) -> usize
+    requires { ⌜ (13 ≤ length (now text)) × (2 + 11 * length (now numbers) ≤ length (now text)) ⌝ }
+    ensures { λ r. ⌜ Laid (answerLine answer letter (now (numbers .entry))) (now (text .entry)) r (now (text .exit)) ⌝ }
+{
+    match answer {
+        Answer::Accepted => text::put_line(letter, numbers, text),
+        Answer::Refused(refusal) => refuse(refusal, text),
+    }
+}
+
+// Lays the line of a call's answer, then the lines of the changes in the first count bytes, and returns how many bytes.
+fn put_changed(
+    answer: Answer,
+    letter: u8,
+    numbers: &[u32],
+    bytes: &[u8],
+    count: usize,
+    text: &mut [u8],
+) -> usize
+    requires { ⌜ (length (now numbers) ≤ 2) × ((count ≤ length (now bytes)) × (textRoom (length (now bytes)) ≤ length (now text))) ⌝ }
+    ensures { λ r. ⌜ Laid (answerLine answer letter (now (numbers .entry)) ++ changeLines (changesIn (now (bytes .entry)) (count / 7))) (now (text .entry)) r (now (text .exit)) ⌝ }
+{
+    let line = put_answer(answer, letter, numbers, text);
+    let lines = printed::put_changes(bytes, count, &mut text[line..]);
+    line + lines
+}
+
+// The head after an opening: the fresh one if it was accepted.
+fn opened_head(answer: Answer, fresh: Head, head: Head) -> Head
+    ensures { λ r. ⌜ r ≡ settled answer fresh head ⌝ }
+{
+    match answer {
+        Answer::Accepted => fresh,
+        Answer::Refused(_) => head,
+    }
 }
 
 // Makes an opening, and lays its line.
@@ -21,7 +73,10 @@ pub fn open(
     lower_ends: &mut [u32],
     watches: [u32; 8],
     text: &mut [u8],
-) -> Turn {
+) -> Turn
+    requires { ⌜ 35 ≤ length (now text) ⌝ }
+    ensures { λ r. ⌜ ((bytes : List ℕ) → Turned (made (Request.Open dimensions capacity directions) (player head (tables (now (columns .entry)) (now (positions .entry)) (now («lower_ends» .entry))) watches bytes)) (now (text .entry)) r (tables (now (columns .exit)) (now (positions .exit)) (now («lower_ends» .exit))) bytes (now (text .exit))) ⌝ }
+{
     let opened = calls::open(
         dimensions,
         capacity,
@@ -33,29 +88,15 @@ pub fn open(
     );
     let reply = opened.reply;
     let answer = reply.answer;
-    match answer {
-        Answer::Accepted => {
-            let numbers = [dimensions, capacity, directions];
-            let count = text::put_line(b'O', &numbers, text);
-            Turn {
-                count,
-                head: reply.head,
-                watches: opened.watches,
-            }
-        }
-        Answer::Refused(refusal) => Turn {
-            count: refuse(refusal, text),
-            head,
-            watches: opened.watches,
-        },
+    let fresh = reply.head;
+    let kept = opened.watches;
+    let numbers = [dimensions, capacity, directions];
+    let count = put_answer(answer, b'O', &numbers, text);
+    Turn {
+        count,
+        head: opened_head(answer, fresh, head),
+        watches: kept,
     }
-}
-
-// Lays a line and the lines of the changes in the first count bytes, and returns how many bytes.
-fn put_changed(letter: u8, numbers: &[u32], bytes: &[u8], count: usize, text: &mut [u8]) -> usize {
-    let line = text::put_line(letter, numbers, text);
-    let lines = printed::put_changes(bytes, count, &mut text[line..]);
-    line + lines
 }
 
 // Makes a quote of the first count columns, and lays its line and its changes.
@@ -69,7 +110,10 @@ pub fn quote(
     watches: [u32; 8],
     bytes: &mut [u8],
     text: &mut [u8],
-) -> Turn {
+) -> Turn
+    requires { ⌜ (count ≤ 6) × (textRoom (length (now bytes)) ≤ length (now text)) ⌝ }
+    ensures { λ r. ⌜ Turned (made (Request.Quote (take count quote)) (player head (tables (now (columns .entry)) (now (positions .entry)) (now («lower_ends» .entry))) watches (now (bytes .entry)))) (now (text .entry)) r (tables (now (columns .exit)) (now (positions .exit)) (now («lower_ends» .exit))) (now (bytes .exit)) (now (text .exit)) ⌝ }
+{
     let reply = calls::quote(
         head,
         &quote[..count],
@@ -81,20 +125,11 @@ pub fn quote(
     );
     let answer = reply.answer;
     let next = reply.head;
-    match answer {
-        Answer::Accepted => {
-            let numbers = [next.newest, next.rows];
-            Turn {
-                count: put_changed(b'Q', &numbers, bytes, reply.count, text),
-                head: next,
-                watches,
-            }
-        }
-        Answer::Refused(refusal) => Turn {
-            count: refuse(refusal, text),
-            head: next,
-            watches,
-        },
+    let numbers = [next.newest, next.rows];
+    Turn {
+        count: put_changed(answer, b'Q', &numbers, bytes, reply.count, text),
+        head: next,
+        watches,
     }
 }
 
@@ -106,18 +141,16 @@ pub fn look(
     positions: &[u32],
     lower_ends: &[u32],
     text: &mut [u8],
-) -> usize {
+) -> usize
+    requires { ⌜ 11277 ≤ length (now text) ⌝ }
+    ensures { λ r. ⌜ ((watches bytes : List ℕ) → Laid (made (Request.Look n) (player head (tables (now (columns .entry)) (now (positions .entry)) (now («lower_ends» .entry))) watches bytes) .0) (now (text .entry)) r (now (text .exit))) ⌝ }
+{
     let mut cells = [0u32; 1025];
     let reply = calls::look(head, n, columns, positions, lower_ends, &mut cells[1..]);
     let answer = reply.answer;
-    match answer {
-        Answer::Accepted => {
-            cells[0] = n;
-            let end = reply.count + 1;
-            text::put_line(b'L', &cells[..end], text)
-        }
-        Answer::Refused(refusal) => refuse(refusal, text),
-    }
+    cells[0] = n;
+    let end = reply.count + 1;
+    put_answer(answer, b'L', &cells[..end], text)
 }
 
 // Sets a watch, and lays its line and its joins.
@@ -130,24 +163,20 @@ pub fn watch(
     watches: [u32; 8],
     bytes: &mut [u8],
     text: &mut [u8],
-) -> Turn {
+) -> Turn
+    requires { ⌜ textRoom (length (now bytes)) ≤ length (now text) ⌝ }
+    ensures { λ r. ⌜ Turned (made (Request.Watch n) (player head (tables (now (columns .entry)) (now (positions .entry)) (now («lower_ends» .entry))) watches (now (bytes .entry)))) (now (text .entry)) r (tables (now (columns .entry)) (now (positions .entry)) (now («lower_ends» .entry))) (now (bytes .exit)) (now (text .exit)) ⌝ }
+{
     let watched = calls::watch(head, n, columns, positions, lower_ends, watches, bytes);
     let reply = watched.reply;
     let answer = reply.answer;
-    match answer {
-        Answer::Accepted => {
-            let numbers = [n];
-            Turn {
-                count: put_changed(b'W', &numbers, bytes, reply.count, text),
-                head: reply.head,
-                watches: watched.watches,
-            }
-        }
-        Answer::Refused(refusal) => Turn {
-            count: refuse(refusal, text),
-            head: reply.head,
-            watches: watched.watches,
-        },
+    let next = reply.head;
+    let kept = watched.watches;
+    let numbers = [n];
+    Turn {
+        count: put_changed(answer, b'W', &numbers, bytes, reply.count, text),
+        head: next,
+        watches: kept,
     }
 }
 
@@ -160,24 +189,19 @@ pub fn end(
     lower_ends: &[u32],
     watches: [u32; 8],
     text: &mut [u8],
-) -> Turn {
+) -> Turn
+    requires { ⌜ 13 ≤ length (now text) ⌝ }
+    ensures { λ r. ⌜ ((bytes : List ℕ) → Turned (made (Request.End n) (player head (tables (now (columns .entry)) (now (positions .entry)) (now («lower_ends» .entry))) watches bytes)) (now (text .entry)) r (tables (now (columns .entry)) (now (positions .entry)) (now («lower_ends» .entry))) bytes (now (text .exit))) ⌝ }
+{
     let ended = calls::end(head, n, columns, positions, lower_ends, watches);
     let reply = ended.reply;
     let answer = reply.answer;
-    match answer {
-        Answer::Accepted => {
-            let numbers = [n];
-            let count = text::put_line(b'U', &numbers, text);
-            Turn {
-                count,
-                head: reply.head,
-                watches: ended.watches,
-            }
-        }
-        Answer::Refused(refusal) => Turn {
-            count: refuse(refusal, text),
-            head: reply.head,
-            watches: ended.watches,
-        },
+    let next = reply.head;
+    let kept = ended.watches;
+    let numbers = [n];
+    Turn {
+        count: put_answer(answer, b'U', &numbers, text),
+        head: next,
+        watches: kept,
     }
 }

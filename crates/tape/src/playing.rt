@@ -1,6 +1,11 @@
 // The player: reads the frame at a place, judges its place on the tape, makes its call, and lays its lines.
+ghost use mathlib.Core.Path.{_≡_};
+ghost use Prim.Native.Nat.{_≤_};
+ghost use lib.Dec.{ltb};
+ghost use lib.ListN.{length};
 ghost use Rattle.calls.specs.Left.{tables};
-ghost use Rattle.tape.specs.Steps.{player, Stepped};
+ghost use Rattle.tape.specs.Steps.{player, textRoom, Stepped};
+ghost use Rattle.tape.specs.Turns.{outOfPlace, placed, columnCount, taken, Turned};
 use crate::Step;
 use crate::Turn;
 use crate::calling;
@@ -11,7 +16,9 @@ use head::Head;
 use head::Refusal;
 
 // Whether a text of this length is too short for the lines of some frame, with so many bytes for changes.
-fn short_text(bytes: usize, text: usize) -> bool {
+fn short_text(bytes: usize, text: usize) -> bool
+    ensures { λ r. ⌜ r ≡ ltb text (textRoom bytes) ⌝ }
+{
     if text < 11277 {
         return true;
     }
@@ -19,7 +26,9 @@ fn short_text(bytes: usize, text: usize) -> bool {
 }
 
 // Whether the frame of a message is out of place (01: 7).
-fn misplaced(begun: bool, message: Message) -> bool {
+fn misplaced(begun: bool, message: Message) -> bool
+    ensures { λ r. ⌜ r ≡ outOfPlace begun message ⌝ }
+{
     match message {
         Message::Open(_, _, _) => begun,
         Message::Quote(_) => !begun,
@@ -33,13 +42,14 @@ fn misplaced(begun: bool, message: Message) -> bool {
     }
 }
 
-// Whether a message ends the tape.
-fn ends(message: Message) -> bool {
-    match message {
-        Message::End => true,
-        Message::Refused(_) => true,
-        _ => false,
+// A message in its place, or the refusal of one that is not.
+fn placed(begun: bool, message: Message) -> Message
+    ensures { λ r. ⌜ r ≡ placed begun message ⌝ }
+{
+    if misplaced(begun, message) {
+        return Message::Refused(Refusal::OutOfPlace);
     }
+    message
 }
 
 // Makes the call of a message that is in its place, and lays its lines.
@@ -53,7 +63,10 @@ fn take(
     watches: [u32; 8],
     bytes: &mut [u8],
     text: &mut [u8],
-) -> Turn {
+) -> Turn
+    requires { ⌜ (columnCount message ≤ 6) × (textRoom (length (now bytes)) ≤ length (now text)) ⌝ }
+    ensures { λ r. ⌜ Turned (taken message quote (player head (tables (now (columns .entry)) (now (positions .entry)) (now («lower_ends» .entry))) watches (now (bytes .entry)))) (now (text .entry)) r (tables (now (columns .exit)) (now (positions .exit)) (now («lower_ends» .exit))) (now (bytes .exit)) (now (text .exit)) ⌝ }
+{
     match message {
         Message::Quote(k) => calling::quote(
             head,
@@ -114,7 +127,8 @@ fn take(
     }
 }
 
-// Plays the frame at a place of a tape: its lines are laid at the start of the text. A text that may be too short is refused with 13.
+// Plays the frame at a place of a tape: its lines are laid at the start of the text. The tape is over where nothing could be read. A
+// text that may be too short is refused with 13.
 pub fn play(
     tape: &[u8],
     place: usize,
@@ -140,20 +154,10 @@ pub fn play(
     }
     let read = read_at(tape, place);
     let message = read.message;
-    if misplaced(head.settings_hold(), message) {
-        let count = calling::refuse(Refusal::OutOfPlace, text);
-        return Step {
-            answer: Answer::Accepted,
-            over: false,
-            next: read.next,
-            count,
-            head,
-            watches,
-        };
-    }
+    let quote = read.columns;
     let turn = take(
-        message,
-        read.columns,
+        placed(head.settings_hold(), message),
+        quote,
         head,
         columns,
         positions,
@@ -162,12 +166,14 @@ pub fn play(
         bytes,
         text,
     );
+    let next = turn.head;
+    let kept = turn.watches;
     Step {
         answer: Answer::Accepted,
-        over: ends(message),
+        over: read.next == place,
         next: read.next,
         count: turn.count,
-        head: turn.head,
-        watches: turn.watches,
+        head: next,
+        watches: kept,
     }
 }

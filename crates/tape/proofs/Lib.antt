@@ -1,0 +1,7 @@
+-- The laws of the crate.
+pub mod Written
+pub mod Rooms
+pub mod Behind
+pub mod Turning
+pub mod Plays
+pub mod Waits

@@ -1,0 +1,135 @@
+-- What each call of a tape leaves: its lines, from what it answered and wrote, and the player after it.
+use mathlib.Core.Path.{_≡_, refl, sym, ap, subst, _∙_}
+use Prim.Native.Nat.{ℕ, _+_, _/_, _≤_}
+use native.Mathlib.Numerals.{add-one}
+use mathlib.Core.List.{List, [], _∷_, _++_, append-nil}
+use lib.ListN.{length, take, replicate}
+use Rattle.lists.specs.Lists.{flat, run, laid}
+use Rattle.head.specs.declared.Head.{Head}
+use Rattle.head.specs.declared.Answer.{Answer}
+use Rattle.head.specs.declared.Answer.the-variants.{Accepted, Refused}
+use Rattle.head.specs.declared.Reply.{Reply}
+use Rattle.head.specs.Refusals.{settled}
+use Rattle.model.specs.Rows.{Tables}
+use Rattle.model.specs.Book.{replyOf, quoteBytes, quoteReply, lookAnswer, lookReply, watchBytes, watchReply}
+use Rattle.model.specs.Calls.{bookStep}
+use Rattle.calls.specs.Left.{Opened, Quoted, Looked, Watched, Ended}
+use Rattle.text.specs.Text.{line, Laid}
+use Rattle.printed.specs.Printed.{changeLines, changesIn}
+use Rattle.tape.specs.Print.{Request, changesText, linesOf, refusalLine, answerText, textOf}
+use Rattle.tape.specs.Play.{Player, callOf, bytesAfter, bookMake}
+use Rattle.tape.specs.Steps.{player}
+use Rattle.tape.specs.Turns.{answerLine, made, Turned}
+use Rattle.tape.proofs.Written.{changes-written}
+use Rattle.tape.proofs.Rooms.{quote-fits, watch-fits}
+
+-- ---- lines
+
+module _ (answer : Answer) (request : Request) (h : Head) (letter : ℕ) (numbers : List ℕ) where
+  -- the one line of a call that wrote no changes
+  one-line : (written : List ℕ) → linesOf request h written ≡ line letter numbers → answerLine answer letter numbers ≡ answerText answer request h written
+  unfolding answerLine answerText
+  one-line written e = go answer
+    where
+      go : (a : Answer) → answerLine a letter numbers ≡ answerText a request h written
+      go Accepted = sym e
+      go (Refused k) = refl
+
+  -- the lines of a call that wrote changes into bytes
+  changed-lines : (count : ℕ) (bytes : List ℕ) → ((written : List ℕ) → linesOf request h written ≡ line letter numbers ++ changesText written) → settled answer count 0 ≤ length bytes
+      → answerLine answer letter numbers ++ changeLines (changesIn bytes (settled answer count 0 / 7)) ≡ answerText answer request h (take (settled answer count 0) bytes)
+  unfolding answerLine answerText settled changeLines changesIn run flat
+  changed-lines count bytes e fits = go answer fits
+    where
+      go : (a : Answer) → settled a count 0 ≤ length bytes
+          → answerLine a letter numbers ++ changeLines (changesIn bytes (settled a count 0 / 7)) ≡ answerText a request h (take (settled a count 0) bytes)
+      go Accepted h = ap (λ (l : List ℕ). line letter numbers ++ l) (sym (changes-written bytes count h)) ∙ sym (e (take count bytes))
+      go (Refused k) h = append-nil (refusalLine k)
+
+-- a head that stays either way
+same-head : (answer : Answer) (h : Head) → h ≡ settled answer h h
+unfolding settled
+same-head Accepted h = refl
+same-head (Refused k) h = refl
+
+-- the same lines laid
+laid-as : {lines lines' before after : List ℕ} {count : ℕ} → lines ≡ lines' → Laid lines before count after → Laid lines' before count after
+laid-as e l = rw (← e) l
+
+-- ---- calls
+module _ (h : Head) (t : Tables) (ws bytes : List ℕ) where
+  abbrev k : Player
+  k = player h t ws bytes
+
+  module _ {before after : List ℕ} {count : ℕ} where
+    -- an opening
+    pub open-turned : (d N directions : ℕ) {r : Reply} {t' : Tables} {ws' : List ℕ} {next : Head} → Opened d N directions t ws r t' ws' → next ≡ settled (r .answer) (r .head) h
+        → Laid (answerLine (r .answer) 79 (d ∷ N ∷ directions ∷ [])) before count after
+        → Turned (made (Request.Open d N directions) k) before (record { count = count; head = next; watches = ws' }) t' bytes after
+    unfolding made bookMake callOf bytesAfter bookStep textOf linesOf
+    open-turned d N directions {r} o e l =
+        let lines : answerLine (r .answer) 79 (d ∷ N ∷ directions ∷ []) ≡ made (Request.Open d N directions) k .0 = rw (o .reply) (one-line _ (Request.Open d N directions) _ 79 (d ∷ N ∷ directions ∷ []) _ refl) in
+        let all = laid-as lines l in
+        record {
+          count = all .counted;
+          head = e ∙ ap (λ (r : Reply). settled (r .answer) (r .head) h) (o .reply);
+          watches = o .watches;
+          lent = o .lent;
+          bytes = refl;
+          text = all .text;
+        }
+
+    -- a quote
+    pub quote-turned : (x : List ℕ) {r : Reply} {t' : Tables} {bytes' : List ℕ} → Quoted h x t ws bytes r t' bytes' → length bytes' ≡ length bytes
+        → Laid (answerLine (r .answer) 81 (r .head .newest ∷ r .head .rows ∷ []) ++ changeLines (changesIn bytes' (r .count / 7))) before count after
+        → Turned (made (Request.Quote x) k) before (record { count = count; head = r .head; watches = ws }) t' bytes' after
+    unfolding made bookMake callOf bytesAfter bookStep textOf linesOf quoteReply replyOf
+    quote-turned x {r} {t'} {bytes'} q long l =
+        let reply = quoteReply h x t ws (length bytes) in
+        let numbers = reply .head .newest ∷ reply .head .rows ∷ [] in
+        let fits : reply .count ≤ length bytes' = rw long (subst (λ (r : Reply). r .count ≤ length bytes) (q .reply) (quote-fits q)) in
+        let lines : answerLine (r .answer) 81 (r .head .newest ∷ r .head .rows ∷ []) ++ changeLines (changesIn bytes' (r .count / 7)) ≡ made (Request.Quote x) k .0 =
+        rw (q .reply, ← (q .out)) (changed-lines (reply .answer) (Request.Quote x) (reply .head) 81 numbers (length (quoteBytes h x t ws)) bytes' (λ w. refl) fits) in
+        let all = laid-as lines l in
+        record { count = all .counted; head = ap (λ (r : Reply). r .head) (q .reply); watches = refl; lent = q .lent; bytes = q .out; text = all .text }
+
+    -- a watch
+    pub watch-turned : (n : ℕ) {r : Reply} {ws' bytes' : List ℕ} → Watched h n t ws bytes r ws' bytes' → length bytes' ≡ length bytes
+        → Laid (answerLine (r .answer) 87 (n ∷ []) ++ changeLines (changesIn bytes' (r .count / 7))) before count after
+        → Turned (made (Request.Watch n) k) before (record { count = count; head = r .head; watches = ws' }) t bytes' after
+    unfolding made bookMake callOf bytesAfter bookStep textOf linesOf watchReply replyOf
+    watch-turned n {r} {ws'} {bytes'} w long l =
+        let reply = watchReply h n t ws (length bytes) in
+        let fits : reply .count ≤ length bytes' = rw long (subst (λ (r : Reply). r .count ≤ length bytes) (w .reply) (watch-fits w)) in
+        let lines : answerLine (r .answer) 87 (n ∷ []) ++ changeLines (changesIn bytes' (r .count / 7)) ≡ made (Request.Watch n) k .0 =
+        rw (w .reply, ← (w .out)) (changed-lines (reply .answer) (Request.Watch n) (reply .head) 87 (n ∷ []) (length (watchBytes h n t ws)) bytes' (λ w. refl) fits) in
+        let all = laid-as lines l in
+        record { count = all .counted; head = ap (λ (r : Reply). r .head) (w .reply); watches = w .watches; lent = refl; bytes = w .out; text = all .text }
+
+    -- the end of a watch
+    pub end-turned : (n : ℕ) {r : Reply} {ws' : List ℕ} → Ended h n t ws r ws' → Laid (answerLine (r .answer) 85 (n ∷ [])) before count after
+        → Turned (made (Request.End n) k) before (record { count = count; head = r .head; watches = ws' }) t bytes after
+    unfolding made bookMake callOf bytesAfter bookStep textOf linesOf
+    end-turned n {r} e l =
+        let lines : answerLine (r .answer) 85 (n ∷ []) ≡ made (Request.End n) k .0 = rw (e .reply) (one-line _ (Request.End n) _ 85 (n ∷ []) _ refl) in
+        let all = laid-as lines l in
+        record { count = all .counted; head = ap (λ (r : Reply). r .head) (e .reply); watches = e .watches; lent = refl; bytes = refl; text = all .text }
+
+    -- the line of a look, whose positions stand in cells behind n
+    pub look-laid : (n : ℕ) {r : Reply} {cells : List ℕ} → Looked h n t (replicate 1024 0) r cells
+        → Laid (answerLine (r .answer) 76 (take (r .count + 1) (n ∷ (cells ++ [])))) before count after → Laid (made (Request.Look n) k .0) before count after
+    unfolding made bookMake callOf bytesAfter bookStep textOf linesOf
+    look-laid n {r} {cells} o l =
+        let lines : answerLine (r .answer) 76 (n ∷ take (r .count) cells) ≡ made (Request.Look n) k .0 = rw (o .reply, o .out) (one-line _ (Request.Look n) _ 76 _ _ refl) in
+        laid-as lines (rw (add-one (r .count), append-nil cells) at l)
+
+    -- a look leaves the player as it was
+    pub look-turned : (n : ℕ) → Laid (made (Request.Look n) k .0) before count after
+        → Turned (made (Request.Look n) k) before (record { count = count; head = h; watches = ws }) t bytes after
+    unfolding made bookMake callOf bytesAfter bookStep lookReply replyOf
+    look-turned n l =
+        record { count = l .counted; head = same-head (lookAnswer h n t 1024) h; watches = refl; lent = refl; bytes = refl; text = l .text }
+
+    -- lines without a call
+    pub still-turned : {lines : List ℕ} → Laid lines before count after → Turned (lines, k) before (record { count = count; head = h; watches = ws }) t bytes after
+    still-turned l = record { count = l .counted; head = refl; watches = refl; lent = refl; bytes = refl; text = l .text }
