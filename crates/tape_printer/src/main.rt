@@ -1,0 +1,174 @@
+// The tape printer: plays the tape on standard input, and prints it on standard output. It keeps one piece of the tape at a time.
+use head::Head;
+
+// How many bytes of text the lines of any frame fit in.
+const LONGEST_LINES: usize = 208077;
+
+// Where the printer stands: the head and the watches of the book, the place of the next frame and the end of what has come of the tape,
+// how many bytes of text are gathered, and whether the tape is over.
+struct Stand {
+    head: Head,
+    watches: [u32; 8],
+    place: usize,
+    end: usize,
+    used: usize,
+    over: bool,
+}
+
+// Writes out the gathered lines; where that fails the tape is over.
+fn flush(stand: Stand, text: &[u8]) -> Stand {
+    let used = stand.used;
+    let mut now = stand;
+    now.used = 0;
+    if !streams::put_out(&text[..used], b"tape_printer: standard output") {
+        now.over = true;
+    }
+    now
+}
+
+// Writes out the gathered lines if there is no room behind them for those of any frame.
+fn with_room(stand: Stand, text: &[u8]) -> Stand {
+    if LONGEST_LINES <= text.len() - stand.used {
+        return stand;
+    }
+    flush(stand, text)
+}
+
+// Plays one frame, its lines behind those that are gathered.
+fn play_one(
+    stand: Stand,
+    tape: &[u8],
+    columns: &mut [u32],
+    positions: &mut [u32],
+    lower_ends: &mut [u32],
+    bytes: &mut [u8],
+    text: &mut [u8],
+) -> Stand {
+    let now = with_room(stand, text);
+    let used = now.used;
+    let head = now.head;
+    let watches = now.watches;
+    let step = tape::play(
+        tape,
+        now.place,
+        head,
+        columns,
+        positions,
+        lower_ends,
+        watches,
+        bytes,
+        &mut text[used..],
+    );
+    let next_head = step.head;
+    let next_watches = step.watches;
+    Stand {
+        head: next_head,
+        watches: next_watches,
+        place: step.next,
+        end: now.end,
+        used: used + step.count,
+        over: now.over | step.over,
+    }
+}
+
+// Whether a frame can be played before more of the tape has come.
+fn plays(stand: Stand, tape: &[u8]) -> bool {
+    if stand.over {
+        return false;
+    }
+    tape::ready(tape, stand.place)
+}
+
+// Plays every frame of this piece of the tape that has come whole.
+fn play_piece(
+    stand: Stand,
+    tape: &[u8],
+    columns: &mut [u32],
+    positions: &mut [u32],
+    lower_ends: &mut [u32],
+    bytes: &mut [u8],
+    text: &mut [u8],
+) -> Stand {
+    let mut now = stand;
+    let mut turns = tape.len();
+    while 0 < turns && plays(now, tape) {
+        turns -= 1;
+        now = play_one(now, tape, columns, positions, lower_ends, bytes, text);
+    }
+    now
+}
+
+// Writes out the lines, reads on behind the begun frame, and plays what came; at the input's end, what is left.
+fn read_on(
+    stand: Stand,
+    tape: &mut [u8],
+    columns: &mut [u32],
+    positions: &mut [u32],
+    lower_ends: &mut [u32],
+    bytes: &mut [u8],
+    text: &mut [u8],
+) -> Stand {
+    let mut now = flush(stand, text);
+    if now.over {
+        return now;
+    }
+    let rest = now.end - now.place;
+    streams::to_front(tape, now.place, now.end);
+    let came = streams::take_in(&mut tape[rest..], b"tape_printer: standard input");
+    let end = rest + came.count;
+    now.place = 0;
+    now.end = end;
+    if came.more {
+        return play_piece(
+            now,
+            &tape[..end],
+            columns,
+            positions,
+            lower_ends,
+            bytes,
+            text,
+        );
+    }
+    now = play_one(
+        now,
+        &tape[..end],
+        columns,
+        positions,
+        lower_ends,
+        bytes,
+        text,
+    );
+    now.over = true;
+    now
+}
+
+fn main() {
+    let mut columns = [0u32; 6144];
+    let mut positions = [0u32; 1024];
+    let mut lower_ends = [0u32; 1024];
+    let mut bytes = [0u8; 57400];
+    let mut tape = [0u8; 65536];
+    let mut text = [0u8; 273613];
+    let mut stand = Stand {
+        head: Head::fresh(0, 0, 0),
+        watches: [0; 8],
+        place: 0,
+        end: 0,
+        used: 0,
+        over: false,
+    };
+    let mut turns = u64::MAX;
+    while 0 < turns && !stand.over {
+        turns -= 1;
+        stand = read_on(
+            stand,
+            &mut tape,
+            &mut columns,
+            &mut positions,
+            &mut lower_ends,
+            &mut bytes,
+            &mut text,
+        );
+    }
+    flush(stand, &text);
+}
