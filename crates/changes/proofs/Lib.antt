@@ -7,3 +7,4 @@ pub mod Records
 pub mod Watching
 pub mod Distinct
 pub mod Quoting
+pub mod Places

@@ -1,0 +1,217 @@
+-- Laws of the next place that passes a test, and of a table halved.
+use mathlib.Core.Path.{_≡_, refl, sym, ap, _∙_}
+use mathlib.Core.Logic.{_⊎_, inl, inr}
+use Prim.Native.Nat.{ℕ, zero, suc, _+_, _-_, _≤_, _<_}
+use native.Mathlib.Nat.{zero-add}
+use native.Mathlib.Numerals.{add-one}
+use native.Mathlib.Decide.{decLt}
+use native.Mathlib.Omega.{arith}
+use mathlib.Core.Bool.{Bool, true, false, _||_, not, cond}
+use mathlib.Core.List.{List, [], _∷_, _++_, append-nil}
+use lib.Dec.{leb, eqb}
+use lib.ListN.{length, getD, set, take, length-append, length-set}
+use lib.Seq.{take-set-le, take-suc-set}
+use mir.Val.{boolByte}
+use borrow.Author.Tests.{lt-leb, le-leb, eq-eqb, ne-eqb}
+use Rattle.lists.specs.Lists.{keep, filter, any, run}
+use Rattle.lists.proofs.Filters.{any-append, filter-append}
+use Rattle.lists.proofs.Runs.{run-snoc, none-any, order}
+use Rattle.changes.specs.Sought.{nextOf, nextPlace, nextEqual, firstFrom, removedPlaces, Rises}
+
+-- i of the 32 places from `from` on are tested
+pub record Tested (test : ℕ → Bool) (from : ℕ) (found : Bool) (i : ℕ) : Type 0 where
+  pub within : i ≤ 32
+  pub some : found ≡ any test (run from i)
+
+pub tested-start : (test : ℕ → Bool) (from : ℕ) → Tested test from false 0
+unfolding any run
+tested-start test from = record { within = omega arith; some = refl }
+
+pub tested-more : {test : ℕ → Bool} {from i : ℕ} {found b : Bool} → Tested test from found i → i < 32 → b ≡ test (from + i) → Tested test from (found || b) (i + 1)
+unfolding any
+tested-more {test} {from} {i} {found} {b} v h q =
+    record { within = omega arith; some = rw (add-one, run-snoc, any-append, ← v .some, ← q) (ends found b) }
+  where
+    ends : (a b : Bool) → a || b ≡ a || (b || false)
+    ends true b = refl
+    ends false true = refl
+    ends false false = refl
+
+pub tested-all : {test : ℕ → Bool} {from i : ℕ} {found : Bool} → Tested test from found i → 32 ≤ i → found ≡ any test (run from 32)
+tested-all {i = i} v h = let e : 32 ≡ i = omega (arith, v .within) in rw e (v .some)
+
+module _ (test : ℕ → Bool) where
+  module _ (z : ℕ) where
+    low : (i k : ℕ) → i + k ≤ z → i ≤ nextOf test z i k
+    unfolding nextOf
+    low i zero h = omega arith
+    low i (suc k) h = go (test i) (low (suc i) k (omega arith))
+      where
+        go : (b : Bool) → suc i ≤ nextOf test z (suc i) k → i ≤ cond b i (nextOf test z (suc i) k)
+        go true l = omega arith
+        go false l = omega arith
+
+    high : (i k : ℕ) → i + k ≤ z → nextOf test z i k ≤ z
+    unfolding nextOf
+    high i zero h = omega arith
+    high i (suc k) h = go (test i) (high (suc i) k (omega arith))
+      where
+        go : (b : Bool) → nextOf test z (suc i) k ≤ z → cond b i (nextOf test z (suc i) k) ≤ z
+        go true l = omega arith
+        go false l = l
+
+    gap : (i k q : ℕ) → i ≤ q → q < i + k → q < nextOf test z i k → test q ≡ false
+    unfolding nextOf
+    gap i zero q u v w = absurd (omega arith)
+    gap i (suc k) q u v w = go (test i) refl w (order i q) (λ h l. gap (suc i) k q h (omega arith) l)
+      where
+        go : (b : Bool) → test i ≡ b → q < cond b i (nextOf test z (suc i) k) → (i < q) ⊎ ((i ≡ q) ⊎ (q < i)) → (suc i ≤ q → q < nextOf test z (suc i) k → test q ≡ false) → test q ≡ false
+        go true e l o later = absurd (omega arith)
+        go false e l (inl h) later = later h l
+        go false e l (inr (inl h)) later = rw (← h) e
+        go false e l (inr (inr h)) later = absurd (omega arith)
+
+  module _ (count : ℕ) where
+    -- the next place from i on, where i is not past count
+    pub next-from : (i : ℕ) → i ≤ count → i ≤ nextPlace test count i
+    unfolding nextPlace
+    next-from i h = low count i (count - i) (omega arith)
+
+    pub next-within : (i : ℕ) → i ≤ count → nextPlace test count i ≤ count
+    unfolding nextPlace
+    next-within i h = high count i (count - i) (omega arith)
+
+    -- no place before it passes
+    pub next-gap : (i q : ℕ) → i ≤ q → q < count → q < nextPlace test count i → test q ≡ false
+    unfolding nextPlace
+    next-gap i q u v w = gap count i (count - i) q u (omega arith) w
+
+    pub next-past : (i : ℕ) → count ≤ i → nextPlace test count i ≡ count
+    unfolding nextPlace nextOf
+    next-past i h = let e : count - i ≡ 0 = omega arith in rw e refl
+
+    pub next-here : (i : ℕ) → i < count → test i ≡ true → nextPlace test count i ≡ i
+    unfolding nextPlace nextOf
+    next-here i h t = let e : count - i ≡ suc (count - suc i) = omega arith in rw (e, t) refl
+
+    -- a place that does not pass is passed over
+    pub next-pass : (i : ℕ) → test i ≡ false → nextPlace test count i ≡ nextPlace test count (i + 1)
+    unfolding nextPlace nextOf
+    next-pass i t = go (decLt i count)
+      where
+        go : Dec (i < count) → nextPlace test count i ≡ nextPlace test count (i + 1)
+        go (yes h) = let e : count - i ≡ suc (count - suc i) = omega arith in rw (e, t, add-one) refl
+        go (no h) = next-past i (omega arith) ∙ sym (next-past (i + 1) (omega arith))
+
+    -- so are places none of which passes
+    pub next-skip : (i m : ℕ) → ((q : ℕ) → i ≤ q → q < i + m → test q ≡ false) → nextPlace test count i ≡ nextPlace test count (i + m)
+    next-skip i zero h = let e : i ≡ i + 0 = omega arith in ap (nextPlace test count) e
+    next-skip i (suc m) h =
+        let e : i + m + 1 ≡ i + suc m = omega arith in
+        next-skip i m (λ q u v. h q u (omega arith)) ∙ next-pass (i + m) (h (i + m) (omega arith) (omega arith)) ∙ ap (nextPlace test count) e
+
+    -- the place before which none passes, and which passes if it is below count
+    pub next-is : (r : ℕ) → r ≤ count → ((q : ℕ) → q < r → test q ≡ false) → (r < count → test r ≡ true) → nextPlace test count 0 ≡ r
+    next-is r h none some = rw zero-add at (next-skip 0 r (λ q u v. none q (rw zero-add at v))) ∙ go (decLt r count)
+      where
+        go : Dec (r < count) → nextPlace test count r ≡ r
+        go (yes l) = next-here r l (some l)
+        go (no l) = next-past r (omega arith) ∙ omega arith
+
+-- the next cell that is x
+module _ (cells : List ℕ) (x count i : ℕ) where
+  pub equal-past : count ≤ i → count ≡ nextEqual cells x count i
+  unfolding nextEqual
+  equal-past h = sym (next-past (λ k. eqb (getD cells k 0) x) count i h)
+
+  pub equal-here : i < count → getD cells i 0 ≡ x → i ≡ nextEqual cells x count i
+  unfolding nextEqual
+  equal-here h e = sym (next-here (λ k. eqb (getD cells k 0) x) count i h (eq-eqb (getD cells i 0) x e))
+
+  pub equal-pass : (getD cells i 0 ≡ x → ⊥) → nextEqual cells x count (i + 1) ≡ nextEqual cells x count i
+  unfolding nextEqual
+  equal-pass e = sym (next-pass (λ k. eqb (getD cells k 0) x) count i (ne-eqb (getD cells i 0) x e))
+
+  pub equal-skip : {found : Bool} → found ≡ any (λ k. eqb (getD cells k 0) x) (run i 32) → found ≡ false → nextEqual cells x count (i + 32) ≡ nextEqual cells x count i
+  unfolding nextEqual
+  equal-skip e f = sym (next-skip (λ k. eqb (getD cells k 0) x) count i 32 (none-any (λ k. eqb (getD cells k 0) x) i 32 (sym e ∙ f)))
+
+-- below low the positions are below start, and from high on they are not
+pub record Halved (positions : List ℕ) (start count low high : ℕ) : Type 0 where
+  pub ordered : low ≤ high
+  pub within : high ≤ count
+  pub below : (q : ℕ) → q < low → getD positions q 0 < start
+  pub above : (q : ℕ) → high ≤ q → q < count → start ≤ getD positions q 0
+
+pub halved-start : (positions : List ℕ) (start count : ℕ) → Halved positions start count 0 count
+halved-start positions start count = record { ordered = omega arith; within = omega arith; below = λ q h. absurd (omega arith); above = λ q u v. absurd (omega arith) }
+
+module _ {positions : List ℕ} {start count low high middle : ℕ} (v : Halved positions start count low high) (r : Rises positions count) (l : low ≤ middle) (h : middle < high) where
+  pub halved-low : getD positions middle 0 < start → Halved positions start count (middle + 1) high
+  halved-low b = record { ordered = omega arith; within = v .within; below = λ q u. at q u (order q middle); above = v .above }
+    where
+      at : (q : ℕ) → q < middle + 1 → (q < middle) ⊎ ((q ≡ middle) ⊎ (middle < q)) → getD positions q 0 < start
+      at q u (inl o) = omega (arith, r .rise q middle o (omega (arith, v .within)))
+      at q u (inr (inl o)) = rw o b
+      at q u (inr (inr o)) = absurd (omega arith)
+
+  pub halved-high : start ≤ getD positions middle 0 → Halved positions start count low middle
+  halved-high b = record { ordered = l; within = omega (arith, v .within); below = v .below; above = λ q u w. at q u w (order q middle) }
+    where
+      at : (q : ℕ) → middle ≤ q → q < count → (q < middle) ⊎ ((q ≡ middle) ⊎ (middle < q)) → start ≤ getD positions q 0
+      at q u w (inl o) = absurd (omega arith)
+      at q u w (inr (inl o)) = rw o b
+      at q u w (inr (inr o)) = omega (arith, r .rise middle q o w)
+
+pub halved-all : {positions : List ℕ} {start count low high : ℕ} → Halved positions start count low high → high ≤ low → low ≡ firstFrom positions start count
+unfolding firstFrom
+halved-all {positions} {start} {count} {low} {high} v h =
+    sym
+    (next-is (λ k. leb start (getD positions k 0)) count low (omega (arith, v .ordered, v .within)) (λ q u. lt-leb start (getD positions q 0) (v .below q u))
+    (λ u. le-leb start (getD positions low 0) (v .above low h u)))
+
+-- one more place, listed if its row does not stay
+removed-more : (kept : List Bool) (i : ℕ) → removedPlaces kept (i + 1) ≡ removedPlaces kept i ++ keep (not (getD kept i false)) i []
+unfolding removedPlaces filter
+removed-more kept i = rw (add-one, run-snoc, zero-add, filter-append)
+
+-- the places below i whose rows do not stay are listed at the front
+pub record Removing (kept : List Bool) (count : ℕ) (entry removed : List ℕ) (n i : ℕ) : Type 0 where
+  pub within : i ≤ count
+  pub few : n ≤ i
+  pub long : length removed ≡ length entry
+  pub sum : n ≡ length (removedPlaces kept i)
+  pub front : take n removed ≡ removedPlaces kept i
+
+pub removing-start : (kept : List Bool) (count : ℕ) (removed : List ℕ) → Removing kept count removed removed 0 0
+unfolding removedPlaces filter run
+removing-start kept count removed = record { within = omega arith; few = omega arith; long = refl; sum = refl; front = refl }
+
+pub removing-more : {kept : List Bool} {count : ℕ} {entry removed : List ℕ} {n i : ℕ} → Removing kept count entry removed n i → i < count → count ≤ length entry → {b : Bool}
+    → b ≡ getD kept i false → Removing kept count entry (set removed n i) (n + boolByte (not b)) (i + 1)
+removing-more {kept} {count} {entry} {removed} {n} {i} v h k {b} e = go b e
+  where
+    go : (b : Bool) → b ≡ getD kept i false → Removing kept count entry (set removed n i) (n + boolByte (not b)) (i + 1)
+    go true q =
+        let same : removedPlaces kept (i + 1) ≡ removedPlaces kept i = rw (removed-more kept i, ← q, append-nil) in
+        let none : n + boolByte (not true) ≡ n = omega arith in
+        record {
+          within = omega arith;
+          few = omega (arith, v .few);
+          long = rw length-set (v .long);
+          sum = rw (same, none) (v .sum);
+          front = rw (same, none) (take-set-le n removed n i (omega arith) ∙ v .front);
+        }
+    go false q =
+        let more : removedPlaces kept (i + 1) ≡ removedPlaces kept i ++ (i ∷ []) = rw (removed-more kept i, ← q) in
+        record {
+          within = omega arith;
+          few = omega (arith, v .few);
+          long = rw length-set (v .long);
+          sum = rw (more, length-append, ← v .sum);
+          front = rw (more, add-one, ← v .front) (take-suc-set removed n i (omega (arith, v .few, v .long)));
+        }
+
+pub removing-all : {kept : List Bool} {count : ℕ} {entry removed : List ℕ} {n i : ℕ} → Removing kept count entry removed n i → count ≤ i
+    → (n ≡ length (removedPlaces kept count)) × (take n removed ≡ removedPlaces kept count)
+removing-all {count = count} {i = i} v h = let e : count ≡ i = omega (arith, v .within) in rw e (v .sum, v .front)

@@ -1,0 +1,91 @@
+// Places sought in the tables: the next cell of a value, by blocks of 32; a window's first row, by halving; the rows that do not stay.
+ghost use mathlib.Core.Path.{_≡_};
+ghost use Prim.Native.Nat.{_+_, _≤_};
+ghost use lib.Dec.{eqb};
+ghost use lib.ListN.{length, getD, take};
+ghost use Rattle.lists.specs.Lists.{any, run};
+ghost use Rattle.changes.specs.Sought.{nextEqual, firstFrom, removedPlaces, Rises};
+
+// Whether one of the 32 cells from a place on is x.
+fn any_equal(cells: &[u32], from: usize, x: u32) -> bool
+    requires { ⌜ from + 32 ≤ length (now cells) ⌝ }
+    ensures { λ r. ⌜ r ≡ any (λ i. eqb (getD (now (cells .entry)) i 0) x) (run from 32) ⌝ }
+{
+    let mut found = false;
+    let mut i = 0;
+    while i < 32 {
+        found = found | (cells[from + i] == x);
+        i += 1;
+    }
+    found
+}
+
+// Skips blocks of 32 cells that are not x; what is sought from there is what is sought from the start.
+fn skip_unequal(cells: &[u32], from: usize, count: usize, x: u32) -> usize
+    requires { ⌜ count ≤ length (now cells) ⌝ }
+    ensures { λ r. ⌜ nextEqual (now (cells .entry)) x count r ≡ nextEqual (now (cells .entry)) x count from ⌝ }
+{
+    let mut i = from;
+    while i < count {
+        if cells.len() - i < 32 {
+            return i;
+        }
+        if any_equal(cells, i, x) {
+            return i;
+        }
+        i += 32;
+    }
+    i
+}
+
+// The first place from a place on and below count whose cell is x, or count where none is.
+pub fn next_equal(cells: &[u32], from: usize, count: usize, x: u32) -> usize
+    requires { ⌜ count ≤ length (now cells) ⌝ }
+    ensures { λ r. ⌜ r ≡ nextEqual (now (cells .entry)) x count from ⌝ }
+{
+    let mut i = skip_unequal(cells, from, count, x);
+    while i < count {
+        if cells[i] == x {
+            return i;
+        }
+        i += 1;
+    }
+    count
+}
+
+// The first place below count whose position is at least start, or count where none is; positions that rise are halved.
+pub fn first_from(positions: &[u32], count: usize, start: u32) -> usize
+    requires { ⌜ count ≤ length (now positions) ⌝ }
+    requires { ⌜ Rises (now positions) count ⌝ }
+    ensures { λ r. ⌜ r ≡ firstFrom (now (positions .entry)) start count ⌝ }
+{
+    let mut low: usize = 0;
+    let mut high = count;
+    while low < high {
+        let middle = low + (high - low) / 2;
+        if positions[middle] < start {
+            low = middle + 1;
+        } else {
+            high = middle;
+        }
+    }
+    low
+}
+
+// Lists the places below count whose rows do not stay at the front of removed. Returns how many.
+pub fn list_removed(keep: &[bool], count: usize, removed: &mut [u16]) -> usize
+    requires { ⌜ count ≤ length (now keep) ⌝ }
+    requires { ⌜ count ≤ length (now removed) ⌝ }
+    requires { ⌜ count ≤ 1024 ⌝ }
+    ensures { λ r. ⌜ r ≡ length (removedPlaces (now (keep .entry)) count) ⌝ }
+    ensures { λ r. ⌜ take r (now (removed .exit)) ≡ removedPlaces (now (keep .entry)) count ⌝ }
+{
+    let mut n: usize = 0;
+    let mut i: usize = 0;
+    while i < count {
+        removed[n] = i as u16;
+        n += !keep[i] as usize;
+        i += 1;
+    }
+    n
+}
