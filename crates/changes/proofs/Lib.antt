@@ -8,3 +8,6 @@ pub mod Watching
 pub mod Distinct
 pub mod Quoting
 pub mod Places
+pub mod Stepping
+pub mod Leaving
+pub mod Joining

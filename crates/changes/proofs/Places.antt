@@ -14,8 +14,8 @@ use lib.Seq.{take-set-le, take-suc-set}
 use mir.Val.{boolByte}
 use borrow.Author.Tests.{lt-leb, le-leb, eq-eqb, ne-eqb}
 use Rattle.lists.specs.Lists.{keep, filter, any, run}
-use Rattle.lists.proofs.Filters.{any-append, filter-append}
-use Rattle.lists.proofs.Runs.{run-snoc, none-any, order}
+use Rattle.lists.proofs.Filters.{any-append, filter-append, length-filter}
+use Rattle.lists.proofs.Runs.{length-run, run-snoc, none-any, order}
 use Rattle.changes.specs.Sought.{nextOf, nextPlace, nextEqual, firstFrom, removedPlaces, Rises}
 
 -- i of the 32 places from `from` on are tested
@@ -120,6 +120,14 @@ module _ (test : ℕ → Bool) where
 
 -- the next cell that is x
 module _ (cells : List ℕ) (x count i : ℕ) where
+  pub equal-from : i ≤ count → i ≤ nextEqual cells x count i
+  unfolding nextEqual
+  equal-from h = next-from (λ k. eqb (getD cells k 0) x) count i h
+
+  pub equal-within : i ≤ count → nextEqual cells x count i ≤ count
+  unfolding nextEqual
+  equal-within h = next-within (λ k. eqb (getD cells k 0) x) count i h
+
   pub equal-past : count ≤ i → count ≡ nextEqual cells x count i
   unfolding nextEqual
   equal-past h = sym (next-past (λ k. eqb (getD cells k 0) x) count i h)
@@ -174,6 +182,10 @@ halved-all {positions} {start} {count} {low} {high} v h =
 removed-more : (kept : List Bool) (i : ℕ) → removedPlaces kept (i + 1) ≡ removedPlaces kept i ++ keep (not (getD kept i false)) i []
 unfolding removedPlaces filter
 removed-more kept i = rw (add-one, run-snoc, zero-add, filter-append)
+
+pub removed-few : (kept : List Bool) (count : ℕ) → length (removedPlaces kept count) ≤ count
+unfolding removedPlaces
+removed-few kept count = omega (arith, length-filter (λ i. not (getD kept i false)) (run 0 count), length-run 0 count)
 
 -- the places below i whose rows do not stay are listed at the front
 pub record Removing (kept : List Bool) (count : ℕ) (entry removed : List ℕ) (n i : ℕ) : Type 0 where

@@ -3,7 +3,7 @@ use Prim.Native.Nat.{ℕ, zero, suc, _+_, _-_, _≤_, _<_}
 use mathlib.Core.Bool.{Bool, false, not, cond}
 use mathlib.Core.List.{List, map}
 use lib.Dec.{leb, eqb}
-use lib.ListN.{getD}
+use lib.ListN.{length, getD}
 use Rattle.lists.specs.Lists.{filter, run}
 use Rattle.skyline.specs.Skyline.{stabbed}
 use Rattle.changes.specs.declared.Shift.{Shift}
@@ -32,6 +32,10 @@ removedPlaces kept count = filter (λ i. not (getD kept i false)) (run 0 count)
 -- of the rows at these places, the positions of those on the list of the window that starts at start
 unfoldable pub listedOf : ℕ → List ℕ → List ℕ → List ℕ → List ℕ
 listedOf start positions lowers places = map (λ i. getD positions i 0) (filter (λ i. stabbed start (getD lowers i 0) (getD positions i 0)) places)
+
+-- each of these places is below count
+pub record Below (places : List ℕ) (count : ℕ) : Type 0 where
+  pub low : (k : ℕ) → k < length places → getD places k 0 < count
 
 -- the positions at the places below count rise
 pub record Rises (positions : List ℕ) (count : ℕ) : Type 0 where

@@ -1,4 +1,5 @@
 // The list that rows make by their lower ends, and the changes that a quote makes to the lists of the watches: counted and written.
+mod leaves;
 mod listing;
 mod moves;
 mod seeking;
