@@ -11,12 +11,11 @@ use mathlib.Core.List.{List, [], _∷_, _++_, append-nil}
 use lib.Dec.{leb, eqb}
 use lib.ListN.{length, getD, set, take, length-append, length-set}
 use lib.Seq.{take-set-le, take-suc-set}
-use mir.Val.{boolByte}
-use borrow.Author.Tests.{lt-leb, le-leb, eq-eqb, ne-eqb}
+use borrow.Author.Tests.{lt-leb, le-leb, eq-eqb, ne-eqb, not-true}
 use Rattle.lists.specs.Lists.{keep, filter, any, run}
 use Rattle.lists.proofs.Filters.{any-append, filter-append, length-filter}
-use Rattle.lists.proofs.Runs.{length-run, run-snoc, none-any, order}
-use Rattle.changes.specs.Sought.{nextOf, nextPlace, nextEqual, firstFrom, removedPlaces, Rises}
+use Rattle.lists.proofs.Runs.{length-run, run-snoc, none-any, filter-upto, order}
+use Rattle.changes.specs.Sought.{nextOf, nextPlace, nextEqual, firstFrom, nextRemoved, removedPlaces, Rises}
 
 -- i of the 32 places from `from` on are tested
 pub record Tested (test : ℕ → Bool) (from : ℕ) (found : Bool) (i : ℕ) : Type 0 where
@@ -71,6 +70,16 @@ module _ (test : ℕ → Bool) where
         go false e l (inr (inl h)) later = rw (← h) e
         go false e l (inr (inr h)) later = absurd (omega arith)
 
+    found : (i k : ℕ) → i + k ≡ z → nextOf test z i k < z → test (nextOf test z i k) ≡ true
+    unfolding nextOf
+    found i zero e h = absurd (omega arith)
+    found i (suc k) e h = go (test i) refl h (λ l. found (suc i) k (omega arith) l)
+      where
+        go : (b : Bool) → test i ≡ b → cond b i (nextOf test z (suc i) k) < z → (nextOf test z (suc i) k < z → test (nextOf test z (suc i) k) ≡ true)
+            → test (cond b i (nextOf test z (suc i) k)) ≡ true
+        go true t l later = t
+        go false t l later = later l
+
   module _ (count : ℕ) where
     -- the next place from i on, where i is not past count
     pub next-from : (i : ℕ) → i ≤ count → i ≤ nextPlace test count i
@@ -85,6 +94,11 @@ module _ (test : ℕ → Bool) where
     pub next-gap : (i q : ℕ) → i ≤ q → q < count → q < nextPlace test count i → test q ≡ false
     unfolding nextPlace
     next-gap i q u v w = gap count i (count - i) q u (omega arith) w
+
+    -- it passes, if it is below count
+    pub next-found : (i : ℕ) → i ≤ count → nextPlace test count i < count → test (nextPlace test count i) ≡ true
+    unfolding nextPlace
+    next-found i h l = found count i (count - i) (omega arith) l
 
     pub next-past : (i : ℕ) → count ≤ i → nextPlace test count i ≡ count
     unfolding nextPlace nextOf
@@ -183,6 +197,13 @@ removed-more : (kept : List Bool) (i : ℕ) → removedPlaces kept (i + 1) ≡ r
 unfolding removedPlaces filter
 removed-more kept i = rw (add-one, run-snoc, zero-add, filter-append)
 
+-- rows that stay are not listed
+removed-skip : (kept : List Bool) (i j : ℕ) → i ≤ j → ((q : ℕ) → i ≤ q → q < j → not (getD kept q false) ≡ false) → removedPlaces kept j ≡ removedPlaces kept i
+unfolding removedPlaces
+removed-skip kept i j h none =
+    let e : i + (j - i) ≡ j = omega arith in
+    rw e at (filter-upto (λ k. not (getD kept k false)) 0 i (j - i) (λ q u v. none q (omega arith) (omega arith)))
+
 pub removed-few : (kept : List Bool) (count : ℕ) → length (removedPlaces kept count) ≤ count
 unfolding removedPlaces
 removed-few kept count = omega (arith, length-filter (λ i. not (getD kept i false)) (run 0 count), length-run 0 count)
@@ -199,30 +220,47 @@ pub removing-start : (kept : List Bool) (count : ℕ) (removed : List ℕ) → R
 unfolding removedPlaces filter run
 removing-start kept count removed = record { within = omega arith; few = omega arith; long = refl; sum = refl; front = refl }
 
-pub removing-more : {kept : List Bool} {count : ℕ} {entry removed : List ℕ} {n i : ℕ} → Removing kept count entry removed n i → i < count → count ≤ length entry → {b : Bool}
-    → b ≡ getD kept i false → Removing kept count entry (set removed n i) (n + boolByte (not b)) (i + 1)
-removing-more {kept} {count} {entry} {removed} {n} {i} v h k {b} e = go b e
-  where
-    go : (b : Bool) → b ≡ getD kept i false → Removing kept count entry (set removed n i) (n + boolByte (not b)) (i + 1)
-    go true q =
-        let same : removedPlaces kept (i + 1) ≡ removedPlaces kept i = rw (removed-more kept i, ← q, append-nil) in
-        let none : n + boolByte (not true) ≡ n = omega arith in
-        record {
-          within = omega arith;
-          few = omega (arith, v .few);
-          long = rw length-set (v .long);
-          sum = rw (same, none) (v .sum);
-          front = rw (same, none) (take-set-le n removed n i (omega arith) ∙ v .front);
-        }
-    go false q =
-        let more : removedPlaces kept (i + 1) ≡ removedPlaces kept i ++ (i ∷ []) = rw (removed-more kept i, ← q) in
-        record {
-          within = omega arith;
-          few = omega (arith, v .few);
-          long = rw length-set (v .long);
-          sum = rw (more, length-append, ← v .sum);
-          front = rw (more, add-one, ← v .front) (take-suc-set removed n i (omega (arith, v .few, v .long)));
-        }
+-- the list as it stands at a place whose row does not stay, or at the end
+pub record Removed (kept : List Bool) (count : ℕ) (entry removed : List ℕ) (n i : ℕ) : Type 0 where
+  pub removing : Removing kept count entry removed n i
+  pub there : i < count → getD kept i false ≡ false
+
+-- on to the next place whose row does not stay
+removed-on : {kept : List Bool} {count : ℕ} {entry removed : List ℕ} {n i j : ℕ} → Removing kept count entry removed n i → j ≡ nextRemoved kept count i
+    → Removed kept count entry removed n j
+unfolding nextRemoved
+removed-on {kept} {count} {i = i} {j} v e =
+    let goes : ℕ → Bool = λ k. not (getD kept k false) in
+    let low = next-from goes count i (v .within) in
+    let high = next-within goes count i (v .within) in
+    let same = removed-skip kept i j (omega arith) (λ q a b. next-gap goes count i q a (omega arith) (omega arith)) in
+    record {
+      removing = record { within = omega arith; few = omega (arith, v .few); long = v .long; sum = rw same (v .sum); front = rw same (v .front) };
+      there = λ l. not-true (getD kept j false) (rw e (next-found goes count i (v .within) (rw e at l)));
+    }
+
+pub removed-start : (kept : List Bool) (count : ℕ) (entry : List ℕ) {j : ℕ} → j ≡ nextRemoved kept count 0 → Removed kept count entry entry 0 j
+removed-start kept count entry e = removed-on (removing-start kept count entry) e
+
+pub removed-turn : {kept : List Bool} {count : ℕ} {entry removed : List ℕ} {n i j : ℕ} → Removed kept count entry removed n i → i < count → count ≤ length entry
+    → j ≡ nextRemoved kept count (i + 1) → Removed kept count entry (set removed n i) (n + 1) j
+removed-turn {kept} {count} {entry} {removed} {n} {i} u h k e =
+    let v = u .removing in
+    let more : removedPlaces kept (i + 1) ≡ removedPlaces kept i ++ (i ∷ []) = rw (removed-more kept i, u .there h) in
+    removed-on
+    (record {
+      within = omega arith;
+      few = omega (arith, v .few);
+      long = rw length-set (v .long);
+      sum = rw (more, length-append, ← v .sum);
+      front = rw (more, add-one, ← v .front) (take-suc-set removed n i (omega (arith, v .few, v .long)));
+    })
+    e
+
+-- the next place is behind this one
+pub removed-later : (kept : List Bool) {count i j : ℕ} → i < count → j ≡ nextRemoved kept count (i + 1) → i < j
+unfolding nextRemoved
+removed-later kept {count} {i} h e = omega (arith, next-from (λ k. not (getD kept k false)) count (i + 1) (omega arith))
 
 pub removing-all : {kept : List Bool} {count : ℕ} {entry removed : List ℕ} {n i : ℕ} → Removing kept count entry removed n i → count ≤ i
     → (n ≡ length (removedPlaces kept count)) × (take n removed ≡ removedPlaces kept count)

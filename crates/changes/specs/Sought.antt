@@ -25,6 +25,10 @@ nextEqual cells x count i = nextPlace (λ k. eqb (getD cells k 0) x) count i
 unfoldable pub firstFrom : List ℕ → ℕ → ℕ → ℕ
 firstFrom positions start count = nextPlace (λ k. leb start (getD positions k 0)) count 0
 
+-- the first place from i on and below count whose row does not stay, or count where each stays
+unfoldable pub nextRemoved : List Bool → ℕ → ℕ → ℕ
+nextRemoved kept count i = nextPlace (λ k. not (getD kept k false)) count i
+
 -- the places below count whose rows do not stay, rising
 unfoldable pub removedPlaces : List Bool → ℕ → List ℕ
 removedPlaces kept count = filter (λ i. not (getD kept i false)) (run 0 count)
