@@ -17,16 +17,16 @@ use Rattle.lists.proofs.Filters.{any-append, filter-append, length-filter}
 use Rattle.lists.proofs.Runs.{length-run, run-snoc, none-any, filter-upto, order}
 use Rattle.changes.specs.Sought.{nextOf, nextPlace, nextEqual, firstFrom, nextRemoved, removedPlaces, Rises}
 
--- i of the 32 places from `from` on are tested
+-- i of the 16 places from `from` on are tested
 pub record Tested (test : ℕ → Bool) (from : ℕ) (found : Bool) (i : ℕ) : Type 0 where
-  pub within : i ≤ 32
+  pub within : i ≤ 16
   pub some : found ≡ any test (run from i)
 
 pub tested-start : (test : ℕ → Bool) (from : ℕ) → Tested test from false 0
 unfolding any run
 tested-start test from = record { within = omega arith; some = refl }
 
-pub tested-more : {test : ℕ → Bool} {from i : ℕ} {found b : Bool} → Tested test from found i → i < 32 → b ≡ test (from + i) → Tested test from (found || b) (i + 1)
+pub tested-more : {test : ℕ → Bool} {from i : ℕ} {found b : Bool} → Tested test from found i → i < 16 → b ≡ test (from + i) → Tested test from (found || b) (i + 1)
 unfolding any
 tested-more {test} {from} {i} {found} {b} v h q =
     record { within = omega arith; some = rw (add-one, run-snoc, any-append, ← v .some, ← q) (ends found b) }
@@ -36,8 +36,8 @@ tested-more {test} {from} {i} {found} {b} v h q =
     ends false true = refl
     ends false false = refl
 
-pub tested-all : {test : ℕ → Bool} {from i : ℕ} {found : Bool} → Tested test from found i → 32 ≤ i → found ≡ any test (run from 32)
-tested-all {i = i} v h = let e : 32 ≡ i = omega (arith, v .within) in rw e (v .some)
+pub tested-all : {test : ℕ → Bool} {from i : ℕ} {found : Bool} → Tested test from found i → 16 ≤ i → found ≡ any test (run from 16)
+tested-all {i = i} v h = let e : 16 ≡ i = omega (arith, v .within) in rw e (v .some)
 
 module _ (test : ℕ → Bool) where
   module _ (z : ℕ) where
@@ -154,9 +154,9 @@ module _ (cells : List ℕ) (x count i : ℕ) where
   unfolding nextEqual
   equal-pass e = sym (next-pass (λ k. eqb (getD cells k 0) x) count i (ne-eqb (getD cells i 0) x e))
 
-  pub equal-skip : {found : Bool} → found ≡ any (λ k. eqb (getD cells k 0) x) (run i 32) → found ≡ false → nextEqual cells x count (i + 32) ≡ nextEqual cells x count i
+  pub equal-skip : {found : Bool} → found ≡ any (λ k. eqb (getD cells k 0) x) (run i 16) → found ≡ false → nextEqual cells x count (i + 16) ≡ nextEqual cells x count i
   unfolding nextEqual
-  equal-skip e f = sym (next-skip (λ k. eqb (getD cells k 0) x) count i 32 (none-any (λ k. eqb (getD cells k 0) x) i 32 (sym e ∙ f)))
+  equal-skip e f = sym (next-skip (λ k. eqb (getD cells k 0) x) count i 16 (none-any (λ k. eqb (getD cells k 0) x) i 16 (sym e ∙ f)))
 
 -- below low the positions are below start, and from high on they are not
 pub record Halved (positions : List ℕ) (start count low high : ℕ) : Type 0 where

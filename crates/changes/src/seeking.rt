@@ -1,4 +1,4 @@
-// Places sought in the tables: the next cell of a value and the next row that does not stay, by blocks of 32; a window's first row, by
+// Places sought in the tables: the next cell of a value and the next row that does not stay, by blocks of 16; a window's first row, by
 // halving.
 ghost use mathlib.Core.Path.{_≡_};
 ghost use Prim.Native.Nat.{_+_, _≤_};
@@ -8,34 +8,34 @@ ghost use lib.ListN.{length, getD, take};
 ghost use Rattle.lists.specs.Lists.{any, run};
 ghost use Rattle.changes.specs.Sought.{nextEqual, firstFrom, nextRemoved, removedPlaces, Rises};
 
-// Whether one of the 32 cells from a place on is x.
+// Whether one of the 16 cells from a place on is x.
 fn any_equal(cells: &[u32], from: usize, x: u32) -> bool
-    requires { ⌜ from + 32 ≤ length (now cells) ⌝ }
-    ensures { λ r. ⌜ r ≡ any (λ i. eqb (getD (now (cells .entry)) i 0) x) (run from 32) ⌝ }
+    requires { ⌜ from + 16 ≤ length (now cells) ⌝ }
+    ensures { λ r. ⌜ r ≡ any (λ i. eqb (getD (now (cells .entry)) i 0) x) (run from 16) ⌝ }
 {
     let mut found = false;
     let mut i = 0;
-    while i < 32 {
+    while i < 16 {
         found = found | (cells[from + i] == x);
         i += 1;
     }
     found
 }
 
-// Skips blocks of 32 cells that are not x; what is sought from there is what is sought from the start.
+// Skips blocks of 16 cells that are not x; what is sought from there is what is sought from the start.
 fn skip_unequal(cells: &[u32], from: usize, count: usize, x: u32) -> usize
     requires { ⌜ count ≤ length (now cells) ⌝ }
     ensures { λ r. ⌜ nextEqual (now (cells .entry)) x count r ≡ nextEqual (now (cells .entry)) x count from ⌝ }
 {
     let mut i = from;
     while i < count {
-        if cells.len() - i < 32 {
+        if cells.len() - i < 16 {
             return i;
         }
         if any_equal(cells, i, x) {
             return i;
         }
-        i += 32;
+        i += 16;
     }
     i
 }
@@ -74,34 +74,34 @@ pub fn first_from(positions: &[u32], count: usize, start: u32) -> usize
     low
 }
 
-// Whether one of the 32 rows from a place on does not stay.
+// Whether one of the 16 rows from a place on does not stay.
 fn any_removed(keep: &[bool], from: usize) -> bool
-    requires { ⌜ from + 32 ≤ length (now keep) ⌝ }
-    ensures { λ r. ⌜ r ≡ any (λ i. not (getD (now (keep .entry)) i false)) (run from 32) ⌝ }
+    requires { ⌜ from + 16 ≤ length (now keep) ⌝ }
+    ensures { λ r. ⌜ r ≡ any (λ i. not (getD (now (keep .entry)) i false)) (run from 16) ⌝ }
 {
     let mut found = false;
     let mut i = 0;
-    while i < 32 {
+    while i < 16 {
         found = found | !keep[from + i];
         i += 1;
     }
     found
 }
 
-// Skips blocks of 32 rows that stay; what is sought from there is what is sought from the start.
+// Skips blocks of 16 rows that stay; what is sought from there is what is sought from the start.
 fn skip_kept(keep: &[bool], from: usize, count: usize) -> usize
     requires { ⌜ count ≤ length (now keep) ⌝ }
     ensures { λ r. ⌜ nextRemoved (now (keep .entry)) count r ≡ nextRemoved (now (keep .entry)) count from ⌝ }
 {
     let mut i = from;
     while i < count {
-        if keep.len() - i < 32 {
+        if keep.len() - i < 16 {
             return i;
         }
         if any_removed(keep, i) {
             return i;
         }
-        i += 32;
+        i += 16;
     }
     i
 }

@@ -14,7 +14,7 @@ abbrev Inv-loop : tie.InvT-loop
 Inv-loop cells from x found₀ i₀ found i = Tested (λ k. eqb (getD cells k 0) x) from found i
 
 abbrev μ-loop : tie.MeasureT-loop
-μ-loop cells from x found₀ i₀ found i = 32 - i
+μ-loop cells from x found₀ i₀ found i = 16 - i
 
 loop-holds : tie.Need-loop-holds Inv-loop μ-loop
 loop-holds c = tested-start _ _

@@ -14,7 +14,7 @@ abbrev Inv-loop : tie.InvT-loop
 Inv-loop keep from found₀ i₀ found i = Tested (λ k. not (getD keep k false)) from found i
 
 abbrev μ-loop : tie.MeasureT-loop
-μ-loop keep from found₀ i₀ found i = 32 - i
+μ-loop keep from found₀ i₀ found i = 16 - i
 
 loop-holds : tie.Need-loop-holds Inv-loop μ-loop
 loop-holds c = tested-start _ _

@@ -37,7 +37,7 @@ loop-less c = search needs
 
 loop-again : tie.Need-loop-again Inv-loop μ-loop
 unfolding nextRemoved
-loop-again c = sym (next-skip _ _ _ 32 (none-any _ _ 32 (sym (c .before .any-removed .ensures) ∙ c .if2 .left))) ∙ c .before .before .before .before .loop .inv
+loop-again c = sym (next-skip _ _ _ 16 (none-any _ _ 16 (sym (c .before .any-removed .ensures) ∙ c .if2 .left))) ∙ c .before .before .before .before .loop .inv
 
 returns-3 : tie.Need-returns-3 Inv-loop μ-loop
 returns-3 c = c .before .loop .inv
