@@ -17,23 +17,20 @@ use Rattle.changes.proofs.Framing.{framing, frames-cells, join-length, 
 use Rattle.changes.proofs.Places.{equal-from, equal-within}
 use Rattle.changes.proofs.Stepping.{picked-skip, first-within, joins-none, joins-late}
 
--- the joins of the rows below place i stand at the front of the output, and i is in the window
+-- the joins of the rows below place i stand at the front of the output
 pub record Joining (n : ℕ) (s : Flagged) (w : Shift) (entry out : List ℕ) (at i : ℕ) : Type 0 where
   pub writing : Writing (framing (Join n)) (moves s w true) (s .positions) (s .count) entry out at i
-  pub late : firstFrom (s .positions) (w .before) (s .count) ≤ i
 
 module _ {n : ℕ} {s : Flagged} {w : Shift} (v : Steps w) where
   -- on to the next lower end that is the window's old start
-  onward : {entry out : List ℕ} {at i j : ℕ} → Writing (framing (Join n)) (moves s w true) (s .positions) (s .count) entry out at i → i ≤ s .count
-      → firstFrom (s .positions) (w .before) (s .count) ≤ i → j ≡ nextEqual (s .lowerEnds) (w .before) (s .count) i → Joining n s w entry out at j
-  onward {i = i} {j} u h f e =
+  onward : {entry out : List ℕ} {at i j : ℕ} → Joining n s w entry out at i → i ≤ s .count → j ≡ nextEqual (s .lowerEnds) (w .before) (s .count) i → Joining n s w entry out at j
+  onward {i = i} {j} u h e =
       let low = equal-from (s .lowerEnds) (w .before) (s .count) i h in
       let high = equal-within (s .lowerEnds) (w .before) (s .count) i h in
       record {
         writing =
-            writing-skip u j (omega arith)
-            (picked-skip (moves s w true) (s .positions) i j (omega arith) (λ q a b. joins-none s w v i f q a (omega arith) (omega arith)));
-        late = omega arith;
+            writing-skip (u .writing) j (omega arith)
+            (picked-skip (moves s w true) (s .positions) i j (omega arith) (λ q a b. joins-none s w v i q a (omega arith) (omega arith)));
       }
 
   pub joining-start : (entry : List ℕ) {f i : ℕ} → length (frames (map (Join n) (moving s w true))) ≤ length entry → f ≡ firstFrom (s .positions) (w .before) (s .count)
@@ -41,10 +38,9 @@ module _ {n : ℕ} {s : Flagged} {w : Shift} (v : Steps w) where
   unfolding moving
   joining-start entry {f} h e q =
       let within = first-within s w v in
-      onward
-      (writing-skip (writing-start (framing (Join n)) (moves s w true) (s .positions) (s .count) entry (rw (← frames-cells) h)) f (omega arith)
-      (picked-skip (moves s w true) (s .positions) 0 f (omega arith) (λ k a b. joins-late s w v k (omega arith) (omega arith))))
-      (omega arith) (omega arith) q
+      let start = writing-start (framing (Join n)) (moves s w true) (s .positions) (s .count) entry (rw (← frames-cells) h) in
+      let none = picked-skip (moves s w true) (s .positions) 0 f (omega arith) (λ k a b. joins-late s w v k (omega arith) (omega arith)) in
+      onward (record { writing = writing-skip start f (omega arith) none }) (omega arith) q
 
   module _ {entry out : List ℕ} {at i j : ℕ} {b : Bool} (u : Joining n s w entry out at i) (h : i < s .count) (e : j ≡ nextEqual (s .lowerEnds) (w .before) (s .count) (i + 1))
       (q : b ≡ moves s w true i) where
@@ -52,11 +48,11 @@ module _ {n : ℕ} {s : Flagged} {w : Shift} (v : Steps w) where
     joining-fits t = frame-fits (Join n) (join-length n) (u .writing) h q t
 
     pub joining-pass : b ≡ false → Joining n s w entry out at j
-    joining-pass t = onward (writing-pass (u .writing) h q t) (omega arith) (omega (arith, u .late)) e
+    joining-pass t = onward (record { writing = writing-pass (u .writing) h q t }) (omega arith) e
 
     pub joining-more : {last : List ℕ} → last ≡ laid (framing (Join n) (getD (s .positions) i 0)) (midOf at (length out - at) out) → b ≡ true
         → Joining n s w entry (putMid at (length out - at) out last) (at + 7) j
-    joining-more l t = onward (frame-laid (Join n) (join-length n) (u .writing) h q l t) (omega arith) (omega (arith, u .late)) e
+    joining-more l t = onward (record { writing = frame-laid (Join n) (join-length n) (u .writing) h q l t }) (omega arith) e
 
 -- the next place is behind this one
 pub joining-on : (s : Flagged) (w : Shift) {i j : ℕ} → i < s .count → j ≡ nextEqual (s .lowerEnds) (w .before) (s .count) (i + 1) → i < j

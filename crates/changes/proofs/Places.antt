@@ -7,10 +7,10 @@ use native.Mathlib.Numerals.{add-one}
 use native.Mathlib.Decide.{decLt}
 use native.Mathlib.Omega.{arith}
 use mathlib.Core.Bool.{Bool, true, false, _||_, not, cond}
-use mathlib.Core.List.{List, [], _∷_, _++_, append-nil}
+use mathlib.Core.List.{List, [], _∷_, _++_}
 use lib.Dec.{leb, eqb}
 use lib.ListN.{length, getD, set, take, length-append, length-set}
-use lib.Seq.{take-set-le, take-suc-set}
+use lib.Seq.{take-suc-set}
 use borrow.Author.Tests.{lt-leb, le-leb, eq-eqb, ne-eqb, not-true}
 use Rattle.lists.specs.Lists.{keep, filter, any, run}
 use Rattle.lists.proofs.Filters.{any-append, filter-append, length-filter}

@@ -7,9 +7,9 @@ use native.Mathlib.Omega.{arith}
 use mathlib.Core.Bool.{Bool, true, false, _&&_, not, cond}
 use mathlib.Core.List.{List, [], _∷_, _++_, map, append-assoc, append-nil}
 use lib.Dec.{ltb, leb, eqb}
-use lib.ListN.{length, getD}
+use lib.ListN.{getD}
 use borrow.Author.Tests.{ltb-true, ltb-false, leb-true, leb-false, lt-ltb, le-leb, lt-leb, eqb-true, eqb-false, not-true}
-use Rattle.lists.specs.Lists.{keep, filter, run}
+use Rattle.lists.specs.Lists.{keep, run}
 use Rattle.lists.proofs.Booleans.{refute, clash, and-left, and-right}
 use Rattle.lists.proofs.Filters.{filter-filter}
 use Rattle.lists.proofs.Runs.{filter-upto}
@@ -18,9 +18,9 @@ use Rattle.model.specs.Rows.{renamed}
 use Rattle.changes.specs.declared.Shift.{Shift}
 use Rattle.changes.specs.Picked.{picked}
 use Rattle.changes.specs.Flagged.{Flagged, wasListed, nowListed, moves, moving, fallsOut, fallen}
-use Rattle.changes.specs.Sought.{nextPlace, nextEqual, firstFrom, removedPlaces, listedOf, Rises, Steps}
+use Rattle.changes.specs.Sought.{nextEqual, firstFrom, removedPlaces, listedOf, Rises, Steps}
 use Rattle.changes.proofs.Picking.{picked-none, picked-more}
-use Rattle.changes.proofs.Places.{next-from, next-within, next-gap, next-is}
+use Rattle.changes.proofs.Places.{next-within, next-gap, next-is}
 
 -- places that do not pass pick nothing
 pub picked-skip : (test : ℕ → Bool) (positions : List ℕ) (i j : ℕ) → i ≤ j → ((q : ℕ) → i ≤ q → q < j → test q ≡ false) → picked test positions j ≡ picked test positions i
@@ -125,9 +125,9 @@ module _ (s : Flagged) (w : Shift) (v : Steps w) where
   before-first q u h = leb-false (w .before) (position q) (next-gap (λ k. leb (w .before) (position k)) (s .count) 0 q (omega arith) u h)
 
   -- no row joins before the next lower end that is the window's old start
-  pub joins-none : (i : ℕ) → first ≤ i → (q : ℕ) → i ≤ q → q < s .count → q < nextEqual (s .lowerEnds) (w .before) (s .count) i → moves s w true q ≡ false
+  pub joins-none : (i q : ℕ) → i ≤ q → q < s .count → q < nextEqual (s .lowerEnds) (w .before) (s .count) i → moves s w true q ≡ false
   unfolding nextEqual
-  joins-none i f q u l h =
+  joins-none i q u l h =
       refute (moves s w true q)
       (λ e. eqb-false (lowerEnd q) (w .before) (next-gap (λ k. eqb (lowerEnd k) (w .before)) (s .count) i q u l h) (joins-at q e .0))
 

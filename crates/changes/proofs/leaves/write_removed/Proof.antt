@@ -1,9 +1,7 @@
 -- `write_removed` meets its contract: after k turns the leaves of the listed rows at the first k places stand at the front of the output.
-use mathlib.Core.Path.{_≡_}
 use Prim.Native.Nat.{_+_, _-_, _≤_}
 use native.Mathlib.Omega.{arith}
 use lib.ListN.{length, length-take, length-drop}
-use denote.Ref.{now}
 use Rattle.frames.specs.Frames.{frame}
 use Rattle.changes.proofs.Leaving.{Leaving, leaving-start, leaving-fits, leaving-pass, leaving-more, leaving-all}
 use borrow.Author.Needs.{needs}

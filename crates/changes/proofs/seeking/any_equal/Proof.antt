@@ -1,11 +1,9 @@
 -- `any_equal` meets its contract: after i turns the first i cells are tested.
 use mathlib.Core.Path.{refl}
 use Prim.Native.Nat.{_-_}
-use native.Mathlib.Omega.{arith}
 use lib.Dec.{eqb}
 use lib.ListN.{getD}
 use borrow.Author.Needs.{needs}
-use Rattle.lists.specs.Lists.{any, run}
 use Rattle.changes.proofs.Places.{Tested, tested-start, tested-more, tested-all}
 use Rattle.changes.proofs.seeking.any_equal.Statement.{statement}
 use Rattle.changes.proofs.seeking.any_equal.Tie as tie

@@ -1,11 +1,9 @@
 -- `any_removed` meets its contract: after i turns the first i rows are tested.
 use mathlib.Core.Path.{refl}
 use Prim.Native.Nat.{_-_}
-use native.Mathlib.Omega.{arith}
 use mathlib.Core.Bool.{false, not}
 use lib.ListN.{getD}
 use borrow.Author.Needs.{needs}
-use Rattle.lists.specs.Lists.{any, run}
 use Rattle.changes.proofs.Places.{Tested, tested-start, tested-more, tested-all}
 use Rattle.changes.proofs.seeking.any_removed.Statement.{statement}
 use Rattle.changes.proofs.seeking.any_removed.Tie as tie

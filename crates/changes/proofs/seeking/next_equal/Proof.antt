@@ -1,5 +1,5 @@
 -- `next_equal` meets its contract: from every place that it comes to the same is sought.
-use mathlib.Core.Path.{_≡_, refl, _∙_}
+use mathlib.Core.Path.{_≡_, _∙_}
 use Prim.Native.Nat.{_-_}
 use Rattle.changes.specs.Sought.{nextEqual}
 use Rattle.changes.proofs.Places.{equal-past, equal-here, equal-pass}
