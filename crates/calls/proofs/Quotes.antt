@@ -35,7 +35,8 @@ use Rattle.rows.specs.Lent.{rowsLeft, rowsNext, Ready}
 use Rattle.rows.proofs.Reading.{length-rows}
 use Rattle.changes.specs.Flagged.{flagged}
 use Rattle.changes.specs.Watches.{allFrames}
-use Rattle.changes.proofs.Quoting.{Found, quote-frames}
+use Rattle.changes.specs.Sought.{Rises}
+use Rattle.changes.proofs.Quoting.{Found, untorn-rows, quote-frames}
 use Rattle.calls.specs.Left.{rowAnswer, Quoted}
 use Rattle.calls.proofs.Answering.{Passed, begun, stays, watchful-passed, refused-reply, refused-left, accepted-reply, accepted-left}
 use Rattle.calls.proofs.Listing.{rows-stand}
@@ -215,11 +216,35 @@ module _ {h : Head} {x : List ℕ} {t : Tables} {ws : List ℕ} {kept : List Boo
     module _ (f : over ≡ false) where
       -- what is asked before the changes are written
       pub write-asks : (h .capacity < 65536) × ((tornWatches (h .capacity) ws ≡ false)
-          × ((h .newest < lastPosition) × ((h .rows ≤ length kept) × ((h .rows ≤ length (t .positions)) × ((h .rows ≤ length (t .lowerEnds)) × (length bytes ≤ length out))))))
+          × ((h .newest < lastPosition)
+          × ((h .rows ≤ length kept) × ((h .rows ≤ length (t .positions)) × ((h .rows ≤ length (t .lowerEnds)) × ((h .rows ≤ 1024)
+          × (Rises (t .positions) (h .rows) × ((gone ≤ windowStart (h .newest) (h .capacity)) × (length bytes ≤ length out)))))))))
+      unfolding expiring windowStart
       write-asks =
-          let small = v .admitted .passed .settings .small-capacity in
+          let p = v .admitted .passed in
           let asks = count-asks in
-          (omega arith, (v .admitted .untorn, (asks .0, (asks .1 .0, (asks .1 .1 .0, (asks .1 .1 .1 .0, ltb-false (length out) (length bytes) (sym o ∙ f)))))))
+          let gone-is = v .found .expired in (
+            omega (arith, p .settings),
+            (
+              v .admitted .untorn,
+              (
+                asks .0,
+                (
+                  asks .1 .0,
+                  (
+                    asks .1 .1 .0,
+                    (
+                      asks .1 .1 .1 .0,
+                      (
+                        omega (arith, p .whole, p .settings),
+                        (untorn-rows h t (p .untorn) .rises, (omega arith, ltb-false (length out) (length bytes) (sym o ∙ f))),
+                      ),
+                    ),
+                  ),
+                ),
+              ),
+            ),
+          )
 
       -- else the changes are written and the rows after the quote fill the tables
       pub quote-done : {count rows : ℕ} {next : Head} {t' : Tables} {after : List ℕ} → count ≡ length bytes → after ≡ laid bytes out → rows ≡ length (rowsNext h x t)

@@ -13,9 +13,10 @@ use Rattle.lists.proofs.Booleans.{agree, refute}
 use Rattle.lists.proofs.Filters.{any-append, filter-append, filter-filter, filter-map}
 use Rattle.lists.proofs.Members.{into-map, of-map, into-filter, of-filter, contains-mem, mem-contains}
 use Rattle.lists.proofs.Runs.{length-run, getD-run, filter-same, into-run, of-run}
-use Rattle.lists.proofs.Places.{rising-at, rising-place}
+use Rattle.lists.proofs.Places.{rising-at, rising-less, rising-place}
 use Rattle.model.specs.Changes.{missing}
 use Rattle.changes.specs.Picked.{picked}
+use Rattle.changes.specs.Sought.{Rises}
 
 or-false : (b : Bool) → b || false ≡ b
 or-false true = refl
@@ -26,21 +27,27 @@ pub record Distinct (positions : List ℕ) (count hi : ℕ) : Type 0 where
   pub high : (i : ℕ) → i < count → getD positions i 0 ≤ hi
   pub apart : (i j : ℕ) → i < count → j < count → getD positions i 0 ≡ getD positions j 0 → i ≡ j
 
--- positions that rise are distinct
-pub rising-distinct : (positions : List ℕ) (count lo hi : ℕ) → rising lo hi (map (λ i. getD positions i 0) (run 0 count)) ≡ true → Distinct positions count hi
-rising-distinct positions count lo hi e = record {
-  high = λ i h. rw (at i h) at (rising-at lo hi all i e (rw long h) .1);
-  apart = λ i j u v q. rising-place lo hi all i j e (rw long u) (rw long v) (at i u ∙ q ∙ sym (at j v));
-}
-  where
-    all : List ℕ
-    all = map (λ i. getD positions i 0) (run 0 count)
+-- positions in a table that rise
+module _ (positions : List ℕ) (count lo hi : ℕ) (e : rising lo hi (map (λ i. getD positions i 0) (run 0 count)) ≡ true) where
+  abbrev all : List ℕ
+  all = map (λ i. getD positions i 0) (run 0 count)
 
-    long : length all ≡ count
-    long = length-map (run 0 count) (λ i. getD positions i 0) ∙ length-run 0 count
+  long : length all ≡ count
+  long = length-map (run 0 count) (λ i. getD positions i 0) ∙ length-run 0 count
 
-    at : (i : ℕ) → i < count → getD all i 0 ≡ getD positions i 0
-    at i h = getD-run (λ k. getD positions k 0) 0 0 count i h ∙ ap (λ (k : ℕ). getD positions k 0) (zero-add i)
+  at : (i : ℕ) → i < count → getD all i 0 ≡ getD positions i 0
+  at i h = getD-run (λ k. getD positions k 0) 0 0 count i h ∙ ap (λ (k : ℕ). getD positions k 0) (zero-add i)
+
+  -- they are distinct
+  pub rising-distinct : Distinct positions count hi
+  rising-distinct = record {
+    high = λ i h. rw (at i h) at (rising-at lo hi all i e (rw long h) .1);
+    apart = λ i j u v q. rising-place lo hi all i j e (rw long u) (rw long v) (at i u ∙ q ∙ sym (at j v));
+  }
+
+  -- each is below every later one
+  pub rising-rises : Rises positions count
+  rising-rises = record { rise = λ i j u v. rw (at i (omega arith), at j v) at (rising-less lo hi all i j e u (rw long v)) }
 
 -- two tests that agree at the places below count pick the same
 pub picked-same : (f g : ℕ → Bool) (positions : List ℕ) (count : ℕ) → ((i : ℕ) → i < count → f i ≡ g i) → picked f positions count ≡ picked g positions count

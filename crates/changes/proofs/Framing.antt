@@ -2,7 +2,7 @@
 use mathlib.Core.Path.{_≡_, refl, sym, ap, _∙_}
 use Prim.Native.Nat.{ℕ, _+_, _-_, _*_, _≤_, _<_}
 use native.Mathlib.Omega.{arith}
-use mathlib.Core.Bool.{Bool, true, false}
+use mathlib.Core.Bool.{Bool, true}
 use mathlib.Core.List.{List, [], _∷_, _++_, map}
 use lib.ListN.{length, getD, length-append}
 use borrow.Rule.Slice.PartMut.{midOf, putMid}
@@ -13,21 +13,15 @@ use Rattle.frames.specs.declared.Message.the-variants.{Leave, Join}
 use Rattle.octets.specs.Bytes.{bytes2, bytes4}
 use Rattle.frames.specs.Frames.{frame}
 use Rattle.model.specs.Changes.{frames}
-use Rattle.changes.specs.Flagged.{change}
 use Rattle.changes.proofs.Writing.{cells, Writing, writing-fits, writing-more}
 
-leave-length : (n p : ℕ) → length (frame (Leave n p) []) ≡ 7
+pub leave-length : (n p : ℕ) → length (frame (Leave n p) []) ≡ 7
 unfolding frame bytes2 bytes4
 leave-length n p = refl
 
 pub join-length : (n p : ℕ) → length (frame (Join n p) []) ≡ 7
 unfolding frame bytes2 bytes4
 join-length n p = refl
-
-pub change-length : (joins : Bool) (n p : ℕ) → length (frame (change joins n p) []) ≡ 7
-unfolding change
-change-length true n p = join-length n p
-change-length false n p = leave-length n p
 
 pub frames-append : (a b : List Message) → frames (a ++ b) ≡ frames a ++ frames b
 unfolding frames

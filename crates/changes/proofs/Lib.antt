@@ -7,3 +7,7 @@ pub mod Records
 pub mod Watching
 pub mod Distinct
 pub mod Quoting
+pub mod Places
+pub mod Stepping
+pub mod Leaving
+pub mod Joining

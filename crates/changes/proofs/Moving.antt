@@ -10,12 +10,12 @@ use mir.Val.{boolByte}
 use borrow.Author.Tests.{lt-ltb, le-ltb}
 use Rattle.lists.specs.Lists.{keep, filter, flat, run}
 use Rattle.lists.proofs.Filters.{map-append}
-use Rattle.frames.specs.declared.Message.the-variants.{Join}
+use Rattle.frames.specs.declared.Message.the-variants.{Leave, Join}
 use Rattle.frames.specs.Frames.{frame}
 use Rattle.model.specs.Changes.{frames}
 use Rattle.changes.specs.declared.Shift.{Shift}
 use Rattle.changes.specs.Picked.{picked}
-use Rattle.changes.specs.Flagged.{Flagged, change, wasListed, nowListed, moves, moving, joining, changed}
+use Rattle.changes.specs.Flagged.{Flagged, wasListed, nowListed, moves, moving, joining, changed}
 use Rattle.changes.proofs.Picking.{picked-few, byte-small}
 use Rattle.changes.proofs.Framing.{frames-append, leaves-length, joins-length}
 
@@ -50,28 +50,10 @@ picked-differs : (f g : ℕ → Bool) (positions : List ℕ) (count : ℕ)
 unfolding picked
 picked-differs f g positions count = simp length-map (filter-differs f g (run 0 count))
 
-joins-test : (a b : Bool) → differs a b && Bool·beq b true ≡ b && not a
-joins-test true true = refl
-joins-test true false = refl
-joins-test false true = refl
-joins-test false false = refl
-
-leaves-test : (a b : Bool) → differs a b && Bool·beq b false ≡ a && not b
-leaves-test true true = refl
-leaves-test true false = refl
-leaves-test false true = refl
-leaves-test false false = refl
-
 module _ (s : Flagged) (w : Shift) where
   -- the row at place i leaves or joins
   abbrev pub changesAt : ℕ → Bool
   changesAt i = differs (wasListed s w i) (nowListed s w i)
-
-  -- the row at place i joins (true) or leaves (false) where the tests differ and the second is this
-  pub moves-test : (joins : Bool) (i : ℕ) (was is : Bool) → was ≡ wasListed s w i → is ≡ nowListed s w i → differs was is && Bool·beq is joins ≡ moves s w joins i
-  unfolding moves
-  moves-test true i was is p q = joins-test was is ∙ rw (p, q)
-  moves-test false i was is p q = leaves-test was is ∙ rw (p, q)
 
   -- the rows that leave or join, and the new row where it is listed, are the changes
   pub counted-changes : (newest lower n : ℕ) → n ≡ length (picked changesAt (s .positions) (s .count))
@@ -98,14 +80,14 @@ module _ (s : Flagged) (w : Shift) where
 module _ (s : Flagged) (w : Shift) (newest lower n : ℕ) where
   -- the frames of the rows that leave, and of those that join
   abbrev pub leaveFrames : List ℕ
-  leaveFrames = frames (map (change false n) (moving s w false))
+  leaveFrames = frames (map (Leave n) (moving s w false))
 
   abbrev pub joinFrames : List ℕ
-  joinFrames = frames (map (change true n) (moving s w true))
+  joinFrames = frames (map (Join n) (moving s w true))
 
   -- the frames of the changes: the rows' leaves and joins, then the new row's join, if it is listed
   changed-frames : frames (changed s w newest lower n) ≡ (leaveFrames ++ joinFrames) ++ frames (map (Join n) (keep (ltb lower (w .after)) newest []))
-  unfolding changed joining change
+  unfolding changed joining
   changed-frames = rw (frames-append, map-append, frames-append) (sym (append-assoc leaveFrames joinFrames (frames (map (Join n) (keep (ltb lower (w .after)) newest [])))))
 
   pub changed-listed : lower < w .after → frames (changed s w newest lower n) ≡ (leaveFrames ++ joinFrames) ++ frame (Join n newest) []

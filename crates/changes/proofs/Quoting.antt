@@ -25,9 +25,10 @@ use Rattle.changes.specs.declared.Shift.{Shift}
 use Rattle.changes.specs.Picked.{picked}
 use Rattle.changes.specs.Flagged.{Flagged, flagged, wasListed, nowListed, moves, moving, joining, changed}
 use Rattle.changes.specs.Watches.{shiftOf, watchFrames, allFrames}
+use Rattle.changes.specs.Sought.{Rises}
 use Rattle.changes.proofs.Picking.{rows-picked, listed-picked}
 use Rattle.changes.proofs.Framing.{frames-append}
-use Rattle.changes.proofs.Distinct.{Distinct, rising-distinct, picked-same, missing-picked, missing-behind}
+use Rattle.changes.proofs.Distinct.{Distinct, rising-distinct, rising-rises, picked-same, missing-picked, missing-behind}
 use Rattle.changes.proofs.Watching.{after-newest, watch-none, watch-some, all-fit}
 
 -- a row alone makes a list of its position, where it is listed
@@ -120,20 +121,21 @@ rows-positions : (d count : ℕ) (t : Tables) → map Row.position (rowsIn d cou
 unfolding rowsIn rowAt
 rows-positions d count t = map-map Row.position (rowAt d t) (run 0 count)
 
--- of rows that are not torn: no more than N, their positions distinct
+-- of rows that are not torn: no more than N, their positions distinct and rising
 pub record Untorn (h : Head) (t : Tables) : Type 0 where
   pub few : h .rows ≤ h .capacity
   pub apart : Distinct (t .positions) (h .rows) (h .newest)
+  pub rises : Rises (t .positions) (h .rows)
 
 pub untorn-rows : (h : Head) (t : Tables) → tornRows h (bookRows h t) ≡ false → Untorn h t
 unfolding tornRows bookRows
 untorn-rows h t e =
     let judged = none-left (A || not R) B (none-left (A || not R || B) C e) in
+    let rise = rw (rows-positions (h .dimensions) (h .rows) t) at (not-false R (none-right A (not R) judged)) in
     record {
       few = ltb-false (h .capacity) (h .rows) (none-left (ltb (h .capacity) (h .rows)) M (none-left (ltb (h .capacity) (h .rows) || M) K (none-left A (not R) judged)));
-      apart =
-          rising-distinct (t .positions) (h .rows) (windowStart (h .newest) (h .capacity)) (h .newest)
-          (rw (rows-positions (h .dimensions) (h .rows) t) at (not-false R (none-right A (not R) judged)));
+      apart = rising-distinct (t .positions) (h .rows) (windowStart (h .newest) (h .capacity)) (h .newest) rise;
+      rises = rising-rises (t .positions) (h .rows) (windowStart (h .newest) (h .capacity)) (h .newest) rise;
     }
   where
     P : List ℕ

@@ -12,18 +12,30 @@ use borrow.Author.Tests.{lt-ltb, eq-eqb, ne-eqb}
 use borrow.Rule.Slice.PartMut.{midOf, putMid}
 use Rattle.lists.specs.Lists.{flat, laid}
 use Rattle.lists.proofs.Laying.{grows, Laying, laying-start, laying-room, laying-rest, laying-more, laying-all}
+use Rattle.skyline.specs.Skyline.{windowStart}
 use Rattle.head.specs.declared.Head.{Head}
 use Rattle.head.specs.Heads.{afterQuote, lastPosition}
 use Rattle.model.specs.Changes.{frames}
 use Rattle.changes.specs.declared.Shift.{Shift}
 use Rattle.changes.specs.Flagged.{Flagged, moving, joining, changed}
 use Rattle.changes.specs.Watches.{shiftOf, watchFrames, allFrames}
+use Rattle.changes.specs.Sought.{Steps}
 use Rattle.changes.proofs.Moving.{few-changes, changed-length}
 
 -- below the last position a quote moves the newest position on
 pub after-newest : (h next : Head) (rows : ℕ) → next ≡ afterQuote h rows → h .newest < lastPosition → next .newest ≡ h .newest + 1
 unfolding afterQuote
 after-newest h next rows e l = ap Head.newest e ∙ rw (lt-ltb (h .newest) lastPosition l)
+
+-- the window of a smaller n starts no earlier
+pub start-below : (newest gone N n : ℕ) → n ≤ N → gone ≤ windowStart newest N → gone ≤ windowStart newest n
+unfolding windowStart
+start-below newest gone N n h k = omega arith
+
+-- the window of n moves by one position or not at all
+pub steps-of : (gone newest n : ℕ) {w : Shift} → w ≡ shiftOf gone newest n → gone ≤ windowStart newest n → Steps w
+unfolding shiftOf windowStart
+steps-of gone newest n e h = rw e (record { forth = omega arith; by-one = omega arith; expires = h })
 
 module _ (gone newest : ℕ) (s : Flagged) (lower n : ℕ) where
   pub watch-none : n ≡ 0 → watchFrames gone newest s lower n ≡ []

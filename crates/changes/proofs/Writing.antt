@@ -84,3 +84,9 @@ pub writing-all : {encode : ℕ → List ℕ} {test : ℕ → Bool} {positions :
     → Writing encode test positions count entry out at i → count ≤ i
     → (at ≡ length (cells encode (picked test positions count))) × (out ≡ laid (cells encode (picked test positions count)) entry)
 writing-all v h = laying-all (v .laying) h
+
+-- turns that pick nothing
+pub writing-skip : {encode : ℕ → List ℕ} {test : ℕ → Bool} {positions : List ℕ} {count : ℕ} {entry out : List ℕ} {at i : ℕ} → Writing encode test positions count entry out at i
+    → (j : ℕ) → j ≤ count → picked test positions j ≡ picked test positions i → Writing encode test positions count entry out at j
+writing-skip {encode} v j h e =
+    record { laying = record { within = h; room = v .laying .room; front = rw e (v .laying .front) } }

@@ -22,11 +22,6 @@ pub record Flagged : Type 0 where
 abbrev pub flagged : List Bool → List ℕ → List ℕ → ℕ → Flagged
 flagged kept positions lowers count = record { kept = kept; positions = positions; lowerEnds = lowers; count = count }
 
--- a join (true) or a leave (false) of the watch of n
-unfoldable pub change : Bool → ℕ → ℕ → Message
-change true n p = Join n p
-change false n p = Leave n p
-
 -- w says how the window moves at the quote
 module _ (s : Flagged) (w : Shift) where
   -- the row at place i is on the list before
@@ -45,6 +40,14 @@ module _ (s : Flagged) (w : Shift) where
   -- the positions of the rows that join (true) or leave (false), rising
   unfoldable pub moving : Bool → List ℕ
   moving joins = picked (moves joins) (s .positions) (s .count)
+
+  -- the row at place i stays and leaves the list: the window's start moves past it
+  unfoldable pub fallsOut : ℕ → Bool
+  fallsOut i = getD (s .kept) i false && moves false i
+
+  -- the positions of the rows that stay and leave the list
+  unfoldable pub fallen : List ℕ
+  fallen = picked fallsOut (s .positions) (s .count)
 
   -- the positions that join the list, rising, the new row's last
   unfoldable pub joining : ℕ → ℕ → List ℕ

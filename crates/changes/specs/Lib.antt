@@ -2,3 +2,4 @@
 pub mod Picked
 pub mod Flagged
 pub mod Watches
+pub mod Sought

@@ -1,6 +1,8 @@
 // The list that rows make by their lower ends, and the changes that a quote makes to the lists of the watches: counted and written.
+mod leaves;
 mod listing;
 mod moves;
+mod seeking;
 mod watches;
 
 pub use listing::count_listed;

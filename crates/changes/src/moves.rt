@@ -1,17 +1,21 @@
 // The changes that a quote makes to the list of one watch: counted, and written as frames.
 ghost use mathlib.Core.Path.{_≡_};
 ghost use Prim.Native.Nat.{_+_, _≤_};
-ghost use mathlib.Core.Bool.{false, _&&_};
-ghost use mathlib.Core.List.{[], map};
+ghost use mathlib.Core.Bool.{true, false, _&&_};
+ghost use mathlib.Core.List.{map};
 ghost use lib.ListN.{length};
 ghost use Rattle.lists.specs.Lists.{laid};
 ghost use Rattle.skyline.specs.Skyline.{stabbed};
-ghost use Rattle.frames.specs.Frames.{frame};
+ghost use Rattle.frames.specs.declared.Message.the-variants.{Join};
 ghost use Rattle.model.specs.Rows.{renamed};
 ghost use Rattle.model.specs.Changes.{frames};
-ghost use Rattle.changes.specs.Flagged.{flagged, change, moving, joining, changed};
+ghost use Rattle.changes.specs.Flagged.{flagged, moving, joining, changed};
+ghost use Rattle.changes.specs.Sought.{firstFrom, removedPlaces, Rises, Steps};
 use crate::Shift;
+use crate::leaves::write_leaves;
 use crate::listing::is_listed;
+use crate::seeking::first_from;
+use crate::seeking::next_equal;
 use octets::lay_change;
 
 // A lower end once position gone has expired: 0 if it named that position.
@@ -25,7 +29,7 @@ fn rename(gone: u32, lower: u32) -> u32
 }
 
 // Whether a row stays and is on the list of the window that starts at after, once position gone has expired.
-fn stays_listed(keep: bool, gone: u32, after: u32, lower: u32, position: u32) -> bool
+pub fn stays_listed(keep: bool, gone: u32, after: u32, lower: u32, position: u32) -> bool
     ensures { λ r. ⌜ r ≡ (keep && stabbed after (renamed gone lower) position) ⌝ }
 {
     keep & is_listed(after, rename(gone, lower), position)
@@ -59,56 +63,49 @@ pub fn count_changes(
     n + (lower < shift.after) as usize
 }
 
-// Lays the frame of a join, or of a leave, of the watch of n.
-fn write_change(joins: bool, n: u16, position: u32, out: &mut [u8])
-    requires { ⌜ 7 ≤ length (now out) ⌝ }
-    ensures { λ r. ⌜ now (out .exit) ≡ laid (frame (change joins n position) []) (now (out .entry)) ⌝ }
-{
-    if joins {
-        lay_change(33, n, position, out);
-    } else {
-        lay_change(32, n, position, out);
-    }
-}
-
-// Writes a join for each row that joins the list at a quote, or a leave for each that leaves it. Returns how many bytes.
-fn write_moves(
-    joins: bool,
+// Writes a join of the watch of n for each row that joins its list at a quote: its lower end is the window's old start, and it stands
+// at first, the window's first place, or behind it. Returns how many bytes.
+fn write_row_joins(
     n: u16,
     keep: &[bool],
     positions: &[u32],
     lower_ends: &[u32],
     count: usize,
+    first: usize,
     shift: Shift,
     out: &mut [u8],
 ) -> usize
     requires { ⌜ count ≤ length (now keep) ⌝ }
     requires { ⌜ count ≤ length (now positions) ⌝ }
     requires { ⌜ count ≤ length (now «lower_ends») ⌝ }
-    requires { ⌜ length (frames (map (change joins n) (moving (flagged (now keep) (now positions) (now «lower_ends») count) shift joins))) ≤ length (now out) ⌝ }
-    ensures { λ r. ⌜ r ≡ length (frames (map (change joins n) (moving (flagged (now (keep .entry)) (now (positions .entry)) (now («lower_ends» .entry)) count) shift joins))) ⌝ }
-    ensures { λ r. ⌜ now (out .exit) ≡ laid (frames (map (change joins n) (moving (flagged (now (keep .entry)) (now (positions .entry)) (now («lower_ends» .entry)) count) shift joins))) (now (out .entry)) ⌝ }
+    requires { ⌜ Steps shift ⌝ }
+    requires { ⌜ first ≡ firstFrom (now positions) (shift .before) count ⌝ }
+    requires { ⌜ length (frames (map (Join n) (moving (flagged (now keep) (now positions) (now «lower_ends») count) shift true))) ≤ length (now out) ⌝ }
+    ensures { λ r. ⌜ r ≡ length (frames (map (Join n) (moving (flagged (now (keep .entry)) (now (positions .entry)) (now («lower_ends» .entry)) count) shift true))) ⌝ }
+    ensures { λ r. ⌜ now (out .exit) ≡ laid (frames (map (Join n) (moving (flagged (now (keep .entry)) (now (positions .entry)) (now («lower_ends» .entry)) count) shift true))) (now (out .entry)) ⌝ }
 {
     let mut at: usize = 0;
-    let mut i = 0;
+    let mut i = next_equal(lower_ends, first, count, shift.before);
     while i < count {
         let position = positions[i];
         let lower_end = lower_ends[i];
         let was = is_listed(shift.before, lower_end, position);
         let is = stays_listed(keep[i], shift.gone, shift.after, lower_end, position);
-        i += 1;
-        if (was ^ is) & (is == joins) {
-            write_change(joins, n, position, &mut out[at..]);
+        i = next_equal(lower_ends, i + 1, count, shift.before);
+        if is & !was {
+            lay_change(33, n, position, &mut out[at..]);
             at += 7;
         }
     }
     at
 }
 
-// Writes the changes of the watch of n at a quote: the leaves, then the joins. Returns how many bytes.
+// Writes the changes of the watch of n at a quote: the leaves, then the joins; removed has the places of the rows that do not stay.
+// Returns how many bytes.
 pub fn write_changes(
     n: u16,
     keep: &[bool],
+    removed: &[u16],
     positions: &[u32],
     lower_ends: &[u32],
     count: usize,
@@ -120,18 +117,32 @@ pub fn write_changes(
     requires { ⌜ count ≤ length (now keep) ⌝ }
     requires { ⌜ count ≤ length (now positions) ⌝ }
     requires { ⌜ count ≤ length (now «lower_ends») ⌝ }
+    requires { ⌜ now removed ≡ removedPlaces (now keep) count ⌝ }
+    requires { ⌜ Rises (now positions) count ⌝ }
+    requires { ⌜ Steps shift ⌝ }
     requires { ⌜ length (frames (changed (flagged (now keep) (now positions) (now «lower_ends») count) shift newest lower n)) ≤ length (now out) ⌝ }
     ensures { λ r. ⌜ r ≡ length (frames (changed (flagged (now (keep .entry)) (now (positions .entry)) (now («lower_ends» .entry)) count) shift newest lower n)) ⌝ }
     ensures { λ r. ⌜ now (out .exit) ≡ laid (frames (changed (flagged (now (keep .entry)) (now (positions .entry)) (now («lower_ends» .entry)) count) shift newest lower n)) (now (out .entry)) ⌝ }
 {
-    let leaves = write_moves(false, n, keep, positions, lower_ends, count, shift, out);
-    let joins = write_moves(
-        true,
+    let first = first_from(positions, count, shift.before);
+    let leaves = write_leaves(
+        n,
+        keep,
+        removed,
+        positions,
+        lower_ends,
+        count,
+        first,
+        shift,
+        out,
+    );
+    let joins = write_row_joins(
         n,
         keep,
         positions,
         lower_ends,
         count,
+        first,
         shift,
         &mut out[leaves..],
     );

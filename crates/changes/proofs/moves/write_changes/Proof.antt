@@ -28,39 +28,39 @@ abbrev J : tie.Start → List ℕ
 J c = joinFrames (rows c) (c .args .shift) (c .args .newest) (c .args .lower) (c .args .n)
 
 rows-room : (c : tie.Start) → length (L c ++ J c) ≤ length (now (c .args .out))
-rows-room c = rows-fit (rows c) _ (c .args .newest) (c .args .lower) _ _ (c .pre .1 .1 .1)
+rows-room c = rows-fit (rows c) _ (c .args .newest) (c .args .lower) _ _ (c .pre .1 .1 .1 .1 .1 .1)
 
 leaves-room : (c : tie.Start) → length (L c) ≤ length (now (c .args .out))
 leaves-room c = omega (arith, rows-room c, length-append (L c) (J c))
 
 -- the function's start, from behind each call
-abbrev start : tie.After-write-moves → tie.Start
-start c = c .before .before .before .before .before .before
+abbrev start : tie.After-write-leaves → tie.Start
+start c = c .before .before .before .before .before .before .before .before
 
-abbrev start2 : tie.After-write-moves2 → tie.Start
-start2 c = c .before .before .before .before .before .before .before .before .before .before
+abbrev start2 : tie.After-write-row-joins → tie.Start
+start2 c = c .before .before .before .before .before .before .before .before .before .before .before .before
 
 -- the output behind each call
-abbrev out1 : tie.After-write-moves → List ℕ
-out1 c = c .write-moves .last .1 .1 .1 .1 .1 .1 .1 .0
+abbrev out1 : tie.After-write-leaves → List ℕ
+out1 c = c .write-leaves .last .1 .1 .1 .1 .1 .1 .1 .1 .0
 
-abbrev out2 : tie.After-write-moves2 → List ℕ
+abbrev out2 : tie.After-write-row-joins → List ℕ
 out2 c =
     let b = c .before .before .before .before in
-    putMid (b .write-moves .result) (length (out1 b) - b .write-moves .result) (out1 b) (c .write-moves2 .last .1 .1 .1 .1 .1 .1 .1 .0)
+    putMid (b .write-leaves .result) (length (out1 b) - b .write-leaves .result) (out1 b) (c .write-row-joins .last .1 .1 .1 .1 .1 .1 .1 .0)
 
 -- the leaves stand at the front
-first : (c : tie.After-write-moves) → Front (L (start c)) (now (start c .args .out)) (out1 c) (c .write-moves .result)
-first c = front-one (L (start c)) (now (start c .args .out)) (leaves-room (start c)) (c .write-moves .ensures .0) (c .write-moves .ensures .1)
+first : (c : tie.After-write-leaves) → Front (L (start c)) (now (start c .args .out)) (out1 c) (c .write-leaves .result)
+first c = front-one (L (start c)) (now (start c .args .out)) (leaves-room (start c)) (c .write-leaves .ensures .0) (c .write-leaves .ensures .1)
 
 -- there is room for the joins
-joins-room : (c : tie.After-write-moves) → c .write-moves .result + length (J (start c)) ≤ length (out1 c)
+joins-room : (c : tie.After-write-leaves) → c .write-leaves .result + length (J (start c)) ≤ length (out1 c)
 joins-room c = front-room (first c) (J (start c)) (rows-room (start c))
 
 -- the joins stand behind them
-second : (c : tie.After-write-moves2) → Front (L (start2 c) ++ J (start2 c)) (now (start2 c .args .out)) (out2 c) (c .before .before .before .before .write-moves .result + c .write-moves2 .result)
+second : (c : tie.After-write-row-joins) → Front (L (start2 c) ++ J (start2 c)) (now (start2 c .args .out)) (out2 c) (c .before .before .before .before .write-leaves .result + c .write-row-joins .result)
 second c =
-    front-more (first (c .before .before .before .before)) (J (start2 c)) (rows-room (start2 c)) (c .write-moves2 .ensures .0) (c .write-moves2 .ensures .1)
+    front-more (first (c .before .before .before .before)) (J (start2 c)) (rows-room (start2 c)) (c .write-row-joins .ensures .0) (c .write-row-joins .ensures .1)
 
 -- the new row's join
 abbrev N : tie.Start → List ℕ
@@ -74,38 +74,45 @@ unlisted-frames : (c : tie.Start) → c .args .shift .after ≤ c .args .lower �
 unlisted-frames c h = changed-unlisted (rows c) (c .args .shift) (c .args .newest) (c .args .lower) (c .args .n) h
 
 -- the second call, from the branch where the new row is listed
-abbrev both : tie.Else1 → tie.After-write-moves2
+abbrev both : tie.Else1 → tie.After-write-row-joins
 both c = c .before .before .before .before
 
 all-room : (c : tie.Else1) → length ((L (start2 (both c)) ++ J (start2 (both c))) ++ N (start2 (both c))) ≤ length (now (start2 (both c) .args .out))
-all-room c = rw (listed-frames (start2 (both c)) (c .if1 .left)) at (start2 (both c) .pre .1 .1 .1)
+all-room c = rw (listed-frames (start2 (both c)) (c .if1 .left)) at (start2 (both c) .pre .1 .1 .1 .1 .1 .1)
 
 -- a new row that is listed has room for its join
-fits : (c : tie.Else1) → both c .before .before .before .before .write-moves .result + both c .write-moves2 .result + 7 ≤ length (out2 (both c))
+fits : (c : tie.Else1) → both c .before .before .before .before .write-leaves .result + both c .write-row-joins .result + 7 ≤ length (out2 (both c))
 fits c = rw join-length at (front-room (second (both c)) (N (start2 (both c))) (all-room c))
 
-write-moves-requires : tie.Need-write-moves-requires
-write-moves-requires c κs =
-    let b = c .before .before .before .before .before in
-    (b .pre .0, (b .pre .1 .0, (b .pre .1 .1 .0, leaves-room b)))
+first-from-requires : tie.Need-first-from-requires
+first-from-requires c κs = let p = c .before .before .before .before .before .pre in (p .1 .0, p .1 .1 .1 .1 .0)
 
-sub-write-moves : tie.Need-sub-write-moves
-sub-write-moves c = omega (arith, joins-room (c .before .before))
+write-leaves-requires : tie.Need-write-leaves-requires
+write-leaves-requires c κs =
+    let b = c .before .before .before .before .before .before .before in
+    let p = b .pre in
+    (p .0, (p .1 .0, (p .1 .1 .0, (p .1 .1 .1 .0, (p .1 .1 .1 .1 .0, (p .1 .1 .1 .1 .1 .0, (c .before .first-from .ensures, leaves-room b)))))))
 
-part-write-moves-start : tie.Need-part-write-moves-start
-part-write-moves-start c = omega (arith, joins-room (c .before .before))
+sub-write-row-joins : tie.Need-sub-write-row-joins
+sub-write-row-joins c = omega (arith, joins-room (c .before .before))
 
-part-write-moves-end : tie.Need-part-write-moves-end
-part-write-moves-end c = search needs
+part-write-row-joins-start : tie.Need-part-write-row-joins-start
+part-write-row-joins-start c = omega (arith, joins-room (c .before .before))
 
-write-moves-requires-2 : tie.Need-write-moves-requires-2
-write-moves-requires-2 c κs =
+part-write-row-joins-end : tie.Need-part-write-row-joins-end
+part-write-row-joins-end c = search needs
+
+write-row-joins-requires : tie.Need-write-row-joins-requires
+write-row-joins-requires c κs =
     let b = c .before .before .before in
     let s = start b in
-    (s .pre .0, (s .pre .1 .0, (s .pre .1 .1 .0, front-rest (first b) (J s) (rows-room s))))
+    let p = s .pre in
+    (p .0, (p .1 .0, (p .1 .1 .0, (p .1 .1 .1 .1 .1 .0, (b .before .before .first-from .ensures, front-rest (first b) (J s) (rows-room s))))))
 
 add-at : tie.Need-add-at
-add-at c = omega (arith, joins-room (c .before .before .before .before .before .before), c .before .before .write-moves2 .ensures .0)
+add-at c =
+    let b = c .before .before .before .before .before .before in
+    omega (arith, joins-room b, first b .long, start b .good, c .before .before .write-row-joins .ensures .0)
 
 same-length : tie.Need-same-length
 same-length c = search needs
@@ -144,11 +151,12 @@ pub write-changes-spec : {M : Type 1} → statement M
 write-changes-spec =
     tie.close
     (tie.spec
-    write-moves-requires
-    sub-write-moves
-    part-write-moves-start
-    part-write-moves-end
-    write-moves-requires-2
+    first-from-requires
+    write-leaves-requires
+    sub-write-row-joins
+    part-write-row-joins-start
+    part-write-row-joins-end
+    write-row-joins-requires
     add-at
     same-length
     returns

@@ -1,7 +1,7 @@
 -- `write_watch` meets its contract: the changes of a watch, or nothing for an empty record.
 use mathlib.Core.Path.{refl}
 use Rattle.lists.specs.Lists.{laid}
-use Rattle.changes.proofs.Watching.{watch-none, watch-some}
+use Rattle.changes.proofs.Watching.{steps-of, watch-none, watch-some}
 use borrow.Author.Needs.{needs}
 use Rattle.changes.proofs.watches.write_watch.Statement.{statement}
 use Rattle.changes.proofs.watches.write_watch.Tie as tie
@@ -24,8 +24,9 @@ cast-write-changes c = search needs
 
 write-changes-requires : tie.Need-write-changes-requires
 write-changes-requires c κs =
-    let p = c .before .before .before .before .before .before .before .before .before .pre in
-    (p .1 .1 .0, (p .1 .1 .1 .0, (p .1 .1 .1 .1 .0, rw (watch-some _ _ _ _ _ (c .before .before .before .before .if1 .left) _ (c .before .shift-of .ensures)) at (p .1 .1 .1 .1 .1))))
+    let p = c .before .before .before .before .before .before .before .before .before .before .pre in
+    let moves = c .before .shift-of .ensures in
+    (p .1 .1 .0, (p .1 .1 .1 .0, (p .1 .1 .1 .1 .0, (p .1 .1 .1 .1 .1 .0, (p .1 .1 .1 .1 .1 .1 .0, (steps-of _ _ _ moves (p .1 .1 .1 .1 .1 .1 .1 .0), rw (watch-some _ _ _ _ _ (c .before .before .before .before .if1 .left) _ moves) at (p .1 .1 .1 .1 .1 .1 .1 .1)))))))
 
 same-length : tie.Need-same-length
 same-length c = search needs

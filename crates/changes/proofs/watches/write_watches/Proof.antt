@@ -1,0 +1,77 @@
+-- `write_watches` meets its contract: after i turns the frames of the first i watch records stand at the front of the output.
+use Prim.Native.Nat.{_-_}
+use native.Mathlib.Omega.{arith}
+use borrow.Author.Needs.{needs}
+use Rattle.changes.specs.Flagged.{flagged}
+use Rattle.changes.proofs.Records.{watch-below}
+use Rattle.changes.proofs.Watching.{start-below, Written, written-start, written-fits, written-rest, written-more, written-all}
+use Rattle.changes.proofs.watches.write_watches.Statement.{statement}
+use Rattle.changes.proofs.watches.write_watches.Tie as tie
+
+abbrev Inv-loop : tie.InvT-loop
+Inv-loop head keep removed positions lower-ends gone lower out₀ watches at₀ i₀ out at i = Written gone (head .newest) (flagged keep positions lower-ends (head .rows)) lower watches out₀ out at i
+
+abbrev μ-loop : tie.MeasureT-loop
+μ-loop head keep removed positions lower-ends gone lower out₀ watches at₀ i₀ out at i = 8 - i
+
+loop-holds : tie.Need-loop-holds Inv-loop μ-loop
+loop-holds c = written-start _ _ _ _ _ _ (search needs) (c .before .before .before .before .before .pre .1 .1 .1 .1 .1 .1 .1 .1 .1)
+
+mul-write-watch : tie.Need-mul-write-watch Inv-loop μ-loop
+mul-write-watch c = search needs
+
+array-read-write-watch : tie.Need-array-read-write-watch Inv-loop μ-loop
+array-read-write-watch c = search needs
+
+sub-write-watch : tie.Need-sub-write-watch Inv-loop μ-loop
+sub-write-watch c = omega (arith, written-fits (c .before .loop .inv) (c .loop-test .taken))
+
+part-write-watch-start : tie.Need-part-write-watch-start Inv-loop μ-loop
+part-write-watch-start c = omega (arith, written-fits (c .before .loop .inv) (c .loop-test .taken))
+
+part-write-watch-end : tie.Need-part-write-watch-end Inv-loop μ-loop
+part-write-watch-end c = search needs
+
+write-watch-requires : tie.Need-write-watch-requires Inv-loop μ-loop
+write-watch-requires c κs =
+    let p = c .before .before .before .before .before .before .before .before .pre in
+    let n = watch-below _ _ (c .before .before .loop .i) (p .1 .0) (c .before .loop-test .taken) in
+    (omega arith, (p .1 .1 .0, (p .1 .1 .1 .0, (p .1 .1 .1 .1 .0, (p .1 .1 .1 .1 .1 .0, (p .1 .1 .1 .1 .1 .1 .0, (p .1 .1 .1 .1 .1 .1 .1 .0, (start-below _ _ _ _ n (p .1 .1 .1 .1 .1 .1 .1 .1 .0), written-rest (c .before .before .loop .inv) (c .before .loop-test .taken)))))))))
+
+add-at : tie.Need-add-at Inv-loop μ-loop
+add-at c = omega (arith, written-fits (c .before .before .before .before .before .loop .inv) (c .before .before .before .before .loop-test .taken), c .before .before .write-watch .ensures .0)
+
+add-i : tie.Need-add-i Inv-loop μ-loop
+add-i c = search needs
+
+loop-less : tie.Need-loop-less Inv-loop μ-loop
+loop-less c = search needs
+
+loop-again : tie.Need-loop-again Inv-loop μ-loop
+loop-again c = written-more (c .before .before .before .before .before .loop .inv) (c .before .before .before .before .loop-test .taken) (c .before .before .write-watch .ensures .0) (c .before .before .write-watch .ensures .1)
+
+same-length : tie.Need-same-length Inv-loop μ-loop
+same-length c = c .before .loop .inv .laying .front .long
+
+returns : tie.Need-returns Inv-loop μ-loop
+returns c = written-all (c .before .loop .inv) (c .loop-test .left) (search needs)
+
+pub write-watches-spec : {M : Type 1} → statement M
+write-watches-spec =
+    tie.close
+    (tie.spec
+    Inv-loop
+    μ-loop
+    loop-holds
+    mul-write-watch
+    array-read-write-watch
+    sub-write-watch
+    part-write-watch-start
+    part-write-watch-end
+    write-watch-requires
+    add-at
+    add-i
+    loop-less
+    loop-again
+    same-length
+    returns)
