@@ -67,12 +67,13 @@ admitted h x t ws e =
 
 -- what is asked before the rows are marked on 1,024 flags
 pub mark-asks : (h : Head) (x : List ℕ) (t : Tables) (ws : List ℕ) → rowAnswer h x t ws ≡ Accepted
-    → (h .dimensions ≤ length x) × ((h .rows * h .dimensions ≤ length (t .columns)) × ((h .rows ≤ length (t .positions)) × (h .rows ≤ 1024)))
+    → (h .dimensions ≤ length x) × ((h .rows * h .dimensions ≤ length (t .columns)) × ((h .rows ≤ length (t .positions)) × ((h .rows ≤ 1024) × (h .rows ≤ 1024))))
 mark-asks h x t ws e =
     let a = admitted h x t ws e in
     let p = a .passed in
     let w = a .wide in
-    (omega arith, (le-trans (mul-le-mul-right (h .dimensions) (p .whole .few-rows)) (p .long .columns), (omega (arith, p .long, p .whole), omega (arith, p .whole, p .settings))))
+    let few : h .rows ≤ 1024 = omega (arith, p .whole, p .settings) in
+    (omega arith, (le-trans (mul-le-mul-right (h .dimensions) (p .whole .few-rows)) (p .long .columns), (omega (arith, p .long, p .whole), (few, few))))
 
 -- ---- room for one row more
 module _ (h : Head) (x : List ℕ) (t : Tables) (p : Passed h t) where

@@ -2,3 +2,4 @@
 pub mod Columns
 pub mod Laws
 pub mod Comparing
+pub mod Turning

@@ -1,3 +1,4 @@
 -- The definitions of the crate.
 pub mod Dominance
 pub mod Compared
+pub mod Turned

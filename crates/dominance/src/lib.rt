@@ -4,6 +4,7 @@ ghost use Prim.Native.Nat.{_+_, _≤_, min};
 ghost use lib.ListN.{length, drop};
 ghost use Rattle.dominance.specs.Dominance.{better, higher, dominates};
 ghost use Rattle.dominance.specs.Compared.{compared};
+ghost use Rattle.dominance.specs.Turned.{mask};
 
 // How a quote stands to another: whether it is better in some column, and whether it is worse in some column.
 pub struct Comparison {
@@ -11,11 +12,19 @@ pub struct Comparison {
     pub worse: bool,
 }
 
+// The mask of a column whose direction bit is the lowest of bits: of two values with the mask's bits turned, the lower is the better.
+fn mask(bits: u32) -> u32
+    ensures { λ r. ⌜ r ≡ mask (higher bits 0) ⌝ }
+{
+    if bits & 1 == 1 { 4294967295 } else { 0 }
+}
+
 // Whether x is better than y in a column whose direction bit is the lowest of bits.
 fn is_better(bits: u32, x: u32, y: u32) -> bool
     ensures { λ r. ⌜ r ≡ better (higher bits 0) x y ⌝ }
 {
-    if bits & 1 == 1 { y < x } else { x < y }
+    let turned = mask(bits);
+    (x ^ turned) < (y ^ turned)
 }
 
 // The smaller of two numbers.

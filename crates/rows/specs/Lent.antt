@@ -2,17 +2,32 @@
 use mathlib.Core.Path.{_≡_}
 use Prim.Native.Nat.{ℕ, _*_, _≤_}
 use mathlib.Core.Bool.{Bool}
-use mathlib.Core.List.{List}
-use lib.ListN.{length}
+use mathlib.Core.List.{List, [], _∷_, _++_, map}
+use lib.ListN.{length, getD, drop}
 use Rattle.head.specs.declared.Head.{Head}
 use Rattle.head.specs.Heads.{lastPosition}
-use Rattle.model.specs.Rows.{Row, Tables, expiring, remaining, lowerEndAmong, rowsAfter}
+use Rattle.model.specs.Rows.{Row, Tables, rowsIn, expiring, remains, remaining, lowerEndAmong, rowsAfter}
 use Rattle.model.specs.Book.{bookRows}
 use Rattle.cells.specs.Selected.{selected}
 
 -- three lent tables
 abbrev pub tables : List ℕ → List ℕ → List ℕ → Tables
 tables columns positions lowerEnds = record { columns = columns; positions = positions; lowerEnds = lowerEnds }
+
+-- count rows of d columns may be marked: the tables and the flags are long enough, and the rows are few
+pub record Markable (d : ℕ) (columns positions : List ℕ) (count : ℕ) (quote : List ℕ) (flags : List Bool) : Type 0 where
+  pub wide : d ≤ length quote
+  pub columns-fit : count * d ≤ length columns
+  pub positions-fit : count ≤ length positions
+  pub flags-fit : count ≤ length flags
+  pub few : count ≤ 1024
+
+-- count rows are marked: the flags say which remain when a quote comes and position gone expires, and the last of those that
+-- dominate it, the quote's lower end, is the row with this number, counted from 1; 0 stands for none
+pub record Marks (d directions : ℕ) (columns positions : List ℕ) (count : ℕ) (quote : List ℕ) (gone : ℕ) (before after : List Bool) (last : ℕ) : Type 0 where
+  pub flags : after ≡ map (remains d directions quote gone) (rowsIn d count (tables columns positions [])) ++ drop count before
+  pub within : last ≤ count
+  pub lower : lowerEndAmong d directions quote (remaining d directions quote gone (rowsIn d count (tables columns positions []))) ≡ getD (0 ∷ positions) last 0
 
 -- the rows of a book that stay when quote x comes
 abbrev pub rowsLeft : Head → List ℕ → Tables → List Row

@@ -5,13 +5,13 @@ use cells::settle_rows;
 use dominance::compare;
 use head::Head;
 ghost use mathlib.Core.Path.{_≡_};
-ghost use Prim.Native.Nat.{_-_, _*_, _≤_};
+ghost use Prim.Native.Nat.{_-_, _*_, _≤_, max};
 ghost use mathlib.Core.List.{[], _++_, map};
 ghost use lib.ListN.{length, drop};
 ghost use Rattle.model.specs.Rows.{rowsIn, filled, remains, remaining, lowerEndAmong};
 ghost use Rattle.model.specs.Book.{tornRows, bookRows};
 ghost use Rattle.rows.specs.Order.{tornHead, inOrder};
-ghost use Rattle.rows.specs.Lent.{tables, rowsNext, Ready};
+ghost use Rattle.rows.specs.Lent.{tables, Markable, Marks, rowsNext, Ready};
 
 // x less y, and 0 where y is larger.
 pub fn difference(x: u32, y: u32) -> u32
@@ -64,6 +64,80 @@ pub fn torn_rows(head: Head, positions: &[u32], lower_ends: &[u32]) -> bool
     !in_order(before, head.newest, count, positions, lower_ends)
 }
 
+// The larger of two numbers.
+fn larger(x: u32, y: u32) -> u32
+    ensures { λ r. ⌜ r ≡ max x y ⌝ }
+{
+    if x < y { y } else { x }
+}
+
+// Marks which of count rows of d columns remain when the quote comes and position gone expires; gives how many rows there are up to
+// the last of them that dominates the quote, and 0 if none does. It is without branches, and the last one is sought by its number,
+// so that rows can be compared side by side.
+fn mark_rows(
+    directions: u32,
+    d: usize,
+    columns: &[u32],
+    positions: &[u32],
+    count: usize,
+    quote: &[u32],
+    gone: u32,
+    keep: &mut [bool],
+) -> u32
+    requires { ⌜ Markable d (now columns) (now positions) count (now quote) (now keep) ⌝ }
+    ensures { λ r. ⌜ Marks d directions (now (columns .entry)) (now (positions .entry)) count (now (quote .entry)) gone (now (keep .entry)) (now (keep .exit)) r ⌝ }
+{
+    let mut last: u32 = 0;
+    let mut start: usize = 0;
+    let mut i = 0;
+    while i < count {
+        let c = compare(directions, d, quote, columns, start);
+        let stays = positions[i] != gone;
+        keep[i] = stays & !(c.better & !c.worse);
+        start += d;
+        i += 1;
+        let number = i as u32;
+        let over = chosen(stays & c.worse & !c.better, number, 0);
+        last = larger(last, over);
+    }
+    last
+}
+
+// Marks the rows as above, with the number of columns known where it is one of 01's: the comparison of a row is then without a loop.
+fn mark_columns(
+    directions: u32,
+    d: usize,
+    columns: &[u32],
+    positions: &[u32],
+    count: usize,
+    quote: &[u32],
+    gone: u32,
+    keep: &mut [bool],
+) -> u32
+    requires { ⌜ Markable d (now columns) (now positions) count (now quote) (now keep) ⌝ }
+    ensures { λ r. ⌜ Marks d directions (now (columns .entry)) (now (positions .entry)) count (now (quote .entry)) gone (now (keep .entry)) (now (keep .exit)) r ⌝ }
+{
+    if d == 1 {
+        return mark_rows(directions, 1, columns, positions, count, quote, gone, keep);
+    }
+    if d == 2 {
+        return mark_rows(directions, 2, columns, positions, count, quote, gone, keep);
+    }
+    if d == 3 {
+        return mark_rows(directions, 3, columns, positions, count, quote, gone, keep);
+    }
+    if d == 4 {
+        return mark_rows(directions, 4, columns, positions, count, quote, gone, keep);
+    }
+    if d == 5 {
+        return mark_rows(directions, 5, columns, positions, count, quote, gone, keep);
+    }
+    if d == 6 {
+        return mark_rows(directions, 6, columns, positions, count, quote, gone, keep);
+    }
+    mark_rows(directions, d, columns, positions, count, quote, gone, keep)
+}
+
 // Marks which of count rows remain when the quote comes and position gone expires; gives the quote's lower end among them.
 pub fn mark(
     directions: u32,
@@ -79,22 +153,16 @@ pub fn mark(
     requires { ⌜ count * d ≤ length (now columns) ⌝ }
     requires { ⌜ count ≤ length (now positions) ⌝ }
     requires { ⌜ count ≤ length (now keep) ⌝ }
+    requires { ⌜ count ≤ 1024 ⌝ }
     ensures { λ _. ⌜ now (keep .exit) ≡ map (remains d directions (now (quote .entry)) gone) (rowsIn d count (tables (now (columns .entry)) (now (positions .entry)) [])) ++ drop count (now (keep .entry)) ⌝ }
     ensures { λ r. ⌜ r ≡ lowerEndAmong d directions (now (quote .entry)) (remaining d directions (now (quote .entry)) gone (rowsIn d count (tables (now (columns .entry)) (now (positions .entry)) []))) ⌝ }
 {
-    let mut lower: u32 = 0;
-    let mut start: usize = 0;
-    let mut i = 0;
-    while i < count {
-        let c = compare(directions, d, quote, columns, start);
-        let position = positions[i];
-        let stays = position != gone;
-        keep[i] = stays & !(c.better & !c.worse);
-        lower = chosen(stays & c.worse & !c.better, position, lower);
-        start += d;
-        i += 1;
+    let last = mark_columns(directions, d, columns, positions, count, quote, gone, keep);
+    if last == 0 {
+        return 0;
     }
-    lower
+    let at = (last - 1) as usize;
+    positions[at]
 }
 
 // Takes a quote into the tables: the rows that stay, the quote's row behind them, and zeros up to the capacity; gives how

@@ -1,17 +1,15 @@
--- `is_better` meets its contract: the mask chooses the lowest bit, and the bit which of the two orders.
-use borrow.Author.Tests.{eq-eqb, ne-eqb}
-use Rattle.dominance.specs.Dominance.{better}
-use Rattle.dominance.proofs.Comparing.{lowest}
+-- `is_better` meets its contract: with the mask's bits turned the lower value is the better.
+use native.Mathlib.Omega.{arith}
+use borrow.Author.Needs.{needs}
+use Rattle.dominance.proofs.Turning.{turned-better}
 use Rattle.dominance.proofs.is_better.Statement.{statement}
 use Rattle.dominance.proofs.is_better.Tie as tie
 
-returns : tie.Need-returns
-unfolding better
-returns c = rw (lowest, eq-eqb _ _ (c .if1 .taken))
+mask-requires : tie.Need-mask-requires
+mask-requires c κs = search needs
 
-returns-2 : tie.Need-returns-2
-unfolding better
-returns-2 c = rw (lowest, ne-eqb _ _ (c .if1 .left))
+returns : tie.Need-returns
+returns c = rw (c .mask .ensures) (turned-better _ _ _ (c .before .fits .x .fits) (c .before .fits .y .fits))
 
 pub is-better-spec : {M : Type 1} → statement M
-is-better-spec = tie.close (tie.spec returns returns-2)
+is-better-spec = tie.close (tie.spec mask-requires returns)
