@@ -1,13 +1,12 @@
 -- Playing a tape, frame by frame, and its print: once for whatever makes the calls, then by the reference model and by the book model.
 use Prim.Native.Nat.{ℕ, zero, suc}
 use mathlib.Core.Bool.{Bool, true, false, cond}
-use mathlib.Core.List.{List, [], _∷_, _++_}
+use mathlib.Core.List.{List, [], _++_}
 use lib.ListN.{length, take, replicate}
-use Rattle.head.specs.declared.Head.{Head}
 use Rattle.head.specs.declared.Refusal.the-variants.{OutOfPlace}
 use Rattle.head.specs.Heads.{settingsHold}
 use Rattle.frames.specs.Frames.{readAt}
-use Rattle.model.specs.Reference.{Reference, Lengths, Fed, Told, opened, referenceStep}
+use Rattle.model.specs.Reference.{Reference, Lengths, Fed, referenceStep}
 use Rattle.model.specs.Calls.{Call, Lent, World, bookStep}
 use Rattle.tape.specs.Print.{Request, Asked, finished, unread, misplaced, request, asked, Answered, refusalLine, textOf}
 
