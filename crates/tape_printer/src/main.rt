@@ -1,22 +1,32 @@
 // The tape printer: plays the tape on standard input, and prints it on standard output. It keeps one piece of the tape at a time.
+ghost use mathlib.Core.Path.{_≡_};
+ghost use Prim.Native.Nat.{_≤_};
+ghost use mathlib.Core.Bool.{_&&_, not};
+ghost use lib.ListN.{length};
+ghost use Rattle.tape.specs.Steps.{ready};
+ghost use Rattle.tape_printer.specs.Stands.{Advanced};
 use head::Head;
 
 // How many bytes of text the lines of any frame fit in.
 const LONGEST_LINES: usize = 208077;
 
 // Where the printer stands: the head and the watches of the book, the place of the next frame and the end of what has come of the tape,
-// how many bytes of text are gathered, and whether the tape is over.
+// how many bytes of text are gathered, whether the input has ended, and whether the tape is over.
 struct Stand {
     head: Head,
     watches: [u32; 8],
     place: usize,
     end: usize,
     used: usize,
+    ended: bool,
     over: bool,
 }
 
 // Writes out the gathered lines; where that fails the tape is over.
-fn flush(stand: Stand, text: &[u8]) -> Stand {
+fn flush(stand: Stand, text: &[u8]) -> Stand
+    requires { ⌜ stand .used ≤ length (now text) ⌝ }
+    ensures { λ r. ⌜ (r .used ≡ 0) × (r .place ≡ stand .place) × (r .end ≡ stand .end) ⌝ }
+{
     let used = stand.used;
     let mut now = stand;
     now.used = 0;
@@ -27,7 +37,10 @@ fn flush(stand: Stand, text: &[u8]) -> Stand {
 }
 
 // Writes out the gathered lines if there is no room behind them for those of any frame.
-fn with_room(stand: Stand, text: &[u8]) -> Stand {
+fn with_room(stand: Stand, text: &[u8]) -> Stand
+    requires { ⌜ stand .used ≤ length (now text) ⌝ }
+    ensures { λ r. ⌜ (r .used ≤ length (now (text .entry))) × (r .place ≡ stand .place) × (r .end ≡ stand .end) ⌝ }
+{
     if LONGEST_LINES <= text.len() - stand.used {
         return stand;
     }
@@ -43,7 +56,10 @@ fn play_one(
     lower_ends: &mut [u32],
     bytes: &mut [u8],
     text: &mut [u8],
-) -> Stand {
+) -> Stand
+    requires { ⌜ (stand .used ≤ length (now text)) × (stand .place ≤ length (now tape)) ⌝ }
+    ensures { λ r. ⌜ (r .used ≤ length (now (text .entry))) × (r .end ≡ stand .end) × Advanced (now (tape .entry)) (stand .place) (r .place) (r .over) ⌝ }
+{
     let now = with_room(stand, text);
     let used = now.used;
     let head = now.head;
@@ -67,12 +83,15 @@ fn play_one(
         place: step.next,
         end: now.end,
         used: used + step.count,
+        ended: now.ended,
         over: now.over | step.over,
     }
 }
 
 // Whether a frame can be played before more of the tape has come.
-fn plays(stand: Stand, tape: &[u8]) -> bool {
+fn plays(stand: Stand, tape: &[u8]) -> bool
+    ensures { λ r. ⌜ r ≡ not (stand .over) && ready (now (tape .entry)) (stand .place) ⌝ }
+{
     if stand.over {
         return false;
     }
@@ -88,17 +107,33 @@ fn play_piece(
     lower_ends: &mut [u32],
     bytes: &mut [u8],
     text: &mut [u8],
-) -> Stand {
+) -> Stand
+    requires { ⌜ (stand .used ≤ length (now text)) × (stand .place ≤ length (now tape)) ⌝ }
+    ensures { λ r. ⌜ (r .used ≤ length (now (text .entry))) × (r .place ≤ length (now (tape .entry))) × (r .end ≡ stand .end) ⌝ }
+{
     let mut now = stand;
-    let mut turns = tape.len();
-    while 0 < turns && plays(now, tape) {
-        turns -= 1;
+    while plays(now, tape) {
         now = play_one(now, tape, columns, positions, lower_ends, bytes, text);
     }
     now
 }
 
-// Writes out the lines, reads on behind the begun frame, and plays what came; at the input's end, what is left.
+// Reads on behind the begun frame, which is moved to the front of what has come of the tape.
+fn refill(stand: Stand, tape: &mut [u8]) -> Stand
+    requires { ⌜ (stand .place ≤ stand .end) × (stand .end ≤ length (now tape)) ⌝ }
+    ensures { λ r. ⌜ (r .used ≡ stand .used) × (r .place ≡ 0) × (r .end ≤ length (now (tape .entry))) ⌝ }
+{
+    let mut now = stand;
+    let rest = now.end - now.place;
+    streams::to_front(tape, now.place, now.end);
+    let came = streams::take_in(&mut tape[rest..], b"tape_printer: standard input");
+    now.place = 0;
+    now.end = rest + came.count;
+    now.ended = !came.more;
+    now
+}
+
+// Writes out the lines, reads on, and plays what came; at the input's end, what is left.
 fn read_on(
     stand: Stand,
     tape: &mut [u8],
@@ -107,19 +142,18 @@ fn read_on(
     lower_ends: &mut [u32],
     bytes: &mut [u8],
     text: &mut [u8],
-) -> Stand {
+) -> Stand
+    requires { ⌜ (stand .used ≤ length (now text)) × (stand .place ≤ stand .end) × (stand .end ≤ length (now tape)) ⌝ }
+    ensures { λ r. ⌜ (r .used ≤ length (now (text .entry))) × (r .place ≤ r .end) × (r .end ≤ length (now (tape .entry))) ⌝ }
+{
     let mut now = flush(stand, text);
     if now.over {
         return now;
     }
-    let rest = now.end - now.place;
-    streams::to_front(tape, now.place, now.end);
-    let came = streams::take_in(&mut tape[rest..], b"tape_printer: standard input");
-    let end = rest + came.count;
-    now.place = 0;
-    now.end = end;
-    if came.more {
-        return play_piece(
+    now = refill(now, tape);
+    let end = now.end;
+    if now.ended {
+        now = play_one(
             now,
             &tape[..end],
             columns,
@@ -128,8 +162,10 @@ fn read_on(
             bytes,
             text,
         );
+        now.over = true;
+        return now;
     }
-    now = play_one(
+    play_piece(
         now,
         &tape[..end],
         columns,
@@ -137,9 +173,7 @@ fn read_on(
         lower_ends,
         bytes,
         text,
-    );
-    now.over = true;
-    now
+    )
 }
 
 fn main() {
@@ -155,6 +189,7 @@ fn main() {
         place: 0,
         end: 0,
         used: 0,
+        ended: false,
         over: false,
     };
     let mut turns = u64::MAX;
