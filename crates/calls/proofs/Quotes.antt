@@ -189,6 +189,8 @@ module _ {h : Head} {x : List ℕ} {t : Tables} {ws : List ℕ} {kept : List Boo
   ready =
       let p = v .admitted .passed in
       record {
+        few = p .settings .small-capacity;
+        few-columns = omega (arith, mul-le-mul-right (h .dimensions) (p .settings .small-capacity), p .settings .few-columns);
         rows-fit = p .whole .few-rows;
         newest-fits = p .whole .low-newest;
         columns-fit = p .long .columns;

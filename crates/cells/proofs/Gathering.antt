@@ -1,96 +1,19 @@
--- Turns of the loops that move kept cells and kept rows to the front.
+-- Kept rows moved to the front, a run of them at each turn.
 use mathlib.Core.Path.{_≡_, refl, sym, ap, _∙_}
-use Prim.Native.Nat.{ℕ, _+_, _*_, _≤_, _<_}
-use native.Mathlib.Nat.{add-zero, zero-add, zero-mul, suc-mul, mul-le-mul-right, le-refl, le-antisymm}
+use Prim.Native.Nat.{ℕ, zero, suc, _+_, _-_, _*_, _≤_, _<_}
+use native.Mathlib.Nat.{add-zero, zero-add, zero-mul, suc-mul, add-mul, mul-le-mul-right, le-refl, le-antisymm}
 use native.Mathlib.Numerals.{add-one}
 use native.Mathlib.Omega.{arith}
 use mathlib.Core.Bool.{Bool, true, false}
-use mathlib.Core.List.{List, [], _∷_, _++_, map, append-nil}
-use lib.ListN.{length, getD, set, take, drop, length-append, length-set, length-drop, length-map}
-use lib.Seq.{take-suc, take-suc-set, take-set-le, drop-set-lt, length-take-le, paste, take-paste, drop-paste}
-use mir.Val.{boolByte}
-use Rattle.lists.specs.Lists.{keep, flat, run}
+use mathlib.Core.List.{List, [], _∷_, _++_, map, append-nil, append-assoc}
+use lib.ListN.{length, getD, take, drop, length-append, length-drop, length-map}
+use lib.Seq.{take-add, drop-drop, length-take-le, paste, take-paste, drop-paste}
+use Rattle.lists.specs.Lists.{flat, run}
 use Rattle.lists.proofs.Filters.{map-append, flat-append}
 use Rattle.lists.proofs.Runs.{length-run, run-snoc}
-use Rattle.lists.proofs.Storing.{drop-later, getD-beyond}
-use Rattle.model.specs.Rows.{renamed}
-use Rattle.cells.specs.Selected.{selected, columnsIn, Gathered}
+use Rattle.lists.proofs.Storing.{drop-later}
+use Rattle.cells.specs.Selected.{selected, columnsIn, Kept, RunEnd, Gathered}
 use Rattle.cells.proofs.Selecting.{selected-snoc}
-
-pub byte≤ : (b : Bool) → boolByte b ≤ 1
-byte≤ true = omega arith
-byte≤ false = omega arith
-
--- ---- cells
-
--- i cells have been passed: the kept ones stand in front
-pub record Cells (flags : List Bool) (gone count : ℕ) (before after : List ℕ) (to i : ℕ) : Type 0 where
-  pub within : i ≤ count
-  pub room : count ≤ length before
-  pub same-length : length after ≡ length before
-  pub gathered : Gathered to i (map (renamed gone) (selected flags (take i before))) before after
-
-pub start : (flags : List Bool) (gone count : ℕ) (before : List ℕ) → count ≤ length before → Cells flags gone count before before 0 0
-unfolding selected
-start flags gone count before h = record {
-  within = omega arith;
-  room = h;
-  same-length = refl;
-  gathered = record { place = refl; below = le-refl 0; written = refl; beyond = refl };
-}
-
-module _ {flags : List Bool} {gone count : ℕ} {before after : List ℕ} {to i : ℕ} (v : Cells flags gone count before after to i) (h : i < count) where
-  -- the cell that is read is as it came
-  unmoved : getD after i 0 ≡ getD before i 0
-  unmoved = getD-beyond 0 after before i i (le-refl i) (v .gathered .beyond)
-
-  front : List ℕ
-  front = map (renamed gone) (selected flags (take i before))
-
-  front-next : (b : Bool) → getD flags i false ≡ b → map (renamed gone) (selected flags (take (i + 1) before)) ≡ front ++ map (renamed gone) (keep b (getD before i 0) [])
-  unfolding front
-  front-next b e =
-      rw (add-one, take-suc before i 0 (omega arith), selected-snoc, length-take-le i before (omega arith), e, map-append)
-
-  past : (x : ℕ) → drop (i + 1) (set after to x) ≡ drop (i + 1) before
-  past x =
-      let g = v .gathered in
-      drop-set-lt (i + 1) after to x (omega arith) ∙ drop-later after before i (i + 1) (omega arith) (g .beyond)
-
-  turn : (b : Bool) (x : ℕ) → x ≡ renamed gone (getD before i 0)
-      → Gathered (to + boolByte b) (i + 1) (front ++ map (renamed gone) (keep b (getD before i 0) [])) before (set after to x)
-  unfolding front
-  turn true x f =
-      let g = v .gathered in
-      record {
-        place = rw length-append (omega arith);
-        below = omega arith;
-        written = rw (add-one, take-suc-set after to x (omega arith), g .written, f);
-        beyond = past x;
-      }
-  turn false x f =
-      let g = v .gathered in
-      record {
-        place = rw (add-zero, append-nil) (g .place);
-        below = omega arith;
-        written = rw (add-zero, append-nil, take-set-le to after to x (le-refl to)) (g .written);
-        beyond = past x;
-      }
-
-  pub more : (x : ℕ) → x ≡ renamed gone (getD after i 0) → Cells flags gone count before (set after to x) (to + boolByte (getD flags i false)) (i + 1)
-  more x f = record {
-    within = omega arith;
-    room = v .room;
-    same-length = rw length-set (v .same-length);
-    gathered = rw (front-next (getD flags i false) refl) (turn (getD flags i false) x (f ∙ ap (renamed gone) unmoved));
-  }
-
-pub finish : {flags : List Bool} {gone count : ℕ} {before after : List ℕ} {to i : ℕ} → Cells flags gone count before after to i → count ≤ i
-    → (to ≡ length (selected flags (take count before))) × Gathered to count (map (renamed gone) (selected flags (take count before))) before after
-finish {flags} {gone} {before = before} {i = i} v h =
-    rw (← le-antisymm (v .within) h) (v .gathered .place ∙ length-map (selected flags (take i before)) (renamed gone), v .gathered)
-
--- ---- rows
 
 columns-snoc : (d i : ℕ) (l : List ℕ) → columnsIn d (i + 1) l ≡ columnsIn d i l ++ (take d (drop (i * d) l) ∷ [])
 unfolding columnsIn
@@ -100,79 +23,98 @@ length-columns : (d i : ℕ) (l : List ℕ) → length (columnsIn d i l) ≡ i
 unfolding columnsIn
 length-columns d i l = length-map (run 0 i) (λ k. take d (drop (k * d) l)) ∙ length-run 0 i
 
--- i rows of d cells have been passed, up to place from: the kept ones stand in front
-pub record Rows (flags : List Bool) (d count : ℕ) (before after : List ℕ) (to from i : ℕ) : Type 0 where
+-- the cells of the rows from first to end
+pub spans : (first end count d : ℕ) → first ≤ end → end ≤ count → (first * d + (end - first) * d ≡ end * d) × (end * d ≤ count * d)
+spans first end count d h k =
+    let e : end ≡ first + (end - first) = omega arith in
+    (sym (add-mul first (end - first) d) ∙ ap (λ (n : ℕ). n * d) (sym e), mul-le-mul-right d k)
+
+module _ (flags : List Bool) (d : ℕ) (before : List ℕ) where
+  -- the cells of the kept ones of the first rows
+  abbrev front : ℕ → List ℕ
+  front i = flat (selected flags (columnsIn d i before))
+
+  -- a row that is not kept adds nothing
+  front-gap : (i : ℕ) → getD flags i false ≡ false → front (i + 1) ≡ front i
+  unfolding flat
+  front-gap i e = rw (columns-snoc, selected-snoc, length-columns, e, append-nil)
+
+  -- k kept rows add their cells
+  front-run : (i k : ℕ) → ((j : ℕ) → i ≤ j → j < i + k → getD flags j false ≡ true) → front (i + k) ≡ front i ++ take (k * d) (drop (i * d) before)
+  unfolding flat
+  front-run i zero f = rw (add-zero, zero-mul, append-nil)
+  front-run i (suc k) f =
+      let e : i + suc k ≡ i + k + 1 = omega arith in
+      rw (e, columns-snoc, selected-snoc, length-columns, f (i + k) (omega arith) (omega arith), flat-append, front-run i k (λ j a b. f j a (omega arith)))
+      (rw (append-nil, suc-mul, take-add, drop-drop, add-mul, append-assoc))
+
+-- i rows have been passed, the kept ones stand in front, and row i is not kept
+pub record Rows (flags : List Bool) (d count : ℕ) (before after : List ℕ) (to i : ℕ) : Type 0 where
   pub within : i ≤ count
-  pub from≡ : from ≡ i * d
   pub fits : count * d ≤ length before
   pub same-length : length after ≡ length before
-  pub gathered : Gathered to from (flat (selected flags (columnsIn d i before))) before after
+  pub gathered : Gathered to (i * d) (flat (selected flags (columnsIn d i before))) before after
+  pub ends : i < count → getD flags i false ≡ false
 
-pub start-rows : (flags : List Bool) (d count : ℕ) (before : List ℕ) → count * d ≤ length before → Rows flags d count before before 0 0 0
-unfolding selected flat columnsIn run
-start-rows flags d count before h = record {
-  within = omega arith;
-  from≡ = sym (zero-mul d);
-  fits = h;
-  same-length = refl;
-  gathered = record { place = refl; below = le-refl 0; written = refl; beyond = refl };
-}
-
-module _ {flags : List Bool} {d count : ℕ} {before after : List ℕ} {to from i : ℕ} (v : Rows flags d count before after to from i) (h : i < count) where
-  next : (i + 1) * d ≡ i * d + d
-  next = rw add-one (suc-mul i d)
-
-  -- the row lies within the table
-  pub row-in : from + d ≤ length after
-  row-in = omega (arith, next, mul-le-mul-right {m = i + 1} {n = count} d (omega arith))
-
-  row : List ℕ
-  row = take d (drop (i * d) before)
-
-  front-rows : (b : Bool) → getD flags i false ≡ b → flat (selected flags (columnsIn d (i + 1) before)) ≡ flat (selected flags (columnsIn d i before)) ++ flat (keep b row [])
-  unfolding row
-  front-rows b e = rw (columns-snoc, selected-snoc, length-columns, e, flat-append)
-
-  pub moved : getD flags i false ≡ true → (after' : List ℕ) → after' ≡ paste after to (drop from after) d → length after' ≡ length after
-      → Rows flags d count before after' (to + d) (from + d) (i + 1)
-  unfolding row flat
-  moved e after' f l =
-      let g = v .gathered in
-      let same : drop from after ≡ drop from before = g .beyond in
-      let row# : length row ≡ d = length-take-le d (drop (i * d) before) (rw length-drop (omega (arith, row-in))) in
-      let enough : d ≤ length (drop from after) = rw length-drop (omega (arith, row-in)) in
+module _ {flags : List Bool} {d count : ℕ} {before : List ℕ} where
+  -- the rows before the first that is not kept stay where they are
+  pub start : {end : ℕ} → count * d ≤ length before → RunEnd flags 0 count end → Rows flags d count before before (end * d) end
+  unfolding selected flat columnsIn run
+  start {end} h r =
+      let some : end * d ≤ count * d = mul-le-mul-right d (r .run .within) in
+      let all : flat (selected flags (columnsIn d end before)) ≡ take (end * d) before = rw (zero-add, zero-mul) at (front-run flags d before 0 end (λ j a b. r .run .kept j a (omega arith))) in
       record {
-        within = omega arith;
-        from≡ = omega (arith, next);
-        fits = v .fits;
-        same-length = l ∙ v .same-length;
+        within = r .run .within;
+        fits = h;
+        same-length = refl;
         gathered = record {
-          place = rw (front-rows true e, append-nil, length-append, row#) (omega arith);
-          below = omega arith;
-          written = rw (front-rows true e, append-nil, f, take-paste after to (drop from after) d (omega (arith, row-in)) enough, g .written, same, v .from≡);
-          beyond =
-              rw f (drop-later (paste after to (drop from after) d) after (to + d) (from + d) (omega arith) (drop-paste after to (drop from after) d (omega (arith, row-in)) enough))
-              ∙ drop-later after before from (from + d) (omega arith) same;
+          place = rw (all, length-take-le (end * d) before (omega arith));
+          below = le-refl (end * d);
+          written = sym all;
+          beyond = refl;
         };
+        ends = r .ends;
       }
 
-  pub passed : getD flags i false ≡ false → Rows flags d count before after to (from + d) (i + 1)
-  unfolding flat
-  passed e =
-      let g = v .gathered in
-      record {
-        within = omega arith;
-        from≡ = omega (arith, next);
-        fits = v .fits;
-        same-length = v .same-length;
-        gathered = rw (front-rows false e, append-nil) (record {
-          place = g .place;
-          below = omega arith;
-          written = g .written;
-          beyond = drop-later after before from (from + d) (omega arith) (g .beyond);
-        });
-      }
+  module _ {after : List ℕ} {to at : ℕ} (v : Rows flags d count before after to at) (h : at < count) {end : ℕ} (r : RunEnd flags (at + 1) count end) where
+    -- the run behind the row that is not kept lies within the table, and so does its new place
+    pub run-in : ((at + 1) * d + (end - (at + 1)) * d ≤ count * d) × (to + (end - (at + 1)) * d ≤ count * d)
+    run-in =
+        let s = spans (at + 1) end count d (r .run .least) (r .run .within) in
+        let m : at * d ≤ (at + 1) * d = mul-le-mul-right d (omega arith) in
+        (omega (arith, s), omega (arith, s, m, v .gathered .below))
 
-pub finish-rows : {flags : List Bool} {d count : ℕ} {before after : List ℕ} {to from i : ℕ} → Rows flags d count before after to from i → count ≤ i
+    pub turn : (after' : List ℕ) → after' ≡ paste after to (drop ((at + 1) * d) after) ((end - (at + 1)) * d) → length after' ≡ length after
+        → Rows flags d count before after' (to + (end - (at + 1)) * d) end
+    turn after' f l =
+        let g = v .gathered in
+        let from = (at + 1) * d in
+        let n = (end - (at + 1)) * d in
+        let s = spans (at + 1) end count d (r .run .least) (r .run .within) in
+        let m : at * d ≤ from = mul-le-mul-right d (omega arith) in
+        let same : drop from after ≡ drop from before = drop-later after before (at * d) from m (g .beyond) in
+        let e : end ≡ at + 1 + (end - (at + 1)) = omega (arith, r .run .least) in
+        let all : flat (selected flags (columnsIn d end before)) ≡ flat (selected flags (columnsIn d at before)) ++ take n (drop from before) =
+        ap (front flags d before) e ∙ front-run flags d before (at + 1) (end - (at + 1)) (λ j a b. r .run .kept j a (omega arith))
+        ∙ ap (λ (l : List ℕ). l ++ take n (drop from before)) (front-gap flags d before at (v .ends h)) in
+        let enough : n ≤ length (drop from after) = rw length-drop (omega (arith, run-in, v .fits, v .same-length)) in
+        let row# : length (take n (drop from before)) ≡ n = length-take-le n (drop from before) (rw (← same) enough) in
+        let room : to ≤ length after = omega (arith, run-in, v .fits, v .same-length) in
+        record {
+          within = r .run .within;
+          fits = v .fits;
+          same-length = l ∙ v .same-length;
+          gathered = record {
+            place = rw (all, length-append, row#, g .place);
+            below = omega (arith, s, m, g .below);
+            written = rw (all, f, take-paste after to (drop from after) n room enough, g .written, same);
+            beyond =
+                rw f (drop-later (paste after to (drop from after) n) after (to + n) (end * d) (omega (arith, s, m, g .below)) (drop-paste after to (drop from after) n room enough))
+                ∙ drop-later after before (at * d) (end * d) (omega (arith, s, m)) (g .beyond);
+          };
+          ends = r .ends;
+        }
+
+pub finish-rows : {flags : List Bool} {d count : ℕ} {before after : List ℕ} {to i : ℕ} → Rows flags d count before after to i → count ≤ i
     → Gathered to (count * d) (flat (selected flags (columnsIn d count before))) before after
-finish-rows v h = rw (← le-antisymm (v .within) h, ← v .from≡) (v .gathered)
+finish-rows v h = rw (← le-antisymm (v .within) h) (v .gathered)

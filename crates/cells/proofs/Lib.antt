@@ -2,5 +2,7 @@
 pub mod Clearing
 pub mod Pasting
 pub mod Selecting
+pub mod Running
 pub mod Gathering
+pub mod Renaming
 pub mod Settling

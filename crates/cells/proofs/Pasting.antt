@@ -1,12 +1,12 @@
 -- A turn of the loops that copy cells to a place.
-use mathlib.Core.Path.{_≡_, refl, sym, ap, _∙_}
+use mathlib.Core.Path.{_≡_, refl, ap, _∙_}
 use Prim.Native.Nat.{ℕ, _+_, _≤_, _<_}
+use native.Mathlib.Nat.{le-refl}
 use native.Mathlib.Numerals.{add-one}
 use native.Mathlib.Omega.{arith}
-use mathlib.Core.List.{List, append-assoc}
-use lib.ListN.{length, getD, set, drop, length-set, take-append-drop}
-use lib.Seq.{paste, paste-zero, paste-suc, drop-paste, drop-drop, getD-drop}
-use Rattle.lists.proofs.Storing.{getD-beyond}
+use mathlib.Core.List.{List}
+use lib.ListN.{length, getD, set, take, drop, length-set, length-drop}
+use lib.Seq.{paste, paste-zero, paste-suc, length-take-le, take-take, take-at, take-length}
 
 -- the first j of n cells have been copied to a place
 pub record Pasting (before : List ℕ) (at : ℕ) (source : List ℕ) (n : ℕ) (after : List ℕ) (j : ℕ) : Type 0 where
@@ -29,14 +29,12 @@ more {before} {at} {source} {n} {after} {j} v h x e = record {
   after≡ = rw (v .after≡, e, add-one) (paste-suc before at source j 0 (omega arith) (omega arith));
 }
 
--- a copy down within a table reads what stood there
-pub unread : {before : List ℕ} {to from n : ℕ} {after : List ℕ} {j : ℕ} → Pasting before to (drop from before) n after j → j < n → to ≤ from
-    → getD after (from + j) 0 ≡ getD (drop from before) j 0
-unread {before} {to} {from} {n} {after} {j} v h k =
-    getD-beyond 0 after before (to + j) (from + j) (omega arith)
-    (ap (drop (to + j)) (v .after≡) ∙ drop-paste before to (drop from before) j (omega arith) (omega arith))
-    ∙ sym (getD-drop from before j 0)
-
--- cells copied to where they stand
-pub paste-same : (before : List ℕ) (from to n : ℕ) → from ≡ to → before ≡ paste before to (drop from before) n
-paste-same before from to n e = sym (rw (e, append-assoc, ← drop-drop, take-append-drop, take-append-drop))
+-- cells copied out to the front of a table and back to a place
+pub moved : (before : List ℕ) (from to n : ℕ) (held part lifted after : List ℕ) → from + n ≤ length before
+    → lifted ≡ paste held 0 part (length part) → after ≡ paste before to (take n lifted) (length (take n lifted)) → part ≡ take n (drop from before)
+    → after ≡ paste before to (drop from before) n
+moved before from to n held part lifted after h f g e =
+    let row# : length (take n (drop from before)) ≡ n = length-take-le n (drop from before) (rw length-drop (omega arith)) in
+    let part# : length part ≡ n = ap length e ∙ row# in
+    let same : take n lifted ≡ part = rw (f, take-length) (take-at part (drop (0 + length part) held) n part#) in
+    g ∙ rw (same, part#, e, take-take n n (drop from before) (le-refl n))

@@ -7,7 +7,7 @@ ghost use lib.ListN.{length, take, drop};
 ghost use lib.Seq.{paste};
 ghost use Rattle.lists.specs.Lists.{flat, padded};
 ghost use Rattle.model.specs.Rows.{renamed};
-ghost use Rattle.cells.specs.Selected.{selected, columnsIn, Gathered};
+ghost use Rattle.cells.specs.Selected.{selected, columnsIn, allKept, Kept, RunEnd, Gathered};
 
 // x if the test passed, else y.
 pub fn chosen(test: bool, x: u32, y: u32) -> u32
@@ -29,22 +29,6 @@ pub fn clear(cells: &mut [u32], from: usize, to: usize)
     }
 }
 
-// Copies d cells down from one place to another; cells that stay where they are are not copied.
-fn move_down(cells: &mut [u32], from: usize, to: usize, d: usize)
-    requires { ⌜ to ≤ from ⌝ }
-    requires { ⌜ from + d ≤ length (now cells) ⌝ }
-    ensures { λ _. ⌜ now (cells .exit) ≡ paste (now (cells .entry)) to (drop from (now (cells .entry))) d ⌝ }
-{
-    if from == to {
-        return;
-    }
-    let mut j = 0;
-    while j < d {
-        cells[to + j] = cells[from + j];
-        j += 1;
-    }
-}
-
 // Puts a row at a place.
 fn put(cells: &mut [u32], at: usize, row: &[u32])
     requires { ⌜ at + length (now row) ≤ length (now cells) ⌝ }
@@ -57,45 +41,99 @@ fn put(cells: &mut [u32], at: usize, row: &[u32])
     }
 }
 
-// Moves the kept ones of count rows of d cells to the front; gives the place behind them.
+// Copies n cells from one place to another, by way of a copy: the two may overlap.
+fn move_cells(cells: &mut [u32], from: usize, to: usize, n: usize)
+    requires { ⌜ from + n ≤ length (now cells) ⌝ }
+    requires { ⌜ to + n ≤ length (now cells) ⌝ }
+    requires { ⌜ n ≤ 6144 ⌝ }
+    ensures { λ _. ⌜ now (cells .exit) ≡ paste (now (cells .entry)) to (drop from (now (cells .entry))) n ⌝ }
+{
+    let mut held = [0; 6144];
+    let end = from + n;
+    put(&mut held, 0, &cells[from..end]);
+    put(cells, to, &held[..n]);
+}
+
+// Whether the 32 flags from a place on are all set.
+fn block_kept(keep: &[bool], at: usize) -> bool
+    requires { ⌜ at + 32 ≤ length (now keep) ⌝ }
+    ensures { λ r. ⌜ r ≡ allKept (now (keep .entry)) at 32 ⌝ }
+{
+    let mut all = true;
+    let mut j = 0;
+    while j < 32 {
+        all = all & keep[at + j];
+        j += 1;
+    }
+    all
+}
+
+// Passes blocks of 32 rows that are all kept.
+fn pass_blocks(keep: &[bool], from: usize, count: usize) -> usize
+    requires { ⌜ from ≤ count ⌝ }
+    requires { ⌜ count ≤ length (now keep) ⌝ }
+    ensures { λ r. ⌜ Kept (now (keep .entry)) from count r ⌝ }
+{
+    let mut i = from;
+    while 32 <= count - i {
+        if !block_kept(keep, i) {
+            return i;
+        }
+        i += 32;
+    }
+    i
+}
+
+// The end of the run of kept rows from a place on: the first row that is not kept, or count.
+fn run_end(keep: &[bool], from: usize, count: usize) -> usize
+    requires { ⌜ from ≤ count ⌝ }
+    requires { ⌜ count ≤ length (now keep) ⌝ }
+    ensures { λ r. ⌜ RunEnd (now (keep .entry)) from count r ⌝ }
+{
+    let mut i = pass_blocks(keep, from, count);
+    while i < count {
+        if !keep[i] {
+            return i;
+        }
+        i += 1;
+    }
+    i
+}
+
+// Moves the kept ones of count rows of d cells to the front, each run of them as one piece; gives the place behind them.
 fn gather_rows(keep: &[bool], d: usize, count: usize, cells: &mut [u32]) -> usize
     requires { ⌜ count ≤ length (now keep) ⌝ }
     requires { ⌜ count * d ≤ length (now cells) ⌝ }
+    requires { ⌜ count * d ≤ 6144 ⌝ }
     ensures { λ r. ⌜ Gathered r (count * d) (flat (selected (now (keep .entry)) (columnsIn d count (now (cells .entry))))) (now (cells .entry)) (now (cells .exit)) ⌝ }
 {
-    let mut to: usize = 0;
-    let mut from: usize = 0;
-    let mut i = 0;
-    while i < count {
-        let start = from;
-        from += d;
-        let kept = keep[i];
-        i += 1;
-        if kept {
-            move_down(cells, start, to, d);
-            to += d;
-        }
+    let mut at = run_end(keep, 0, count);
+    let mut to = at * d;
+    while at < count {
+        let first = at + 1;
+        let end = run_end(keep, first, count);
+        let n = (end - first) * d;
+        move_cells(cells, first * d, to, n);
+        to += n;
+        at = end;
     }
     to
 }
 
-// Moves the kept ones of count cells to the front, each renamed once position gone has expired; gives how many there are.
-fn gather(keep: &[bool], gone: u32, count: usize, cells: &mut [u32]) -> usize
-    requires { ⌜ count ≤ length (now keep) ⌝ }
+// Zeros those of the first count cells that name the expired position gone; none does where nothing expired.
+fn rename(cells: &mut [u32], gone: u32, count: usize)
     requires { ⌜ count ≤ length (now cells) ⌝ }
-    ensures { λ r. ⌜ r ≡ length (selected (now (keep .entry)) (take count (now (cells .entry)))) ⌝ }
-    ensures { λ r. ⌜ Gathered r count (map (renamed gone) (selected (now (keep .entry)) (take count (now (cells .entry))))) (now (cells .entry)) (now (cells .exit)) ⌝ }
+    ensures { λ _. ⌜ now (cells .exit) ≡ map (renamed gone) (take count (now (cells .entry))) ++ drop count (now (cells .entry)) ⌝ }
 {
-    let mut to: usize = 0;
+    if gone == 0 {
+        return;
+    }
     let mut i = 0;
     while i < count {
         let x = cells[i];
-        let kept = keep[i];
-        cells[to] = chosen(x == gone, 0, x);
-        to += kept as usize;
+        cells[i] = chosen(x == gone, 0, x);
         i += 1;
     }
-    to
 }
 
 // Keeps the kept ones of count rows of d cells, puts one row more behind them, and zeros the cells from there up to a place.
@@ -110,6 +148,7 @@ pub fn settle_rows(
     requires { ⌜ count ≤ length (now keep) ⌝ }
     requires { ⌜ count * d ≤ places ⌝ }
     requires { ⌜ places ≤ length (now cells) ⌝ }
+    requires { ⌜ places ≤ 6144 ⌝ }
     requires { ⌜ length (flat (selected (now keep) (columnsIn d count (now cells)))) + length (now row) ≤ places ⌝ }
     ensures { λ _. ⌜ now (cells .exit) ≡ padded places (flat (selected (now (keep .entry)) (columnsIn d count (now (cells .entry)))) ++ now (row .entry)) (now (cells .entry)) ⌝ }
 {
@@ -132,11 +171,13 @@ pub fn settle_cells(
     requires { ⌜ count ≤ length (now keep) ⌝ }
     requires { ⌜ count ≤ places ⌝ }
     requires { ⌜ places ≤ length (now cells) ⌝ }
+    requires { ⌜ places ≤ 6144 ⌝ }
     requires { ⌜ length (selected (now keep) (take count (now cells))) < places ⌝ }
     ensures { λ r. ⌜ r ≡ length (selected (now (keep .entry)) (take count (now (cells .entry)))) + 1 ⌝ }
     ensures { λ _. ⌜ now (cells .exit) ≡ padded places (map (renamed gone) (selected (now (keep .entry)) (take count (now (cells .entry)))) ++ (last ∷ [])) (now (cells .entry)) ⌝ }
 {
-    let at = gather(keep, gone, count, cells);
+    rename(cells, gone, count);
+    let at = gather_rows(keep, 1, count, cells);
     cells[at] = last;
     let end = at + 1;
     clear(cells, end, places);

@@ -1,19 +1,18 @@
 -- The tables that are settled by flags hold the rows after the quote.
-use mathlib.Core.Path.{_≡_, refl, sym, ap, _∙_}
+use mathlib.Core.Path.{_≡_, sym, ap, _∙_}
 use Prim.Native.Nat.{ℕ, _+_, _-_, _*_, _≤_, _<_}
 use native.Mathlib.Nat.{mul-le-mul-right}
 use native.Mathlib.Omega.{arith}
-use mathlib.Core.Bool.{Bool, true, false, cond}
+use mathlib.Core.Bool.{Bool}
 use mathlib.Core.List.{List, [], _∷_, _++_, map, append-nil}
-use lib.Dec.{eqb}
 use lib.ListN.{length, take, length-append, length-map}
-use borrow.Author.Tests.{eqb-true}
 use Rattle.lists.specs.Lists.{flat, run, padded}
 use Rattle.lists.proofs.Filters.{map-append, map-map, map-id, flat-append}
 use Rattle.head.specs.declared.Head.{Head}
 use Rattle.model.specs.Rows.{Row, Tables, rowAt, rowsIn, filled, expiring, renamed, renamedRow, lowerEndAmong, rowsAfter}
 use Rattle.model.specs.Book.{bookRows}
 use Rattle.cells.specs.Selected.{selected, columnsIn}
+use Rattle.cells.proofs.Renaming.{renamed-none-all}
 use Rattle.cells.proofs.Selecting.{map-selected}
 use Rattle.rows.specs.Lent.{tables, rowsLeft, rowsNext, Ready}
 use Rattle.rows.proofs.Reading.{positions-in, lower-ends-in, columns-in, columns-narrow, row-within}
@@ -38,18 +37,6 @@ module _ (h : Head) (x : List ℕ) (t : Tables) where
   next-lower-ends : map Row.lowerEnd (rowsNext h x t) ≡ map (renamed gone) (map Row.lowerEnd (rowsLeft h x t)) ++ (lowerEndAmong (h .dimensions) (h .directions) x (rowsLeft h x t) ∷ [])
   unfolding rowsAfter renamedRow
   next-lower-ends = rw (map-append, map-map, map-map)
-
-renamed-none : (lower : ℕ) → renamed 0 lower ≡ lower
-unfolding renamed
-renamed-none lower = go (eqb lower 0) (eqb-true lower 0)
-  where
-    go : (b : Bool) → (b ≡ true → lower ≡ 0) → cond b 0 lower ≡ lower
-    go true e = sym (e refl)
-    go false e = refl
-
-renamed-none-all : (l : List ℕ) → map (renamed 0) l ≡ l
-renamed-none-all [] = refl
-renamed-none-all (y ∷ ys) = rw (renamed-none y, renamed-none-all ys)
 
 module _ {h : Head} {x : List ℕ} {lower : ℕ} {flags : List Bool} {cs ps ls : List ℕ} (v : Ready h x lower flags (tables cs ps ls)) where
   abbrev t : Tables

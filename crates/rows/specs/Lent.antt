@@ -37,9 +37,11 @@ rowsLeft h x t = remaining (h .dimensions) (h .directions) x (expiring (h .newes
 abbrev pub rowsNext : Head → List ℕ → Tables → List Row
 rowsNext h x t = rowsAfter (h .dimensions) (h .directions) (h .capacity) (h .newest) x (bookRows h t)
 
--- quote x may be taken: the tables are long enough, the flags select the rows that stay, the lower end is the quote's among
+-- quote x may be taken: the capacity is within the limit, the tables are long enough, the flags select the rows that stay, the lower end is the quote's among
 -- them, and there is room for one row more
 pub record Ready (h : Head) (x : List ℕ) (lower : ℕ) (flags : List Bool) (t : Tables) : Type 0 where
+  pub few : h .capacity ≤ 1024
+  pub few-columns : h .capacity * h .dimensions ≤ 6144
   pub rows-fit : h .rows ≤ h .capacity
   pub newest-fits : h .newest ≤ lastPosition
   pub columns-fit : h .capacity * h .dimensions ≤ length (t .columns)

@@ -1,47 +1,53 @@
--- `gather_rows` meets its contract: a kept row is moved behind those before it, and any other is passed by.
-use Prim.Native.Nat.{_-_}
+-- `gather_rows` meets its contract: each turn passes a row that is not kept and moves the run behind it.
+use Prim.Native.Nat.{_+_, _-_, _*_}
+use native.Mathlib.Nat.{mul-le-mul-right}
 use native.Mathlib.Omega.{arith}
 use borrow.Author.Needs.{needs}
-use Rattle.cells.proofs.Gathering.{Rows, start-rows, row-in, moved, passed, finish-rows}
+use Rattle.cells.proofs.Gathering.{Rows, start, spans, run-in, turn, finish-rows}
 use Rattle.cells.proofs.gather_rows.Statement.{statement}
 use Rattle.cells.proofs.gather_rows.Tie as tie
 
 abbrev Inv-loop : tie.InvT-loop
-Inv-loop keep d count cells₀ to₀ from₀ i₀ cells to from i =
-    Rows keep d count cells₀ cells to from i
+Inv-loop keep d count cells₀ at₀ to₀ cells at to = Rows keep d count cells₀ cells to at
 
 abbrev μ-loop : tie.MeasureT-loop
-μ-loop keep d count cells₀ to₀ from₀ i₀ cells to from i = count - i
+μ-loop keep d count cells₀ at₀ to₀ cells at to = count - at
+
+run-end-requires : tie.Need-run-end-requires Inv-loop μ-loop
+run-end-requires c κs = search needs
+
+mul-to : tie.Need-mul-to Inv-loop μ-loop
+mul-to c = omega (arith, spans 0 (c .run-end .result) (c .before .before .before .args .count) (c .before .before .before .args .d) (c .run-end .ensures .run .least) (c .run-end .ensures .run .within))
 
 loop-holds : tie.Need-loop-holds Inv-loop μ-loop
-loop-holds c = start-rows _ _ _ _ (c .before .before .pre .1)
+loop-holds c = start (c .before .before .before .pre .1 .0) (c .run-end .ensures)
 
-add-from : tie.Need-add-from Inv-loop μ-loop
-add-from c = omega (arith, row-in (c .before .loop .inv) (c .loop-test .taken))
+add-first : tie.Need-add-first Inv-loop μ-loop
+add-first c = search needs
 
-shared-slice-read-kept : tie.Need-shared-slice-read-kept Inv-loop μ-loop
-shared-slice-read-kept c = search needs
+run-end-requires-2 : tie.Need-run-end-requires-2 Inv-loop μ-loop
+run-end-requires-2 c κs = search needs
 
-add-i : tie.Need-add-i Inv-loop μ-loop
-add-i c = search needs
+sub-n : tie.Need-sub-n Inv-loop μ-loop
+sub-n c = omega (arith, c .run-end2 .ensures .run .least)
 
-move-down-requires : tie.Need-move-down-requires Inv-loop μ-loop
-move-down-requires c κs = omega (arith, c .before .before .before .before .loop .inv .gathered .below, row-in (c .before .before .before .before .loop .inv) (c .before .before .before .loop-test .taken))
+mul-n : tie.Need-mul-n Inv-loop μ-loop
+mul-n c = omega (arith, run-in (c .before .before .loop .inv) (c .before .loop-test .taken) (c .run-end2 .ensures))
+
+mul-move-cells : tie.Need-mul-move-cells Inv-loop μ-loop
+mul-move-cells c = omega (arith, run-in (c .before .before .before .loop .inv) (c .before .before .loop-test .taken) (c .before .run-end2 .ensures))
+
+move-cells-requires : tie.Need-move-cells-requires Inv-loop μ-loop
+move-cells-requires c κs = omega (arith, run-in (c .before .before .before .loop .inv) (c .before .before .loop-test .taken) (c .before .run-end2 .ensures), c .before .before .before .loop .inv .fits, c .before .before .before .loop .inv .same-length, c .before .before .before .before .before .before .before .pre)
 
 add-to : tie.Need-add-to Inv-loop μ-loop
-add-to c = omega (arith, row-in (c .before .before .before .before .before .before .before .loop .inv) (c .before .before .before .before .before .before .loop-test .taken))
+add-to c = omega (arith, run-in (c .before .before .before .before .before .before .loop .inv) (c .before .before .before .before .before .loop-test .taken) (c .before .before .before .before .run-end2 .ensures), c .before .before .before .before .before .before .before .before .before .before .pre)
 
 loop-less : tie.Need-loop-less Inv-loop μ-loop
-loop-less c = search needs
+loop-less c = omega (arith, c .before .before .before .before .run-end2 .ensures .run .least, c .before .before .before .before .before .loop-test .taken)
 
 loop-again : tie.Need-loop-again Inv-loop μ-loop
-loop-again c = moved (c .before .before .before .before .before .before .before .loop .inv) (c .before .before .before .before .before .before .loop-test .taken) (c .before .before .before .before .if1 .taken) _ (c .before .before .move-down .ensures) (c .before .before .move-down .kept .0)
-
-loop-less-2 : tie.Need-loop-less-2 Inv-loop μ-loop
-loop-less-2 c = search needs
-
-loop-again-2 : tie.Need-loop-again-2 Inv-loop μ-loop
-loop-again-2 c = passed (c .before .before .before .loop .inv) (c .before .before .loop-test .taken) (c .if1 .left)
+loop-again c = turn (c .before .before .before .before .before .before .loop .inv) (c .before .before .before .before .before .loop-test .taken) (c .before .before .before .before .run-end2 .ensures) _ (c .before .before .move-cells .ensures) (c .before .before .move-cells .kept .0)
 
 same-length : tie.Need-same-length Inv-loop μ-loop
 same-length c = c .before .loop .inv .same-length
@@ -55,15 +61,17 @@ gather-rows-spec =
     (tie.spec
     Inv-loop
     μ-loop
+    run-end-requires
+    mul-to
     loop-holds
-    add-from
-    shared-slice-read-kept
-    add-i
-    move-down-requires
+    add-first
+    run-end-requires-2
+    sub-n
+    mul-n
+    mul-move-cells
+    move-cells-requires
     add-to
     loop-less
     loop-again
-    loop-less-2
-    loop-again-2
     same-length
     returns)

@@ -27,17 +27,17 @@ mul-places c = search needs
 settle-rows-requires : tie.Need-settle-rows-requires
 settle-rows-requires c κs =
     let v = c .before .before .before .before .before .before .before .before .before .before .before .pre in
-    (v .flags-fit, (mul-le-mul-right _ (v .rows-fit), (v .columns-fit, columns-room v)))
+    (v .flags-fit, (mul-le-mul-right _ (v .rows-fit), (v .columns-fit, (v .few-columns, columns-room v))))
 
 settle-cells-requires : tie.Need-settle-cells-requires
 settle-cells-requires c κs =
     let v = c .before .before .before .before .before .before .before .before .before .before .before .before .before .before .before .pre in
-    (v .flags-fit, (v .rows-fit, (v .lower-ends-fit, lower-ends-room v)))
+    (v .flags-fit, (v .rows-fit, (v .lower-ends-fit, (omega (arith, v .few), lower-ends-room v))))
 
 settle-cells-requires-2 : tie.Need-settle-cells-requires-2
 settle-cells-requires-2 c κs =
     let v = c .before .before .before .before .before .before .before .before .before .before .before .before .before .before .before .before .before .before .before .pre in
-    (v .flags-fit, (v .rows-fit, (v .positions-fit, positions-room v)))
+    (v .flags-fit, (v .rows-fit, (v .positions-fit, (omega (arith, v .few), positions-room v))))
 
 cast-result : tie.Need-cast-result
 cast-result c = omega (arith, c .before .before .settle-cells2 .ensures .0, positions-room (c .before .before .before .before .before .before .before .before .before .before .before .before .before .before .before .before .before .before .before .before .before .before .pre), c .before .before .before .before .before .before .before .before .before .before .before .before .before .before .before .struct-known2 .given)
