@@ -3,4 +3,5 @@ pub mod Clearing
 pub mod Pasting
 pub mod Selecting
 pub mod Gathering
+pub mod Blanks
 pub mod Settling
