@@ -35,8 +35,7 @@ returns : tie.Need-returns
 returns c =
     let cleared = c .before .before in
     let gathered = cleared .before .before .before .before .before in
-    let pre = gathered .before .before .before .before .pre in
-    (
+    let pre = gathered .before .before .before .before .pre in (
       omega (arith, gathered .gather .ensures .0),
       cell-settled (gathered .gather .ensures .1) (pre .1 .1 .1 .0) (pre .1 .1 .1 .1) (omega (arith, gathered .gather .kept, pre)) _ _ (omega (arith, gathered .gather .ensures .0, pre)) (cleared .before .larger .ensures) (cleared .clear .ensures),
     )
