@@ -47,7 +47,7 @@ module _ (answer : Answer) (request : Request) (h : Head) (letter : ℕ) (number
       go (Refused k) h = append-nil (refusalLine k)
 
 -- a head that stays either way
-same-head : (answer : Answer) (h : Head) → h ≡ settled answer h h
+pub same-head : (answer : Answer) (h : Head) → h ≡ settled answer h h
 unfolding settled
 same-head Accepted h = refl
 same-head (Refused k) h = refl
