@@ -52,18 +52,23 @@ pub record Admitted (h : Head) (x : List ℕ) (t : Tables) (ws : List ℕ) : Typ
   pub wide : length x ≡ h .dimensions
   pub below : h .newest < lastPosition
 
-pub admitted : (h : Head) (x : List ℕ) (t : Tables) (ws : List ℕ) → rowAnswer h x t ws ≡ Accepted → Admitted h x t ws
-unfolding rowAnswer
-admitted h x t ws e =
+-- whatever is tested behind them
+pub admitted-before : (h : Head) (x : List ℕ) (t : Tables) (ws : List ℕ) (more : List (Bool × Refusal))
+    → watchfulAnswer h t ws ((not (eqb (length x) (h .dimensions)), ColumnCount) ∷ (leb lastPosition (h .newest), TapeFull) ∷ more) ≡ Accepted → Admitted h x t ws
+admitted-before h x t ws more e =
     let p = watchful-passed h t ws _ e in
     let c = accepted-passed (not (eqb (length x) (h .dimensions))) ColumnCount _ (p .2) in
-    let f = accepted-passed (leb lastPosition (h .newest)) TapeFull [] (c .1) in
+    let f = accepted-passed (leb lastPosition (h .newest)) TapeFull more (c .1) in
     record {
       passed = p .0;
       untorn = p .1;
       wide = eqb-true (length x) (h .dimensions) (not-false (eqb (length x) (h .dimensions)) (c .0));
       below = leb-false lastPosition (h .newest) (f .0);
     }
+
+pub admitted : (h : Head) (x : List ℕ) (t : Tables) (ws : List ℕ) → rowAnswer h x t ws ≡ Accepted → Admitted h x t ws
+unfolding rowAnswer
+admitted h x t ws e = admitted-before h x t ws [] e
 
 -- what is asked before the rows are marked on 1,024 flags
 pub mark-asks : (h : Head) (x : List ℕ) (t : Tables) (ws : List ℕ) → rowAnswer h x t ws ≡ Accepted

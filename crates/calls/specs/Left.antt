@@ -14,6 +14,7 @@ use Rattle.head.specs.Heads.{settingsHold, lastPosition}
 use Rattle.head.specs.Refusals.{first}
 use Rattle.model.specs.Rows.{Tables}
 use Rattle.model.specs.Book
+use Rattle.rows.specs.Lent.{Cleared}
 
 -- the three lent tables
 abbrev pub tables : List ℕ → List ℕ → List ℕ → Tables
@@ -60,3 +61,8 @@ pub record Watched (h : Head) (n : ℕ) (t : Tables) (ws before : List ℕ) (r :
 pub record Ended (h : Head) (n : ℕ) (t : Tables) (ws : List ℕ) (r : Reply) (ws' : List ℕ) : Type 0 where
   pub reply : r ≡ Book.endReply h n t ws
   pub watches : ws' ≡ Book.endWatches h n t ws
+
+-- which places of the tables are in use after a call: those of its head's rows, or head and tables are as they were
+pub data Clears (h h' : Head) (t t' : Tables) : Type 0 where
+  cleared : Cleared h' (h' .rows) t' → Clears h h' t t'
+  unchanged : h' ≡ h → t' ≡ t → Clears h h' t t'

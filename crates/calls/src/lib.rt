@@ -9,6 +9,7 @@ use head::Reply;
 pub use looking::look;
 pub use opening::open;
 pub use quoting::quote;
+pub use quoting::quote_cleared;
 pub use watching::end;
 pub use watching::watch;
 

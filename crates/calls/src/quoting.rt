@@ -5,6 +5,7 @@ ghost use lib.Dec.{ltb};
 ghost use lib.ListN.{length};
 ghost use Rattle.head.specs.declared.Answer.the-variants.{Accepted};
 ghost use Rattle.head.specs.Heads.{lastPosition};
+ghost use Rattle.rows.specs.Lent.{Cleared};
 ghost use Rattle.changes.specs.Flagged.{flagged};
 ghost use Rattle.changes.specs.Watches.{allFrames};
 ghost use Rattle.calls.specs.Left.{tables, rowAnswer, Quoted};
@@ -65,6 +66,7 @@ fn overflows(
 fn accept(
     head: Head,
     quote: &[u32],
+    used: u32,
     columns: &mut [u32],
     positions: &mut [u32],
     lower_ends: &mut [u32],
@@ -72,6 +74,7 @@ fn accept(
     out: &mut [u8],
 ) -> Reply
     requires { ⌜ rowAnswer head (now quote) (tables (now columns) (now positions) (now «lower_ends»)) watches ≡ Accepted ⌝ }
+    requires { ⌜ Cleared head used (tables (now columns) (now positions) (now «lower_ends»)) ⌝ }
     ensures { λ r. ⌜ Quoted head (now (quote .entry)) (tables (now (columns .entry)) (now (positions .entry)) (now («lower_ends» .entry))) watches (now (out .entry)) r (tables (now (columns .exit)) (now (positions .exit)) (now («lower_ends» .exit))) (now (out .exit)) ⌝ }
 {
     let mut keep = [false; 1024];
@@ -112,7 +115,16 @@ fn accept(
         lower,
         out,
     );
-    let rows = settle(head, quote, lower, &keep, columns, positions, lower_ends);
+    let rows = settle(
+        head,
+        quote,
+        lower,
+        &keep,
+        used,
+        columns,
+        positions,
+        lower_ends,
+    );
     Reply {
         answer: Answer::Accepted,
         head: head.after_quote(rows),
@@ -120,17 +132,19 @@ fn accept(
     }
 }
 
-// Takes a quote: writes the changes of every watch, puts the quote's row into the tables, and hands back the next head and how
-// many bytes were written.
-pub fn quote(
+// Takes a quote on tables of which only the places below used rows are in use: writes the changes of every watch, puts the quote's
+// row into the tables, and hands back the next head and how many bytes were written.
+pub fn quote_cleared(
     head: Head,
     quote: &[u32],
+    used: u32,
     columns: &mut [u32],
     positions: &mut [u32],
     lower_ends: &mut [u32],
     watches: [u32; 8],
     out: &mut [u8],
 ) -> Reply
+    requires { ⌜ Cleared head used (tables (now columns) (now positions) (now «lower_ends»)) ⌝ }
     ensures { λ r. ⌜ Quoted head (now (quote .entry)) (tables (now (columns .entry)) (now (positions .entry)) (now («lower_ends» .entry))) watches (now (out .entry)) r (tables (now (columns .exit)) (now (positions .exit)) (now («lower_ends» .exit))) (now (out .exit)) ⌝ }
 {
     let answer = judge_row(head, quote, columns, positions, lower_ends, watches);
@@ -144,5 +158,38 @@ pub fn quote(
             };
         }
     }
-    accept(head, quote, columns, positions, lower_ends, watches, out)
+    accept(
+        head,
+        quote,
+        used,
+        columns,
+        positions,
+        lower_ends,
+        watches,
+        out,
+    )
+}
+
+// Takes a quote on any tables: every place may be in use.
+pub fn quote(
+    head: Head,
+    quote: &[u32],
+    columns: &mut [u32],
+    positions: &mut [u32],
+    lower_ends: &mut [u32],
+    watches: [u32; 8],
+    out: &mut [u8],
+) -> Reply
+    ensures { λ r. ⌜ Quoted head (now (quote .entry)) (tables (now (columns .entry)) (now (positions .entry)) (now («lower_ends» .entry))) watches (now (out .entry)) r (tables (now (columns .exit)) (now (positions .exit)) (now («lower_ends» .exit))) (now (out .exit)) ⌝ }
+{
+    quote_cleared(
+        head,
+        quote,
+        head.capacity,
+        columns,
+        positions,
+        lower_ends,
+        watches,
+        out,
+    )
 }

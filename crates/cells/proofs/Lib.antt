@@ -5,4 +5,5 @@ pub mod Selecting
 pub mod Running
 pub mod Gathering
 pub mod Renaming
+pub mod Blanks
 pub mod Settling

@@ -1,12 +1,13 @@
 // Cells of one lent table: the kept ones moved to the front, others put behind them, and zeros up to a place.
 ghost use mathlib.Core.Path.{_≡_};
 ghost use mathlib.Core.Bool.{cond};
-ghost use Prim.Native.Nat.{_+_, _*_, _≤_, _<_};
+ghost use Prim.Native.Nat.{_+_, _*_, _≤_, _<_, max};
 ghost use mathlib.Core.List.{[], _∷_, _++_, map};
 ghost use lib.ListN.{length, take, drop};
 ghost use lib.Seq.{paste};
 ghost use Rattle.lists.specs.Lists.{flat, padded};
 ghost use Rattle.model.specs.Rows.{renamed};
+ghost use Rattle.cells.specs.Blank.{Blank};
 ghost use Rattle.cells.specs.Selected.{selected, columnsIn, allKept, Kept, RunEnd, Gathered};
 
 // x if the test passed, else y.
@@ -14,6 +15,13 @@ pub fn chosen(test: bool, x: u32, y: u32) -> u32
     ensures { λ r. ⌜ r ≡ cond test x y ⌝ }
 {
     if test { x } else { y }
+}
+
+// The larger of two numbers.
+fn larger(x: usize, y: usize) -> usize
+    ensures { λ r. ⌜ r ≡ max x y ⌝ }
+{
+    if x < y { y } else { x }
 }
 
 // Zeros the cells from one place up to another.
@@ -136,43 +144,48 @@ fn rename(cells: &mut [u32], gone: u32, count: usize)
     }
 }
 
-// Keeps the kept ones of count rows of d cells, puts one row more behind them, and zeros the cells from there up to a place.
+// Keeps the kept ones of count rows of d cells, puts one row more behind them, and zeros the cells from there up to a place; those
+// from used on are zeros already.
 pub fn settle_rows(
     keep: &[bool],
     d: usize,
     count: usize,
     row: &[u32],
+    used: usize,
     places: usize,
     cells: &mut [u32],
 )
     requires { ⌜ count ≤ length (now keep) ⌝ }
-    requires { ⌜ count * d ≤ places ⌝ }
     requires { ⌜ places ≤ length (now cells) ⌝ }
     requires { ⌜ places ≤ 6144 ⌝ }
     requires { ⌜ length (flat (selected (now keep) (columnsIn d count (now cells)))) + length (now row) ≤ places ⌝ }
+    requires { ⌜ count * d ≤ used ⌝ }
+    requires { ⌜ Blank used places (now cells) ⌝ }
     ensures { λ _. ⌜ now (cells .exit) ≡ padded places (flat (selected (now (keep .entry)) (columnsIn d count (now (cells .entry)))) ++ now (row .entry)) (now (cells .entry)) ⌝ }
 {
     let at = gather_rows(keep, d, count, cells);
     put(cells, at, row);
     let end = at + row.len();
-    clear(cells, end, places);
+    clear(cells, end, larger(end, used));
 }
 
 // Keeps the kept ones of count cells, each renamed once position gone has expired, puts one cell more behind them, and
-// zeros the cells from there up to a place; gives how many are left.
+// zeros the cells from there up to a place; those from used on are zeros already. Gives how many are left.
 pub fn settle_cells(
     keep: &[bool],
     gone: u32,
     count: usize,
     last: u32,
+    used: usize,
     places: usize,
     cells: &mut [u32],
 ) -> usize
     requires { ⌜ count ≤ length (now keep) ⌝ }
-    requires { ⌜ count ≤ places ⌝ }
     requires { ⌜ places ≤ length (now cells) ⌝ }
     requires { ⌜ places ≤ 6144 ⌝ }
     requires { ⌜ length (selected (now keep) (take count (now cells))) < places ⌝ }
+    requires { ⌜ count ≤ used ⌝ }
+    requires { ⌜ Blank used places (now cells) ⌝ }
     ensures { λ r. ⌜ r ≡ length (selected (now (keep .entry)) (take count (now (cells .entry)))) + 1 ⌝ }
     ensures { λ _. ⌜ now (cells .exit) ≡ padded places (map (renamed gone) (selected (now (keep .entry)) (take count (now (cells .entry)))) ++ (last ∷ [])) (now (cells .entry)) ⌝ }
 {
@@ -180,6 +193,6 @@ pub fn settle_cells(
     let at = gather_rows(keep, 1, count, cells);
     cells[at] = last;
     let end = at + 1;
-    clear(cells, end, places);
+    clear(cells, end, larger(end, used));
     end
 }

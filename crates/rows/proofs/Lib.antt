@@ -3,3 +3,4 @@ pub mod Reading
 pub mod Torn
 pub mod Marking
 pub mod Settled
+pub mod Clears

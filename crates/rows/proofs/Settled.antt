@@ -22,11 +22,11 @@ module _ (h : Head) (x : List ℕ) (t : Tables) where
   abbrev gone : ℕ
   gone = expiring (h .newest) (h .capacity)
 
-  next-length : length (rowsNext h x t) ≡ length (rowsLeft h x t) + 1
+  pub next-length : length (rowsNext h x t) ≡ length (rowsLeft h x t) + 1
   unfolding rowsAfter
   next-length = rw (length-append, length-map)
 
-  next-columns : flat (map Row.columns (rowsNext h x t)) ≡ flat (map Row.columns (rowsLeft h x t)) ++ x
+  pub next-columns : flat (map Row.columns (rowsNext h x t)) ≡ flat (map Row.columns (rowsLeft h x t)) ++ x
   unfolding rowsAfter renamedRow flat
   next-columns = rw (map-append, map-map, flat-append, append-nil)
 

@@ -8,6 +8,7 @@ use Rattle.head.specs.declared.Head.{Head}
 use Rattle.head.specs.Heads.{lastPosition}
 use Rattle.model.specs.Rows.{Row, Tables, rowsIn, expiring, remains, remaining, lowerEndAmong, rowsAfter}
 use Rattle.model.specs.Book.{bookRows}
+use Rattle.cells.specs.Blank.{Blank}
 use Rattle.cells.specs.Selected.{selected}
 
 -- three lent tables
@@ -52,3 +53,11 @@ pub record Ready (h : Head) (x : List ℕ) (lower : ℕ) (flags : List Bool) (t 
   pub selects : selected flags (bookRows h t) ≡ rowsLeft h x t
   pub lower≡ : lower ≡ lowerEndAmong (h .dimensions) (h .directions) x (rowsLeft h x t)
   pub room : length (rowsNext h x t) ≤ h .capacity
+
+-- of a book's tables only the places below this number of rows are in use: from there up to the capacity they are zeros, and no row
+-- stands there, unless there are more rows than the capacity
+pub record Cleared (h : Head) (used : ℕ) (t : Tables) : Type 0 where
+  pub rows-below : h .rows ≤ h .capacity → h .rows ≤ used
+  pub columns : Blank (used * h .dimensions) (h .capacity * h .dimensions) (t .columns)
+  pub positions : Blank used (h .capacity) (t .positions)
+  pub lowerEnds : Blank used (h .capacity) (t .lowerEnds)

@@ -11,7 +11,7 @@ ghost use lib.ListN.{length, drop};
 ghost use Rattle.model.specs.Rows.{rowsIn, filled, remains, remaining, lowerEndAmong};
 ghost use Rattle.model.specs.Book.{tornRows, bookRows};
 ghost use Rattle.rows.specs.Order.{tornHead, inOrder};
-ghost use Rattle.rows.specs.Lent.{tables, Markable, Marks, rowsNext, Ready};
+ghost use Rattle.rows.specs.Lent.{tables, Markable, Marks, rowsNext, Ready, Cleared};
 
 // x less y, and 0 where y is larger.
 pub fn difference(x: u32, y: u32) -> u32
@@ -165,18 +165,20 @@ pub fn mark(
     positions[at]
 }
 
-// Takes a quote into the tables: the rows that stay, the quote's row behind them, and zeros up to the capacity; gives how
-// many rows there are.
+// Takes a quote into the tables: the rows that stay, the quote's row behind them, and zeros up to the capacity; from used rows on
+// zeros stand there already. Gives how many rows there are.
 pub fn settle(
     head: Head,
     quote: &[u32],
     lower: u32,
     keep: &[bool],
+    used: u32,
     columns: &mut [u32],
     positions: &mut [u32],
     lower_ends: &mut [u32],
 ) -> u32
     requires { ⌜ Ready head (now quote) lower (now keep) (tables (now columns) (now positions) (now «lower_ends»)) ⌝ }
+    requires { ⌜ Cleared head used (tables (now columns) (now positions) (now «lower_ends»)) ⌝ }
     ensures { λ r. ⌜ r ≡ length (rowsNext head (now (quote .entry)) (tables (now (columns .entry)) (now (positions .entry)) (now («lower_ends» .entry)))) ⌝ }
     ensures { λ _. ⌜ tables (now (columns .exit)) (now (positions .exit)) (now («lower_ends» .exit)) ≡ filled (head .dimensions) (head .capacity) (rowsNext head (now (quote .entry)) (tables (now (columns .entry)) (now (positions .entry)) (now («lower_ends» .entry)))) (tables (now (columns .entry)) (now (positions .entry)) (now («lower_ends» .entry))) ⌝ }
 {
@@ -185,9 +187,10 @@ pub fn settle(
     let count = head.rows as usize;
     let next = head.newest + 1;
     let gone = difference(next, head.capacity);
+    let in_use = used as usize;
     let places = capacity * d;
-    settle_rows(keep, d, count, quote, places, columns);
-    settle_cells(keep, gone, count, lower, capacity, lower_ends);
-    let rows = settle_cells(keep, 0, count, next, capacity, positions);
+    settle_rows(keep, d, count, quote, in_use * d, places, columns);
+    settle_cells(keep, gone, count, lower, in_use, capacity, lower_ends);
+    let rows = settle_cells(keep, 0, count, next, in_use, capacity, positions);
     rows as u32
 }

@@ -41,7 +41,7 @@ module _ (request : Request) (h : Head) (letter : ℕ) (numbers : List ℕ) wher
   changed-lines (Refused k) count bytes e fits = append-nil (refusalLine k)
 
 -- a head that stays either way
-same-head : (answer : Answer) (h : Head) → h ≡ settled answer h h
+pub same-head : (answer : Answer) (h : Head) → h ≡ settled answer h h
 unfolding settled
 same-head Accepted h = refl
 same-head (Refused k) h = refl

@@ -3,6 +3,7 @@ ghost use mathlib.Core.Path.{_≡_};
 ghost use mathlib.Core.List.{List, _++_};
 ghost use Prim.Native.Nat.{ℕ, _+_, _*_, _/_, _≤_};
 ghost use lib.ListN.{length, take};
+ghost use Rattle.rows.specs.Lent.{Cleared};
 ghost use Rattle.calls.specs.Left.{tables};
 ghost use Rattle.head.specs.Refusals.{settled};
 ghost use Rattle.text.specs.Text.{Laid};
@@ -99,11 +100,12 @@ pub fn open(
     }
 }
 
-// Makes a quote of the first count columns, and lays its line and its changes.
+// Makes a quote of the first count columns on tables with so many rows in use, and lays its line and its changes.
 pub fn quote(
     head: Head,
     count: usize,
     quote: [u32; 6],
+    used: u32,
     columns: &mut [u32],
     positions: &mut [u32],
     lower_ends: &mut [u32],
@@ -112,11 +114,13 @@ pub fn quote(
     text: &mut [u8],
 ) -> Turn
     requires { ⌜ (count ≤ 6) × (textRoom (length (now bytes)) ≤ length (now text)) ⌝ }
+    requires { ⌜ Cleared head used (tables (now columns) (now positions) (now «lower_ends»)) ⌝ }
     ensures { λ r. ⌜ Turned (made (Request.Quote (take count quote)) (player head (tables (now (columns .entry)) (now (positions .entry)) (now («lower_ends» .entry))) watches (now (bytes .entry)))) (now (text .entry)) r (tables (now (columns .exit)) (now (positions .exit)) (now («lower_ends» .exit))) (now (bytes .exit)) (now (text .exit)) ⌝ }
 {
-    let reply = calls::quote(
+    let reply = calls::quote_cleared(
         head,
         &quote[..count],
+        used,
         columns,
         positions,
         lower_ends,

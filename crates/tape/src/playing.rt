@@ -3,6 +3,7 @@ ghost use mathlib.Core.Path.{_≡_};
 ghost use Prim.Native.Nat.{_≤_};
 ghost use lib.Dec.{ltb};
 ghost use lib.ListN.{length};
+ghost use Rattle.rows.specs.Lent.{Cleared};
 ghost use Rattle.calls.specs.Left.{tables};
 ghost use Rattle.tape.specs.Steps.{player, textRoom, Stepped};
 ghost use Rattle.tape.specs.Turns.{outOfPlace, placed, columnCount, observed, taken, Turned};
@@ -109,6 +110,7 @@ fn take(
     message: Message,
     quote: [u32; 6],
     head: Head,
+    used: u32,
     columns: &mut [u32],
     positions: &mut [u32],
     lower_ends: &mut [u32],
@@ -117,6 +119,7 @@ fn take(
     text: &mut [u8],
 ) -> Turn
     requires { ⌜ (columnCount message ≤ 6) × (textRoom (length (now bytes)) ≤ length (now text)) ⌝ }
+    requires { ⌜ Cleared head used (tables (now columns) (now positions) (now «lower_ends»)) ⌝ }
     ensures { λ r. ⌜ Turned (taken message quote (player head (tables (now (columns .entry)) (now (positions .entry)) (now («lower_ends» .entry))) watches (now (bytes .entry)))) (now (text .entry)) r (tables (now (columns .exit)) (now (positions .exit)) (now («lower_ends» .exit))) (now (bytes .exit)) (now (text .exit)) ⌝ }
 {
     match message {
@@ -124,6 +127,7 @@ fn take(
             head,
             k as usize,
             quote,
+            used,
             columns,
             positions,
             lower_ends,
@@ -155,12 +159,13 @@ fn take(
     }
 }
 
-// Plays the frame at a place of a tape: its lines are laid at the start of the text. The tape is over where nothing could be read. A
-// text that may be too short is refused with 13.
-pub fn play(
+// Plays the frame at a place of a tape, on tables of which only the places below used rows are in use: its lines are laid at the
+// start of the text. The tape is over where nothing could be read. A text that may be too short is refused with 13.
+pub fn play_cleared(
     tape: &[u8],
     place: usize,
     head: Head,
+    used: u32,
     columns: &mut [u32],
     positions: &mut [u32],
     lower_ends: &mut [u32],
@@ -168,6 +173,7 @@ pub fn play(
     bytes: &mut [u8],
     text: &mut [u8],
 ) -> Step
+    requires { ⌜ Cleared head used (tables (now columns) (now positions) (now «lower_ends»)) ⌝ }
     ensures { λ r. ⌜ Stepped (now (tape .entry)) place (player head (tables (now (columns .entry)) (now (positions .entry)) (now («lower_ends» .entry))) watches (now (bytes .entry))) (now (text .entry)) r (tables (now (columns .exit)) (now (positions .exit)) (now («lower_ends» .exit))) (now (bytes .exit)) (now (text .exit)) ⌝ }
 {
     if short_text(bytes.len(), text.len()) {
@@ -187,6 +193,7 @@ pub fn play(
         placed(head.settings_hold(), message),
         quote,
         head,
+        used,
         columns,
         positions,
         lower_ends,
@@ -204,4 +211,32 @@ pub fn play(
         head: next,
         watches: kept,
     }
+}
+
+// Plays the frame at a place of a tape, on any tables: every place may be in use.
+pub fn play(
+    tape: &[u8],
+    place: usize,
+    head: Head,
+    columns: &mut [u32],
+    positions: &mut [u32],
+    lower_ends: &mut [u32],
+    watches: [u32; 8],
+    bytes: &mut [u8],
+    text: &mut [u8],
+) -> Step
+    ensures { λ r. ⌜ Stepped (now (tape .entry)) place (player head (tables (now (columns .entry)) (now (positions .entry)) (now («lower_ends» .entry))) watches (now (bytes .entry))) (now (text .entry)) r (tables (now (columns .exit)) (now (positions .exit)) (now («lower_ends» .exit))) (now (bytes .exit)) (now (text .exit)) ⌝ }
+{
+    play_cleared(
+        tape,
+        place,
+        head,
+        head.capacity,
+        columns,
+        positions,
+        lower_ends,
+        watches,
+        bytes,
+        text,
+    )
 }

@@ -20,6 +20,7 @@ gathered : (c : tie.After-gather-rows)
     (c .gather-rows .result ≡ length kept) × Gathered (c .gather-rows .result) (entry .args .count) (map (renamed (entry .args .gone)) kept) (now (entry .args .cells)) (c .gather-rows .last .1 .1 .1 .0)
 gathered c =
     let pre = c .before .before .before .before .before .before .before .before .pre in
+    let within = pre .1 .1 .1 .1 .1 .within in
     cells-gathered _ _ (omega arith) (c .before .before .before .before .rename .ensures) (c .before .before .before .before .rename .kept .0) (c .gather-rows .ensures)
 
 rename-requires : tie.Need-rename-requires
@@ -37,18 +38,24 @@ slice-write-cells c = omega (arith, gathered (c .before .before) .0, c .before .
 add-end : tie.Need-add-end
 add-end c = omega (arith, gathered (c .before .before) .0, c .before .before .before .before .before .before .before .before .before .before .pre)
 
+larger-requires : tie.Need-larger-requires
+larger-requires c κs = search needs
+
 clear-requires : tie.Need-clear-requires
-clear-requires c κs = simp length-set (omega (arith, gathered (c .before .before .before) .0, c .before .before .before .gather-rows .kept, c .before .before .before .before .before .before .before .rename .kept, c .before .before .before .before .before .before .before .before .before .before .before .pre))
+clear-requires c κs =
+    let pre = c .before .before .before .before .before .before .before .before .before .before .before .before .pre in
+    let within = pre .1 .1 .1 .1 .1 .within in
+    simp length-set (omega (arith, c .larger .ensures, gathered (c .before .before .before .before) .0, c .before .before .before .before .gather-rows .kept, c .before .before .before .before .before .before .before .before .rename .kept, pre))
 
 same-length : tie.Need-same-length
-same-length c = c .before .before .clear .kept .0 ∙ simp length-set (c .before .before .before .before .before .before .gather-rows .kept .1 .1 .1 .0 ∙ c .before .before .before .before .before .before .before .before .before .before .rename .kept .0)
+same-length c = c .before .before .clear .kept .0 ∙ simp length-set (c .before .before .before .before .before .before .before .gather-rows .kept .1 .1 .1 .0 ∙ c .before .before .before .before .before .before .before .before .before .before .before .rename .kept .0)
 
 returns : tie.Need-returns
 returns c =
-    let known = gathered (c .before .before .before .before .before .before) in
-    let pre = c .before .before .before .before .before .before .before .before .before .before .before .before .before .before .pre in (
+    let known = gathered (c .before .before .before .before .before .before .before) in
+    let pre = c .before .before .before .before .before .before .before .before .before .before .before .before .before .before .before .pre in (
       omega (arith, known .0),
-      cell-settled (known .1) _ (omega arith) (omega (arith, c .before .before .before .before .before .before .gather-rows .kept, c .before .before .before .before .before .before .before .before .before .before .rename .kept)) _ _ (omega (arith, known .0)) (c .before .before .clear .ensures),
+      cell-settled (known .1) (pre .1 .1 .1 .1 .0) (pre .1 .1 .1 .1 .1) (omega (arith, c .before .before .before .before .before .before .before .gather-rows .kept, c .before .before .before .before .before .before .before .before .before .before .before .rename .kept, pre)) _ _ (omega (arith, known .0, pre)) (c .before .before .before .larger .ensures) (c .before .before .clear .ensures),
     )
 
 pub settle-cells-spec : {M : Type 1} → statement M
@@ -60,6 +67,7 @@ settle-cells-spec =
     mul-cells
     slice-write-cells
     add-end
+    larger-requires
     clear-requires
     same-length
     returns)

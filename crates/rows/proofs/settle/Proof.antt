@@ -24,23 +24,31 @@ difference-requires c κs = search needs
 mul-places : tie.Need-mul-places
 mul-places c = search needs
 
+mul-settle-rows : tie.Need-mul-settle-rows
+mul-settle-rows c =
+    let pre = c .before .before .before .before .before .before .before .before .before .before .pre in
+    omega (arith, pre .1 .columns .within, pre .0 .columns-fit, c .before .before .before .before .before .before .before .before .before .before .good)
+
 settle-rows-requires : tie.Need-settle-rows-requires
 settle-rows-requires c κs =
-    let v = c .before .before .before .before .before .before .before .before .before .before .before .pre in
-    (v .flags-fit, (mul-le-mul-right _ (v .rows-fit), (v .columns-fit, (v .few-columns, columns-room v))))
+    let pre = c .before .before .before .before .before .before .before .before .before .before .before .pre in
+    let v = pre .0 in
+    (v .flags-fit, (v .columns-fit, (v .few-columns, (columns-room v, (mul-le-mul-right _ (pre .1 .rows-below (v .rows-fit)), pre .1 .columns)))))
 
 settle-cells-requires : tie.Need-settle-cells-requires
 settle-cells-requires c κs =
-    let v = c .before .before .before .before .before .before .before .before .before .before .before .before .before .before .before .pre in
-    (v .flags-fit, (v .rows-fit, (v .lower-ends-fit, (omega (arith, v .few), lower-ends-room v))))
+    let pre = c .before .before .before .before .before .before .before .before .before .before .before .before .before .before .before .pre in
+    let v = pre .0 in
+    (v .flags-fit, (v .lower-ends-fit, (omega (arith, v .few), (lower-ends-room v, (pre .1 .rows-below (v .rows-fit), pre .1 .lowerEnds)))))
 
 settle-cells-requires-2 : tie.Need-settle-cells-requires-2
 settle-cells-requires-2 c κs =
-    let v = c .before .before .before .before .before .before .before .before .before .before .before .before .before .before .before .before .before .before .before .pre in
-    (v .flags-fit, (v .rows-fit, (v .positions-fit, (omega (arith, v .few), positions-room v))))
+    let pre = c .before .before .before .before .before .before .before .before .before .before .before .before .before .before .before .before .before .before .before .pre in
+    let v = pre .0 in
+    (v .flags-fit, (v .positions-fit, (omega (arith, v .few), (positions-room v, (pre .1 .rows-below (v .rows-fit), pre .1 .positions)))))
 
 cast-result : tie.Need-cast-result
-cast-result c = omega (arith, c .before .before .settle-cells2 .ensures .0, positions-room (c .before .before .before .before .before .before .before .before .before .before .before .before .before .before .before .before .before .before .before .before .before .before .pre), c .before .before .before .before .before .before .before .before .before .before .before .before .before .before .before .struct-known2 .given)
+cast-result c = omega (arith, c .before .before .settle-cells2 .ensures .0, positions-room (c .before .before .before .before .before .before .before .before .before .before .before .before .before .before .before .before .before .before .before .before .before .before .pre .0), c .before .before .before .before .before .before .before .before .before .before .before .before .before .before .before .struct-known2 .given)
 
 same-length : tie.Need-same-length
 same-length c = search needs
@@ -53,7 +61,7 @@ same-length-3 c = search needs
 
 returns : tie.Need-returns
 returns c =
-    let v = c .before .before .before .before .before .before .before .before .before .before .before .before .before .before .before .before .before .before .before .before .before .before .pre in
+    let v = c .before .before .before .before .before .before .before .before .before .before .before .before .before .before .before .before .before .before .before .before .before .before .pre .0 in
     (settled-count v _ (c .before .before .settle-cells2 .ensures .0), settled v _ _ _ _ (c .before .before .before .before .before .before .before .before .before .before .before .before .difference .ensures) (c .before .before .before .before .before .before .before .before .before .before .settle-rows .ensures) (c .before .before .settle-cells2 .ensures .1) (c .before .before .before .before .before .before .settle-cells .ensures .1))
 
 pub settle-spec : {M : Type 1} → statement M
@@ -66,6 +74,7 @@ settle-spec =
     add-next
     difference-requires
     mul-places
+    mul-settle-rows
     settle-rows-requires
     settle-cells-requires
     settle-cells-requires-2

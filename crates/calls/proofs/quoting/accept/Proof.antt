@@ -14,10 +14,10 @@ known : (c : tie.After-mark)
     (c .mark .last .1 .1 .1 .1 .1 .1 .1 .0) (c .before .before .before .before .before .before .difference .result) (c .mark .result)
 known c =
     let entry = c .before .before .before .before .before .before .before .before .before .before .before .before .before in
-    marked _ _ _ _ (entry .pre) (omega (arith, entry .good)) (c .before .before .before .before .before .before .difference .ensures) _ (c .mark .ensures .0) (c .mark .ensures .1)
+    marked _ _ _ _ (entry .pre .0) (omega (arith, entry .good)) (c .before .before .before .before .before .before .difference .ensures) _ (c .mark .ensures .0) (c .mark .ensures .1)
 
 add-difference : tie.Need-add-difference
-add-difference c = let below = admitted _ _ _ _ (c .before .before .before .before .before .before .pre) .below in omega (arith, below)
+add-difference c = let below = admitted _ _ _ _ (c .before .before .before .before .before .before .pre .0) .below in omega (arith, below)
 
 difference-requires : tie.Need-difference-requires
 difference-requires c κs = search needs
@@ -32,7 +32,7 @@ slice-aggregate-mark : tie.Need-slice-aggregate-mark
 slice-aggregate-mark c = search needs
 
 mark-requires : tie.Need-mark-requires
-mark-requires c κs = mark-asks _ _ _ _ (c .before .before .before .before .before .before .before .before .before .before .before .before .pre)
+mark-requires c κs = mark-asks _ _ _ _ (c .before .before .before .before .before .before .before .before .before .before .before .before .pre .0)
 
 slice-aggregate-overflows : tie.Need-slice-aggregate-overflows
 slice-aggregate-overflows c = search needs
@@ -65,7 +65,9 @@ slice-aggregate-settle : tie.Need-slice-aggregate-settle
 slice-aggregate-settle c = search needs
 
 settle-requires : tie.Need-settle-requires
-settle-requires c κs = ready (known (c .before .before .before .before .before .before .before .before .before .before .before .before .before .before .before .before .before))
+settle-requires c κs =
+    let marks = c .before .before .before .before .before .before .before .before .before .before .before .before .before .before .before .before .before in
+    (ready (known marks), marks .before .before .before .before .before .before .before .before .before .before .before .before .before .pre .1)
 
 after-quote-requires : tie.Need-after-quote-requires
 after-quote-requires c κs = search needs

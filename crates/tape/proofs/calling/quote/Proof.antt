@@ -11,18 +11,18 @@ use Rattle.tape.proofs.calling.quote.Tie as tie
 array-share-prefix-quote : tie.Need-array-share-prefix-quote
 array-share-prefix-quote c = search needs
 
-slice-aggregate-quote : tie.Need-slice-aggregate-quote
-slice-aggregate-quote c = simp length-take (omega arith)
+slice-aggregate-quote-cleared : tie.Need-slice-aggregate-quote-cleared
+slice-aggregate-quote-cleared c = simp length-take (omega arith)
 
-quote-requires : tie.Need-quote-requires
-quote-requires c κs = search needs
+quote-cleared-requires : tie.Need-quote-cleared-requires
+quote-cleared-requires c κs = c .before .before .before .before .before .before .before .before .before .before .pre .1
 
 slice-aggregate-put-changed : tie.Need-slice-aggregate-put-changed
 slice-aggregate-put-changed c = search needs
 
 put-changed-requires : tie.Need-put-changed-requires
 unfolding textRoom
-put-changed-requires c κs = (omega arith, (omega (arith, quote-fits (c .before .before .before .before .before .before .before .before .before .before .before .before .quote2 .ensures)), omega arith))
+put-changed-requires c κs = (omega arith, (omega (arith, quote-fits (c .before .before .before .before .before .before .before .before .before .before .before .before .quote-cleared .ensures)), omega arith))
 
 same-length : tie.Need-same-length
 same-length c = search needs
@@ -41,16 +41,16 @@ same-length-5 c = search needs
 
 returns : tie.Need-returns
 returns c =
-    let made = c .before .before .before .before .before .before .before .before .before .before .before .before .before .before .before .quote2 in
-    quote-turned _ _ _ _ _ (made .ensures) (made .kept .1 .1 .1 .1 .1 .1 .0) (c .before .before .put-changed .ensures)
+    let made = c .before .before .before .before .before .before .before .before .before .before .before .before .before .before .before .quote-cleared in
+    quote-turned _ _ _ _ _ (made .ensures) (made .kept .1 .1 .1 .1 .1 .1 .1 .0) (c .before .before .put-changed .ensures)
 
 pub quote-spec : {M : Type 1} → statement M
 quote-spec =
     tie.close
     (tie.spec
     array-share-prefix-quote
-    slice-aggregate-quote
-    quote-requires
+    slice-aggregate-quote-cleared
+    quote-cleared-requires
     slice-aggregate-put-changed
     put-changed-requires
     same-length

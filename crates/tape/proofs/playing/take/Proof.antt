@@ -15,7 +15,9 @@ cast-quote c = search needs
 
 quote-requires : tie.Need-quote-requires
 unfolding columnCount
-quote-requires c κs = (rw (c .before .before .before .before .before .before .message .given .1) at (c .before .before .before .before .before .before .before .before .before .before .before .before .before .pre .0), c .before .before .before .before .before .before .before .before .before .before .before .before .before .pre .1)
+quote-requires c κs =
+    let entry = c .before .before .before .before .before .before .before .before .before .before .before .before .before in
+    ((rw (c .before .before .before .before .before .before .message .given .1) at (entry .pre .0 .0), entry .pre .0 .1), entry .pre .1)
 
 enum-known-message-2 : tie.Need-enum-known-message-2
 enum-known-message-2 c = search needs
