@@ -1,5 +1,4 @@
 -- The lines of changes laid behind the line of an answer: how long both are at most, and what stands in the text then.
-use mathlib.Core.Path.{_≡_}
 use Prim.Native.Nat.{ℕ, _+_, _-_, _*_, _/_, _≤_}
 use native.Mathlib.Omega.{arith}
 use mathlib.Core.List.{List, [], _∷_, _++_}

@@ -27,7 +27,7 @@ use Rattle.tape.specs.declared.Turn.{Turn}
 use Rattle.tape.specs.Print.{asked}
 use Rattle.tape.specs.Play.{Played, playAsked, playAt, Player, begun, bookMake}
 use Rattle.tape.specs.Steps.{player, textRoom, stepAt, stepAnswer, stepReply, Stepped}
-use Rattle.tape.specs.Turns.{outOfPlace, placed, columnCount, made, taken, Turned}
+use Rattle.tape.specs.Turns.{outOfPlace, placed, columnCount, made, observed, taken, Turned}
 
 -- ---- the message
 
@@ -94,24 +94,37 @@ placed-columns tape place begun {r} e f =
     go true m h = omega arith
     go false m h = h
 
--- a change and the end make no call
-pub nothing-taken : (m : Message) (columns : List ℕ) (k : Player) → OneOf (4 ∷ 5 ∷ 7 ∷ []) (tagOf the-type m) → taken m columns k ≡ ([], k)
+-- no call is made of these
+pub nothing-observed : (m : Message) (k : Player) → OneOf (0 ∷ 4 ∷ 5 ∷ 6 ∷ 7 ∷ []) (tagOf the-type m) → observed m k ≡ ([], k)
+unfolding observed
+nothing-observed (Quote n) k one = refl
+nothing-observed (Look n) k one = absurd (miss (0 ∷ 4 ∷ 5 ∷ 6 ∷ 7 ∷ []) 1 tt one)
+nothing-observed (Watch n) k one = absurd (miss (0 ∷ 4 ∷ 5 ∷ 6 ∷ 7 ∷ []) 2 tt one)
+nothing-observed (Unwatch n) k one = absurd (miss (0 ∷ 4 ∷ 5 ∷ 6 ∷ 7 ∷ []) 3 tt one)
+nothing-observed (Leave n p) k one = refl
+nothing-observed (Join n p) k one = refl
+nothing-observed (Open d N directions) k one = refl
+nothing-observed End k one = refl
+nothing-observed (Refused refusal) k one = absurd (miss (0 ∷ 4 ∷ 5 ∷ 6 ∷ 7 ∷ []) 8 tt one)
+
+-- all but a quote and an opening leave the tables as they are
+pub taken-observed : (m : Message) (columns : List ℕ) (k : Player) → OneOf (1 ∷ 2 ∷ 3 ∷ 4 ∷ 5 ∷ 7 ∷ 8 ∷ []) (tagOf the-type m) → taken m columns k ≡ observed m k
 unfolding taken
-nothing-taken (Leave n p) columns k one = refl
-nothing-taken (Join n p) columns k one = refl
-nothing-taken End columns k one = refl
-nothing-taken (Quote n) columns k one = absurd (miss (4 ∷ 5 ∷ 7 ∷ []) 0 tt one)
-nothing-taken (Look n) columns k one = absurd (miss (4 ∷ 5 ∷ 7 ∷ []) 1 tt one)
-nothing-taken (Watch n) columns k one = absurd (miss (4 ∷ 5 ∷ 7 ∷ []) 2 tt one)
-nothing-taken (Unwatch n) columns k one = absurd (miss (4 ∷ 5 ∷ 7 ∷ []) 3 tt one)
-nothing-taken (Open d N directions) columns k one = absurd (miss (4 ∷ 5 ∷ 7 ∷ []) 6 tt one)
-nothing-taken (Refused refusal) columns k one = absurd (miss (4 ∷ 5 ∷ 7 ∷ []) 8 tt one)
+taken-observed (Quote n) columns k one = absurd (miss (1 ∷ 2 ∷ 3 ∷ 4 ∷ 5 ∷ 7 ∷ 8 ∷ []) 0 tt one)
+taken-observed (Look n) columns k one = refl
+taken-observed (Watch n) columns k one = refl
+taken-observed (Unwatch n) columns k one = refl
+taken-observed (Leave n p) columns k one = refl
+taken-observed (Join n p) columns k one = refl
+taken-observed (Open d N directions) columns k one = absurd (miss (1 ∷ 2 ∷ 3 ∷ 4 ∷ 5 ∷ 7 ∷ 8 ∷ []) 6 tt one)
+taken-observed End columns k one = refl
+taken-observed (Refused refusal) columns k one = refl
 
 -- what is asked at a place is the message in its place, taken
 asked-taken : (begun' : Bool) (m : Message) (columns : List ℕ) (next : ℕ) (k : Player)
     → playAsked begun bookMake (asked begun' m columns) next k
     ≡ record { text = taken (placed begun' m) columns k .0; state = taken (placed begun' m) columns k .1; next = next; over = ends m }
-unfolding playAsked asked taken placed outOfPlace ends made
+unfolding playAsked asked taken observed placed outOfPlace ends made
 asked-taken true (Quote n) columns next k = refl
 asked-taken true (Look n) columns next k = refl
 asked-taken true (Watch n) columns next k = refl
@@ -129,6 +142,7 @@ asked-taken b (Refused refusal) columns next k = refl
 
 -- ---- the step
 module _ (tape : List ℕ) (place : ℕ) (h : Head) (t : Tables) (ws bytes before : List ℕ) where
+  -- the player before the frame
   abbrev k : Player
   k = player h t ws bytes
 

@@ -40,6 +40,7 @@ roomy room count e = ltb-false room count (accepted-passed (ltb room count) Shor
 
 -- ---- the calls
 module _ {h : Head} {t : Tables} {r : Reply} {before after : List ℕ} where
+  -- the changes of a quote fit its output
   pub quote-fits : {x ws : List ℕ} {t' : Tables} → Quoted h x t ws before r t' after → r .count ≤ length before
   unfolding quoteReply replyOf quoteAnswer
   quote-fits {x} {ws} q =
@@ -49,6 +50,7 @@ module _ {h : Head} {t : Tables} {r : Reply} {before after : List ℕ} where
       (counted (quoteAnswer h x t ws room) bytes room
       (λ e. roomy room bytes (behind (leb lastPosition (h .newest)) TapeFull _ (behind (not (eqb (length x) (h .dimensions))) ColumnCount _ (watchful-passed h t ws _ e .2)))))
 
+  -- the positions of a look fit its output
   pub look-fits : {n : ℕ} → Looked h n t before r after → r .count ≤ length before
   unfolding lookReply replyOf lookAnswer
   look-fits {n} o =
@@ -56,6 +58,7 @@ module _ {h : Head} {t : Tables} {r : Reply} {before after : List ℕ} where
       let cells = length (lookCells h n t) in
       rw (o .reply) (counted (lookAnswer h n t room) cells room (λ e. roomy room cells (behind (outOfRange h n) WindowSize _ (answer-passed h t _ e .1))))
 
+  -- the joins of a watch fit its output
   pub watch-fits : {n : ℕ} {ws ws' : List ℕ} → Watched h n t ws before r ws' after → r .count ≤ length before
   unfolding watchReply replyOf watchAnswer
   watch-fits {n} {ws} w =

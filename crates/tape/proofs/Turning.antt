@@ -25,26 +25,20 @@ use Rattle.tape.proofs.Rooms.{quote-fits, watch-fits}
 
 -- ---- lines
 
-module _ (answer : Answer) (request : Request) (h : Head) (letter : ℕ) (numbers : List ℕ) where
+module _ (request : Request) (h : Head) (letter : ℕ) (numbers : List ℕ) where
   -- the one line of a call that wrote no changes
-  one-line : (written : List ℕ) → linesOf request h written ≡ line letter numbers → answerLine answer letter numbers ≡ answerText answer request h written
+  one-line : (answer : Answer) (written : List ℕ) → linesOf request h written ≡ line letter numbers → answerLine answer letter numbers ≡ answerText answer request h written
   unfolding answerLine answerText
-  one-line written e = go answer
-    where
-      go : (a : Answer) → answerLine a letter numbers ≡ answerText a request h written
-      go Accepted = sym e
-      go (Refused k) = refl
+  one-line Accepted written e = sym e
+  one-line (Refused k) written e = refl
 
   -- the lines of a call that wrote changes into bytes
-  changed-lines : (count : ℕ) (bytes : List ℕ) → ((written : List ℕ) → linesOf request h written ≡ line letter numbers ++ changesText written) → settled answer count 0 ≤ length bytes
+  changed-lines : (answer : Answer) (count : ℕ) (bytes : List ℕ) → ((written : List ℕ) → linesOf request h written ≡ line letter numbers ++ changesText written)
+      → settled answer count 0 ≤ length bytes
       → answerLine answer letter numbers ++ changeLines (changesIn bytes (settled answer count 0 / 7)) ≡ answerText answer request h (take (settled answer count 0) bytes)
   unfolding answerLine answerText settled changeLines changesIn run flat
-  changed-lines count bytes e fits = go answer fits
-    where
-      go : (a : Answer) → settled a count 0 ≤ length bytes
-          → answerLine a letter numbers ++ changeLines (changesIn bytes (settled a count 0 / 7)) ≡ answerText a request h (take (settled a count 0) bytes)
-      go Accepted h = ap (λ (l : List ℕ). line letter numbers ++ l) (sym (changes-written bytes count h)) ∙ sym (e (take count bytes))
-      go (Refused k) h = append-nil (refusalLine k)
+  changed-lines Accepted count bytes e fits = ap (λ (l : List ℕ). line letter numbers ++ l) (sym (changes-written bytes count fits)) ∙ sym (e (take count bytes))
+  changed-lines (Refused k) count bytes e fits = append-nil (refusalLine k)
 
 -- a head that stays either way
 same-head : (answer : Answer) (h : Head) → h ≡ settled answer h h
@@ -58,6 +52,7 @@ laid-as e l = rw (← e) l
 
 -- ---- calls
 module _ (h : Head) (t : Tables) (ws bytes : List ℕ) where
+  -- the player before the call
   abbrev k : Player
   k = player h t ws bytes
 
@@ -68,7 +63,7 @@ module _ (h : Head) (t : Tables) (ws bytes : List ℕ) where
         → Turned (made (Request.Open d N directions) k) before (record { count = count; head = next; watches = ws' }) t' bytes after
     unfolding made bookMake callOf bytesAfter bookStep textOf linesOf
     open-turned d N directions {r} o e l =
-        let lines : answerLine (r .answer) 79 (d ∷ N ∷ directions ∷ []) ≡ made (Request.Open d N directions) k .0 = rw (o .reply) (one-line _ (Request.Open d N directions) _ 79 (d ∷ N ∷ directions ∷ []) _ refl) in
+        let lines : answerLine (r .answer) 79 (d ∷ N ∷ directions ∷ []) ≡ made (Request.Open d N directions) k .0 = rw (o .reply) (one-line (Request.Open d N directions) _ 79 (d ∷ N ∷ directions ∷ []) _ _ refl) in
         let all = laid-as lines l in
         record {
           count = all .counted;
@@ -89,7 +84,7 @@ module _ (h : Head) (t : Tables) (ws bytes : List ℕ) where
         let numbers = reply .head .newest ∷ reply .head .rows ∷ [] in
         let fits : reply .count ≤ length bytes' = rw long (subst (λ (r : Reply). r .count ≤ length bytes) (q .reply) (quote-fits q)) in
         let lines : answerLine (r .answer) 81 (r .head .newest ∷ r .head .rows ∷ []) ++ changeLines (changesIn bytes' (r .count / 7)) ≡ made (Request.Quote x) k .0 =
-        rw (q .reply, ← (q .out)) (changed-lines (reply .answer) (Request.Quote x) (reply .head) 81 numbers (length (quoteBytes h x t ws)) bytes' (λ w. refl) fits) in
+        rw (q .reply, ← (q .out)) (changed-lines (Request.Quote x) (reply .head) 81 numbers (reply .answer) (length (quoteBytes h x t ws)) bytes' (λ w. refl) fits) in
         let all = laid-as lines l in
         record { count = all .counted; head = ap (λ (r : Reply). r .head) (q .reply); watches = refl; lent = q .lent; bytes = q .out; text = all .text }
 
@@ -102,7 +97,7 @@ module _ (h : Head) (t : Tables) (ws bytes : List ℕ) where
         let reply = watchReply h n t ws (length bytes) in
         let fits : reply .count ≤ length bytes' = rw long (subst (λ (r : Reply). r .count ≤ length bytes) (w .reply) (watch-fits w)) in
         let lines : answerLine (r .answer) 87 (n ∷ []) ++ changeLines (changesIn bytes' (r .count / 7)) ≡ made (Request.Watch n) k .0 =
-        rw (w .reply, ← (w .out)) (changed-lines (reply .answer) (Request.Watch n) (reply .head) 87 (n ∷ []) (length (watchBytes h n t ws)) bytes' (λ w. refl) fits) in
+        rw (w .reply, ← (w .out)) (changed-lines (Request.Watch n) (reply .head) 87 (n ∷ []) (reply .answer) (length (watchBytes h n t ws)) bytes' (λ w. refl) fits) in
         let all = laid-as lines l in
         record { count = all .counted; head = ap (λ (r : Reply). r .head) (w .reply); watches = w .watches; lent = refl; bytes = w .out; text = all .text }
 
@@ -111,7 +106,7 @@ module _ (h : Head) (t : Tables) (ws bytes : List ℕ) where
         → Turned (made (Request.End n) k) before (record { count = count; head = r .head; watches = ws' }) t bytes after
     unfolding made bookMake callOf bytesAfter bookStep textOf linesOf
     end-turned n {r} e l =
-        let lines : answerLine (r .answer) 85 (n ∷ []) ≡ made (Request.End n) k .0 = rw (e .reply) (one-line _ (Request.End n) _ 85 (n ∷ []) _ refl) in
+        let lines : answerLine (r .answer) 85 (n ∷ []) ≡ made (Request.End n) k .0 = rw (e .reply) (one-line (Request.End n) _ 85 (n ∷ []) _ _ refl) in
         let all = laid-as lines l in
         record { count = all .counted; head = ap (λ (r : Reply). r .head) (e .reply); watches = e .watches; lent = refl; bytes = refl; text = all .text }
 
@@ -120,7 +115,7 @@ module _ (h : Head) (t : Tables) (ws bytes : List ℕ) where
         → Laid (answerLine (r .answer) 76 (take (r .count + 1) (n ∷ (cells ++ [])))) before count after → Laid (made (Request.Look n) k .0) before count after
     unfolding made bookMake callOf bytesAfter bookStep textOf linesOf
     look-laid n {r} {cells} o l =
-        let lines : answerLine (r .answer) 76 (n ∷ take (r .count) cells) ≡ made (Request.Look n) k .0 = rw (o .reply, o .out) (one-line _ (Request.Look n) _ 76 _ _ refl) in
+        let lines : answerLine (r .answer) 76 (n ∷ take (r .count) cells) ≡ made (Request.Look n) k .0 = rw (o .reply, o .out) (one-line (Request.Look n) _ 76 _ _ _ refl) in
         laid-as lines (rw (add-one (r .count), append-nil cells) at l)
 
     -- a look leaves the player as it was

@@ -12,13 +12,16 @@ use Rattle.printed.specs.Printed.{changeLines, changeAt, changesIn}
 use Rattle.tape.specs.Print.{changesText}
 
 module _ (bytes : List ℕ) (count : ℕ) where
+  -- a byte of what was written
   byte-written : (i : ℕ) → i < count → getD (take count bytes) i 0 ≡ getD bytes i 0
   byte-written i h = getD-take count bytes i 0 h
 
+  -- the number in two bytes of what was written
   two-written : (i : ℕ) → i + 2 ≤ count → number2 (take count bytes) i ≡ number2 bytes i
   unfolding number2
   two-written i h = rw (byte-written i (omega arith), byte-written (i + 1) (omega arith))
 
+  -- the number in four bytes of what was written
   four-written : (i : ℕ) → i + 4 ≤ count → number4 (take count bytes) i ≡ number4 bytes i
   unfolding number4
   four-written i h =

@@ -53,17 +53,29 @@ answerLine (Answer.Refused k) letter numbers = refusalLine k
 unfoldable pub made : Request → Player → List ℕ × Player
 made r k = let one = bookMake r k in (textOf r (one .0), one .1)
 
+-- the lines of a message that leaves the tables as they are, and the player after it; any other has none
+unfoldable pub observed : Message → Player → List ℕ × Player
+observed (Quote n) k = ([], k)
+observed (Look n) k = made (Request.Look n) k
+observed (Watch n) k = made (Request.Watch n) k
+observed (Unwatch n) k = made (Request.End n) k
+observed (Leave n p) k = ([], k)
+observed (Join n p) k = ([], k)
+observed (Open d N directions) k = ([], k)
+observed End k = ([], k)
+observed (Refused refusal) k = (refusalLine refusal, k)
+
 -- the lines of a message that is in its place, and the player after it
 unfoldable pub taken : Message → List ℕ → Player → List ℕ × Player
 taken (Quote n) columns k = made (Request.Quote (take n columns)) k
-taken (Look n) columns k = made (Request.Look n) k
-taken (Watch n) columns k = made (Request.Watch n) k
-taken (Unwatch n) columns k = made (Request.End n) k
-taken (Leave n p) columns k = ([], k)
-taken (Join n p) columns k = ([], k)
+taken (Look n) columns k = observed (Look n) k
+taken (Watch n) columns k = observed (Watch n) k
+taken (Unwatch n) columns k = observed (Unwatch n) k
+taken (Leave n p) columns k = observed (Leave n p) k
+taken (Join n p) columns k = observed (Join n p) k
 taken (Open d N directions) columns k = made (Request.Open d N directions) k
-taken End columns k = ([], k)
-taken (Refused refusal) columns k = (refusalLine refusal, k)
+taken End columns k = observed End k
+taken (Refused refusal) columns k = observed (Refused refusal) k
 
 -- what a call with these lines and this player after it hands back, and leaves of tables, bytes and text
 pub record Turned (one : List ℕ × Player) (before : List ℕ) (r : Turn) (t' : Tables) (bytes' after : List ℕ) : Type 0 where

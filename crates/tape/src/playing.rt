@@ -5,7 +5,7 @@ ghost use lib.Dec.{ltb};
 ghost use lib.ListN.{length};
 ghost use Rattle.calls.specs.Left.{tables};
 ghost use Rattle.tape.specs.Steps.{player, textRoom, Stepped};
-ghost use Rattle.tape.specs.Turns.{outOfPlace, placed, columnCount, taken, Turned};
+ghost use Rattle.tape.specs.Turns.{outOfPlace, placed, columnCount, observed, taken, Turned};
 use crate::Step;
 use crate::Turn;
 use crate::calling;
@@ -52,6 +52,58 @@ fn placed(begun: bool, message: Message) -> Message
     message
 }
 
+// Makes the call of a message that leaves the tables as they are, and lays its lines; any other message lays none.
+fn observe(
+    message: Message,
+    head: Head,
+    columns: &[u32],
+    positions: &[u32],
+    lower_ends: &[u32],
+    watches: [u32; 8],
+    bytes: &mut [u8],
+    text: &mut [u8],
+) -> Turn
+    requires { ⌜ textRoom (length (now bytes)) ≤ length (now text) ⌝ }
+    ensures { λ r. ⌜ Turned (observed message (player head (tables (now (columns .entry)) (now (positions .entry)) (now («lower_ends» .entry))) watches (now (bytes .entry)))) (now (text .entry)) r (tables (now (columns .entry)) (now (positions .entry)) (now («lower_ends» .entry))) (now (bytes .exit)) (now (text .exit)) ⌝ }
+{
+    match message {
+        Message::Look(n) => Turn {
+            count: calling::look(head, n as u32, columns, positions, lower_ends, text),
+            head,
+            watches,
+        },
+        Message::Watch(n) => calling::watch(
+            head,
+            n as u32,
+            columns,
+            positions,
+            lower_ends,
+            watches,
+            bytes,
+            text,
+        ),
+        Message::Unwatch(n) => calling::end(
+            head,
+            n as u32,
+            columns,
+            positions,
+            lower_ends,
+            watches,
+            text,
+        ),
+        Message::Refused(refusal) => Turn {
+            count: calling::refuse(refusal, text),
+            head,
+            watches,
+        },
+        _ => Turn {
+            count: 0,
+            head,
+            watches,
+        },
+    }
+}
+
 // Makes the call of a message that is in its place, and lays its lines.
 fn take(
     message: Message,
@@ -79,30 +131,6 @@ fn take(
             bytes,
             text,
         ),
-        Message::Look(n) => Turn {
-            count: calling::look(head, n as u32, columns, positions, lower_ends, text),
-            head,
-            watches,
-        },
-        Message::Watch(n) => calling::watch(
-            head,
-            n as u32,
-            columns,
-            positions,
-            lower_ends,
-            watches,
-            bytes,
-            text,
-        ),
-        Message::Unwatch(n) => calling::end(
-            head,
-            n as u32,
-            columns,
-            positions,
-            lower_ends,
-            watches,
-            text,
-        ),
         Message::Open(d, n, directions) => calling::open(
             head,
             d as u32,
@@ -114,16 +142,16 @@ fn take(
             watches,
             text,
         ),
-        Message::Refused(refusal) => Turn {
-            count: calling::refuse(refusal, text),
+        _ => observe(
+            message,
             head,
+            columns,
+            positions,
+            lower_ends,
             watches,
-        },
-        _ => Turn {
-            count: 0,
-            head,
-            watches,
-        },
+            bytes,
+            text,
+        ),
     }
 }
 

@@ -45,7 +45,7 @@ same-length-5 c = search needs
 returns-2 : tie.Need-returns-2
 returns-2 c =
     let made = c .before .before .before .before .before .before .before .before .before .before .before .before .before in
-    let known = c .before .before .before .before .before .before .before .before .before .before .before .before .before .before .before .before .before .before .before in
+    let known = made .before .before .before .before .before .before in
     let read = known .before .before .before in
     step-played _ _ _ _ _ _ _ (sym (read .before .if1 .left) ∙ read .before .before .short-text .ensures) (read .read-at .ensures) (known .before .settings-hold .ensures) (known .placed .ensures) (made .take .ensures)
 
