@@ -45,7 +45,7 @@ module _ (before behind : List ℕ) (h : length before < 6) where
       ∙ ap (grown f) e
       ∙ sym (grown-next f digit (omega arith) (omega arith) (rw here z) {value = number * 10 + digit} (rw here refl) (omega arith))
       ∙ ap (λ (l : List ℕ). record { fair = true; empty = false; count = length before + 1; numbers = l })
-        (ap (λ (i : ℕ). set (before ++ (number ∷ behind)) i (number * 10 + digit)) last ∙ set-at before number behind (number * 10 + digit) (length before) refl)
+      (ap (λ (i : ℕ). set (before ++ (number ∷ behind)) i (number * 10 + digit)) last ∙ set-at before number behind (number * 10 + digit) (length before) refl)
 
   -- the digits of a number
   digits-read : (k n : ℕ) → n < 10 ^ suc k → n < 4294967296 → fieldsFrom (fieldsWith true before 0 behind) (digitsUpTo (suc k) n) ≡ fieldsWith false before n behind
@@ -100,7 +100,7 @@ fields-read before (n ∷ ns) behind h s =
     let long : length next ≡ length before + 1 = length-append before (n ∷ []) in
     fields-append (fieldsOf before (0 ∷ (replicate (length ns) 0 ++ behind))) (field n) (flat (map field ns))
     ∙ ap (λ (f : Fields). fieldsFrom f (flat (map field ns)))
-      (field-read before (replicate (length ns) 0 ++ behind) n (omega arith) (ltb-true n 4294967296 (and-left (ltb n 4294967296) (small ns) s)))
+    (field-read before (replicate (length ns) 0 ++ behind) n (omega arith) (ltb-true n 4294967296 (and-left (ltb n 4294967296) (small ns) s)))
     ∙ fields-read next ns behind (omega (arith, long)) (and-right (ltb n 4294967296) (small ns) s)
     ∙ ap (λ (l : List ℕ). fieldsOf l behind) (append-assoc before (n ∷ []) ns)
 
