@@ -8,7 +8,9 @@ use Rattle.tape_printer.proofs.main.Statement.{statement}
 use Rattle.tape_printer.proofs.main.Tie as tie
 
 abbrev Inv-loop : tie.InvT-loop
-Inv-loop columns₀ positions₀ lower-ends₀ bytes₀ tape₀ text₀ stand₀ turns₀ columns positions lower-ends bytes tape text stand turns = (stand .used ≤ length text) × (stand .place ≤ stand .end) × (stand .end ≤ length tape) × (length tape ≡ 65536) × (length columns ≡ 6144) × (length positions ≡ 1024) × (length lower-ends ≡ 1024) × (length bytes ≡ 57400) × (length text ≡ 273613)
+Inv-loop columns₀ positions₀ lower-ends₀ bytes₀ tape₀ text₀ stand₀ turns₀ columns positions lower-ends bytes tape text stand turns =
+    (stand .used ≤ length text) × (stand .place ≤ stand .end) × (stand .end ≤ length tape) × (length tape ≡ 65536) × (length columns ≡ 6144) ×
+    (length positions ≡ 1024) × (length lower-ends ≡ 1024) × (length bytes ≡ 57400) × (length text ≡ 273613)
 
 abbrev μ-loop : tie.MeasureT-loop
 μ-loop columns₀ positions₀ lower-ends₀ bytes₀ tape₀ text₀ stand₀ turns₀ columns positions lower-ends bytes tape text stand turns = turns
@@ -47,7 +49,20 @@ loop-less : tie.Need-loop-less Inv-loop μ-loop
 loop-less c = search needs
 
 loop-again : tie.Need-loop-again Inv-loop μ-loop
-loop-again c = let k = c .before .before .before .before .before .before .«read-on» .kept in let e = c .before .before .before .before .before .before .«read-on» .ensures in let i = c .before .before .before .before .before .before .before .before .before .before .before .before .before .before .before .before .loop .inv in (omega (arith, e .0, k .1 .1 .1 .1 .1 .1 .0, i .8), e .1, omega (arith, e .2, k .1 .0, i .3), k .1 .0 ∙ i .3, k .1 .1 .0 ∙ i .4, k .1 .1 .1 .0 ∙ i .5, k .1 .1 .1 .1 .0 ∙ i .6, k .1 .1 .1 .1 .1 .0 ∙ i .7, k .1 .1 .1 .1 .1 .1 .0 ∙ i .8)
+loop-again c =
+    let k = c .before .before .before .before .before .before .read-on .kept in
+    let e = c .before .before .before .before .before .before .read-on .ensures in
+    let i = c .before .before .before .before .before .before .before .before .before .before .before .before .before .before .before .before .loop .inv in (
+      omega (arith, e .0, k .1 .1 .1 .1 .1 .1 .0, i .8),
+      e .1,
+      omega (arith, e .2, k .1 .0, i .3),
+      k .1 .0 ∙ i .3,
+      k .1 .1 .0 ∙ i .4,
+      k .1 .1 .1 .0 ∙ i .5,
+      k .1 .1 .1 .1 .0 ∙ i .6,
+      k .1 .1 .1 .1 .1 .0 ∙ i .7,
+      k .1 .1 .1 .1 .1 .1 .0 ∙ i .8,
+    )
 
 slice-aggregate-flush : tie.Need-slice-aggregate-flush Inv-loop μ-loop
 slice-aggregate-flush c = sym (c .before .before .loop .inv .8)

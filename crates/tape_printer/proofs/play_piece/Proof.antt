@@ -27,10 +27,26 @@ play-one-requires : tie.Need-play-one-requires Inv-loop μ-loop
 play-one-requires c κs = let i = c .before .before .before .before .before .before .before .loop .inv in (i .fits, i .inside)
 
 loop-less : tie.Need-loop-less Inv-loop μ-loop
-loop-less c = less-left (c .before .before .before .before .before .before .before .before .before .before .before .before .before .before .before .before .before .before .loop .now .over) (ready (now (c .before .before .before .before .before .before .before .before .before .before .before .before .before .before .before .before .before .before .before .before .before .before .before .before .before .args .tape)) (c .before .before .before .before .before .before .before .before .before .before .before .before .before .before .before .before .before .before .loop .now .place)) (c .before .before .before .before .before .before .before .before .before .before .«play-one» .ensures .2) (c .before .before .before .before .before .before .before .before .before .before .before .before .before .before .before .before .before .plays .ensures) (c .before .before .before .before .before .before .before .before .before .before .before .before .before .before .before .before .if1 .taken)
+loop-less c =
+    let one = c .before .before .before .before .before .before .before .before .before .before .play-one in
+    let here = c .before .before .before .before .before .before .before .before .before .before .before .before .before .before .before .before .before .before .loop .now in
+    less-left (here .over) (ready (now (c .before .before .before .before .before .before .before .before .before .before .before .before .before .before .before .before .before .before .before .before .before .before .before .before .before .args .tape)) (here .place)) (one .ensures .2) (c .before .before .before .before .before .before .before .before .before .before .before .before .before .before .before .before .before .plays .ensures) (c .before .before .before .before .before .before .before .before .before .before .before .before .before .before .before .before .if1 .taken)
 
 loop-again : tie.Need-loop-again Inv-loop μ-loop
-loop-again c = let i = c .before .before .before .before .before .before .before .before .before .before .before .before .before .before .before .before .before .before .loop .inv in let k = c .before .before .before .before .before .before .before .before .before .before .«play-one» .kept in let e = c .before .before .before .before .before .before .before .before .before .before .«play-one» .ensures in record { columns-long = k .1 .1 .0 ∙ i .columns-long; positions-long = k .1 .1 .1 .0 ∙ i .positions-long; lower-ends-long = k .1 .1 .1 .1 .0 ∙ i .lower-ends-long; bytes-long = k .1 .1 .1 .1 .1 .0 ∙ i .bytes-long; text-long = k .1 .1 .1 .1 .1 .1 .0 ∙ i .text-long; inside = e .2 .inside; same = e .1 ∙ i .same; fits = omega (arith, e .0, k .1 .1 .1 .1 .1 .1 .0) }
+loop-again c =
+    let i = c .before .before .before .before .before .before .before .before .before .before .before .before .before .before .before .before .before .before .loop .inv in
+    let one = c .before .before .before .before .before .before .before .before .before .before .play-one in
+    let k = one .kept in
+    record {
+      columns-long = k .1 .1 .0 ∙ i .columns-long;
+      positions-long = k .1 .1 .1 .0 ∙ i .positions-long;
+      lower-ends-long = k .1 .1 .1 .1 .0 ∙ i .lower-ends-long;
+      bytes-long = k .1 .1 .1 .1 .1 .0 ∙ i .bytes-long;
+      text-long = k .1 .1 .1 .1 .1 .1 .0 ∙ i .text-long;
+      inside = one .ensures .2 .inside;
+      same = one .ensures .1 ∙ i .same;
+      fits = omega (arith, one .ensures .0, k .1 .1 .1 .1 .1 .1 .0);
+    }
 
 same-length : tie.Need-same-length Inv-loop μ-loop
 same-length c = c .before .before .loop .inv .columns-long

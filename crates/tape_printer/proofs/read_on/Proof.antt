@@ -45,7 +45,9 @@ same-length-7 : tie.Need-same-length-7
 same-length-7 c = search needs
 
 returns-2 : tie.Need-returns-2
-returns-2 c = let e = c .before .before .before .before .before .before .before .before .before .before .«play-one» .ensures in (e .0, omega (arith, rw length-take at (e .2 .inside), e .1), omega (arith, e .1, c .before .before .before .before .before .before .before .before .before .before .before .before .before .before .before .before .before .before .before .before .refill .ensures .2))
+returns-2 c =
+    let e = c .before .before .before .before .before .before .before .before .before .before .play-one .ensures in
+    (e .0, omega (arith, rw length-take at (e .2 .inside), e .1), omega (arith, e .1, c .before .before .before .before .before .before .before .before .before .before .before .before .before .before .before .before .before .before .before .before .refill .ensures .2))
 
 slice-reshare-prefix-play-piece : tie.Need-slice-reshare-prefix-play-piece
 slice-reshare-prefix-play-piece c = search needs
@@ -75,7 +77,9 @@ same-length-13 : tie.Need-same-length-13
 same-length-13 c = search needs
 
 returns-3 : tie.Need-returns-3
-returns-3 c = let e = c .before .before .before .before .before .before .before .before .before .before .«play-piece» .ensures in (e .0, omega (arith, rw length-take at (e .1), e .2), omega (arith, e .2, c .before .before .before .before .before .before .before .before .before .before .before .before .before .before .before .before .before .before .before .before .refill .ensures .2))
+returns-3 c =
+    let e = c .before .before .before .before .before .before .before .before .before .before .play-piece .ensures in
+    (e .0, omega (arith, rw length-take at (e .1), e .2), omega (arith, e .2, c .before .before .before .before .before .before .before .before .before .before .before .before .before .before .before .before .before .before .before .before .refill .ensures .2))
 
 pub read-on-spec : {M : Type 1} → statement M
 read-on-spec =

@@ -32,7 +32,11 @@ loop-less : tie.Need-loop-less Inv-loop μ-loop
 loop-less c = search needs
 
 loop-again : tie.Need-loop-again Inv-loop μ-loop
-loop-again c = let k = c .before .before .«read-on» .kept in let i = c .before .before .before .before .before .before .before .before .loop .inv in (omega (arith, c .before .before .«read-on» .ensures .0, k .1 .1 .0, i .3), c .before .before .«read-on» .ensures .1, k .1 .0 ∙ i .2, k .1 .1 .0 ∙ i .3)
+loop-again c =
+    let k = c .before .before .read-on .kept in
+    let e = c .before .before .read-on .ensures in
+    let i = c .before .before .before .before .before .before .before .before .loop .inv in
+    (omega (arith, e .0, k .1 .1 .0, i .3), e .1, k .1 .0 ∙ i .2, k .1 .1 .0 ∙ i .3)
 
 slice-aggregate-flush : tie.Need-slice-aggregate-flush Inv-loop μ-loop
 slice-aggregate-flush c = sym (c .before .before .loop .inv .3)

@@ -1,10 +1,11 @@
 -- `message_of` meets its contract: each answer is a case of the definition.
-use mathlib.Core.Path.{sym, _∙_}
+use mathlib.Core.Path.{_≡_, sym, _∙_}
 use native.Mathlib.Omega.{arith}
+use lib.ListN.{getD}
 use borrow.Author.Needs.{needs}
 use borrow.Author.Tests.{not-true, not-false}
 use Rattle.notation.proofs.Reading.{fits-two, of-look, of-watch, of-end, of-other, said-unfair, said-opening, said-quote, said-not, said-number}
-use Rattle.notation.specs.Lines.{nothing}
+use Rattle.notation.specs.Lines.{nothing, ofNumber, said}
 use Rattle.notation.proofs.lines.message_of.Statement.{statement}
 use Rattle.notation.proofs.lines.message_of.Tie as tie
 
@@ -37,18 +38,23 @@ array-read-n c = search needs
 cast-n : tie.Need-cast-n
 cast-n c = omega (arith, fits-two _ (sym (c .before .fits2 .ensures) ∙ not-false _ (c .if4 .left)))
 
+-- the message of a single number
+by-number : (c : tie.Else4) → let a = c .before .before .before .before .before .before .before .before .args in ofNumber (a .letter) (getD (a .fields .numbers) 0 0) ≡ said (a .letter) (a .fields)
+by-number c =
+    said-number _ _ (c .before .before .before .before .if1 .left) (c .before .before .before .if2 .left) (c .before .before .if3 .left) (sym (c .before .fits2 .ensures) ∙ not-false _ (c .if4 .left))
+
 returns-5 : tie.Need-returns-5
-returns-5 c = of-look _ _ (c .match .keys1) ∙ said-number _ _ (c .before .before .before .before .before .if1 .left) (c .before .before .before .before .if2 .left) (c .before .before .before .if3 .left) (sym (c .before .before .fits2 .ensures) ∙ not-false _ (c .before .if4 .left))
+returns-5 c = of-look _ _ (c .match .keys1) ∙ by-number (c .before)
 
 returns-6 : tie.Need-returns-6
-returns-6 c = of-watch _ _ (c .match .keys2) ∙ said-number _ _ (c .before .before .before .before .before .if1 .left) (c .before .before .before .before .if2 .left) (c .before .before .before .if3 .left) (sym (c .before .before .fits2 .ensures) ∙ not-false _ (c .before .if4 .left))
+returns-6 c = of-watch _ _ (c .match .keys2) ∙ by-number (c .before)
 
 returns-7 : tie.Need-returns-7
-returns-7 c = of-end _ _ (c .match .keys3) ∙ said-number _ _ (c .before .before .before .before .before .if1 .left) (c .before .before .before .before .if2 .left) (c .before .before .before .if3 .left) (sym (c .before .before .fits2 .ensures) ∙ not-false _ (c .before .if4 .left))
+returns-7 c = of-end _ _ (c .match .keys3) ∙ by-number (c .before)
 
 returns-8 : tie.Need-returns-8
 unfolding nothing
-returns-8 c = of-other _ _ (c .match .rest .0 .0 .1) (c .match .rest .0 .1) (c .match .rest .1) ∙ said-number _ _ (c .before .before .before .before .before .if1 .left) (c .before .before .before .before .if2 .left) (c .before .before .before .if3 .left) (sym (c .before .before .fits2 .ensures) ∙ not-false _ (c .before .if4 .left))
+returns-8 c = of-other _ _ (c .match .rest .0 .0 .1) (c .match .rest .0 .1) (c .match .rest .1) ∙ by-number (c .before)
 
 pub message-of-spec : {M : Type 1} → statement M
 message-of-spec =
