@@ -1,4 +1,4 @@
--- Laws of the next place that passes a test, and of a table halved.
+-- Laws of the next place that passes a test: of cells and flags tested by blocks, of a table halved, and of the rows removed, listed.
 use mathlib.Core.Path.{_≡_, refl, sym, ap, _∙_}
 use mathlib.Core.Logic.{_⊎_, inl, inr}
 use Prim.Native.Nat.{ℕ, zero, suc, _+_, _-_, _≤_, _<_}
@@ -82,7 +82,7 @@ module _ (test : ℕ → Bool) where
 
   module _ (count : ℕ) where
     -- the next place from i on, where i is not past count
-    pub next-from : (i : ℕ) → i ≤ count → i ≤ nextPlace test count i
+    next-from : (i : ℕ) → i ≤ count → i ≤ nextPlace test count i
     unfolding nextPlace
     next-from i h = low count i (count - i) (omega arith)
 
@@ -96,7 +96,7 @@ module _ (test : ℕ → Bool) where
     next-gap i q u v w = gap count i (count - i) q u (omega arith) w
 
     -- it passes, if it is below count
-    pub next-found : (i : ℕ) → i ≤ count → nextPlace test count i < count → test (nextPlace test count i) ≡ true
+    next-found : (i : ℕ) → i ≤ count → nextPlace test count i < count → test (nextPlace test count i) ≡ true
     unfolding nextPlace
     next-found i h l = found count i (count - i) (omega arith) l
 
@@ -216,7 +216,7 @@ pub record Removing (kept : List Bool) (count : ℕ) (entry removed : List ℕ) 
   pub sum : n ≡ length (removedPlaces kept i)
   pub front : take n removed ≡ removedPlaces kept i
 
-pub removing-start : (kept : List Bool) (count : ℕ) (removed : List ℕ) → Removing kept count removed removed 0 0
+removing-start : (kept : List Bool) (count : ℕ) (removed : List ℕ) → Removing kept count removed removed 0 0
 unfolding removedPlaces filter run
 removing-start kept count removed = record { within = omega arith; few = omega arith; long = refl; sum = refl; front = refl }
 
