@@ -8,9 +8,9 @@ use mathlib.Core.Bool.{Bool, true, false, _&&_, _||_, not, or-true, or-false}
 use mathlib.Core.List.{List, [], _∷_, map}
 use lib.Dec.{ltb, leb, eqb}
 use lib.ListN.{length, getD}
-use borrow.Author.Tests.{ltb-false, eq-eqb}
+use borrow.Author.Tests.{ltb-true, ltb-false, leb-true, le-leb, eqb-true, eq-eqb}
 use Rattle.lists.specs.Lists.{any, lastOr, run, rising}
-use Rattle.lists.proofs.Booleans.{none-left, none-right}
+use Rattle.lists.proofs.Booleans.{and-left, and-right, and-false, none-left, none-right}
 use Rattle.lists.proofs.Filters.{map-map, any-map}
 use Rattle.skyline.specs.Skyline.{windowStart}
 use Rattle.head.specs.declared.Head.{Head}
@@ -41,6 +41,25 @@ order-cons before newest r rs =
     go true false c x = refl
     go false b c x = refl
 
+-- rows in order that end at the newest position are not above it
+below-newest : (p newest : ℕ) (rs : List Row) → inOrder p newest rs ≡ true → p ≤ newest
+unfolding inOrder rising any lastOr
+below-newest p newest [] e = let z = eqb-true p newest e in omega arith
+below-newest p newest (r ∷ rs) e =
+    let front = and-left (ltb p (r .position) && leb (r .position) newest && ltb (r .lowerEnd) (r .position)) (inOrder (r .position) newest rs) (sym (order-cons p newest r rs) ∙ e) in
+    let both = and-left (ltb p (r .position) && leb (r .position) newest) (ltb (r .lowerEnd) (r .position)) front in
+    let above = ltb-true p (r .position) (and-left (ltb p (r .position)) (leb (r .position) newest) both) in
+    let below = leb-true (r .position) newest (and-right (ltb p (r .position)) (leb (r .position) newest) both) in
+    omega arith
+
+-- so that each row need not be held to the newest
+newest-last : (p newest : ℕ) (rs : List Row) → leb p newest && inOrder p newest rs ≡ inOrder p newest rs
+newest-last p newest rs = go (inOrder p newest rs) (λ e. le-leb p newest (below-newest p newest rs e))
+  where
+    go : (b : Bool) → (b ≡ true → leb p newest ≡ true) → leb p newest && b ≡ b
+    go true f = rw (f refl)
+    go false f = and-false (leb p newest)
+
 -- i of the rows have been passed: they are in order where fair says so, and the last stands at this position
 pub record Passing (before newest count : ℕ) (t : Tables) (fair : Bool) (last i : ℕ) : Type 0 where
   pub within : i ≤ count
@@ -53,15 +72,22 @@ module _ {before newest count : ℕ} {t : Tables} where
 
   pub more : {fair : Bool} {last i : ℕ} → Passing before newest count t fair last i → i < count
       → (p l : ℕ) → p ≡ getD (t .positions) i 0 → l ≡ getD (t .lowerEnds) i 0
-      → Passing before newest count t (fair && ltb last p && leb p newest && ltb l p) p (i + 1)
+      → Passing before newest count t (fair && ltb last p && ltb l p) p (i + 1)
   unfolding run rowAt
   more {fair} {last} {i} v h p l e f =
       let z : count - i ≡ suc (count - suc i) = omega arith in
-      record { within = omega arith; same = v .same ∙ rw (z, order-cons, add-one, ← e, ← f) (go fair (ltb last p) (leb p newest) (ltb l p) (inOrder p newest (map (rowAt 0 t) (run (suc i) (count - suc i))))) }
+      let rest : List Row = map (rowAt 0 t) (run (suc i) (count - suc i)) in
+      record {
+        within = omega arith;
+        same = v .same ∙ rw (z, order-cons, add-one, ← e, ← f) (go fair (ltb last p) (leb p newest) (ltb l p) (inOrder p newest rest) (newest-last p newest rest));
+      }
     where
-      go : (a b c d x : Bool) → a && (b && c && d && x) ≡ a && b && c && d && x
-      go true b c d x = refl
-      go false b c d x = refl
+      go : (a b c d x : Bool) → c && x ≡ x → a && ((b && c && d) && x) ≡ (a && b && d) && x
+      go true true true d x e = refl
+      go true true false true x e = e
+      go true true false false x e = refl
+      go true false c d x e = refl
+      go false b c d x e = refl
 
   pub finish : {fair : Bool} {last i : ℕ} → Passing before newest count t fair last i → count ≤ i
       → fair && eqb last newest ≡ inOrder before newest (rowsIn 0 count t)

@@ -43,7 +43,7 @@ fn in_order(before: u32, newest: u32, count: usize, positions: &[u32], lower_end
     while i < count {
         let position = positions[i];
         let lower = lower_ends[i];
-        fair = fair & (last < position) & (position <= newest) & (lower < position);
+        fair = fair & (last < position) & (lower < position);
         last = position;
         i += 1;
     }
