@@ -1,0 +1,71 @@
+-- `grown` meets its contract: each answer is a case of the definition.
+use mathlib.Core.Path.{_∙_}
+use borrow.Author.Needs.{needs}
+use Rattle.notation.proofs.Steps.{grown-none, grown-many, grown-zero, grown-large, grown-next}
+use Rattle.notation.proofs.Fields.grown.Statement.{statement}
+use Rattle.notation.proofs.Fields.grown.Tie as tie
+
+unfair-requires : tie.Need-unfair-requires
+unfair-requires c κs = search needs
+
+returns : tie.Need-returns
+returns c = c .unfair .ensures ∙ grown-none _ _ (c .before .if1 .taken)
+
+unfair-requires-2 : tie.Need-unfair-requires-2
+unfair-requires-2 c κs = search needs
+
+returns-2 : tie.Need-returns-2
+returns-2 c = c .unfair2 .ensures ∙ grown-many _ _ (c .before .before .if1 .left) (c .before .if2 .taken)
+
+mul-number : tie.Need-mul-number
+mul-number c = search needs
+
+array-read-number : tie.Need-array-read-number
+array-read-number c = search needs
+
+unfair-requires-3 : tie.Need-unfair-requires-3
+unfair-requires-3 c κs = search needs
+
+returns-3 : tie.Need-returns-3
+returns-3 c = c .unfair3 .ensures ∙ grown-zero _ _ (c .before .before .before .if1 .left) (c .before .before .if2 .left) (c .before .if3 .taken)
+
+extended-requires : tie.Need-extended-requires
+extended-requires c κs = search needs
+
+unfair-requires-4 : tie.Need-unfair-requires-4
+unfair-requires-4 c κs = search needs
+
+returns-4 : tie.Need-returns-4
+returns-4 c = c .unfair4 .ensures ∙ grown-large _ _ (c .before .before .before .before .before .if1 .left) (c .before .before .before .before .if2 .left) (c .before .before .before .if3 .left) (c .before .before .extended .ensures) (c .before .if4 .taken)
+
+cast-numbers : tie.Need-cast-numbers
+cast-numbers c = search needs
+
+mul-numbers : tie.Need-mul-numbers
+mul-numbers c = search needs
+
+array-write-numbers : tie.Need-array-write-numbers
+array-write-numbers c = search needs
+
+returns-5 : tie.Need-returns-5
+returns-5 c = grown-next _ _ (c .before .before .before .before .if1 .left) (c .before .before .before .if2 .left) (c .before .before .if3 .left) (c .before .extended .ensures) (c .if4 .left)
+
+pub grown-spec : {M : Type 1} → statement M
+grown-spec =
+    tie.close
+    (tie.spec
+    unfair-requires
+    returns
+    unfair-requires-2
+    returns-2
+    mul-number
+    array-read-number
+    unfair-requires-3
+    returns-3
+    extended-requires
+    unfair-requires-4
+    returns-4
+    cast-numbers
+    mul-numbers
+    array-write-numbers
+    returns-5)

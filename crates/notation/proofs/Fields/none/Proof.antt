@@ -1,0 +1,12 @@
+-- `none` meets its contract.
+use borrow.Author.Needs.{needs}
+use Rattle.notation.specs.Fields.{noField}
+use Rattle.notation.proofs.Fields.none.Statement.{statement}
+use Rattle.notation.proofs.Fields.none.Tie as tie
+
+returns : tie.Need-returns
+unfolding noField
+returns c = search needs
+
+pub none-spec : {M : Type 1} → statement M
+none-spec = tie.close (tie.spec returns)

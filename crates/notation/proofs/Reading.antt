@@ -1,0 +1,186 @@
+-- What a line says, case by case; and the turns of the two loops over its bytes.
+use mathlib.Core.Path.{_≡_, refl, sym, ap, _∙_}
+use Prim.Native.Nat.{ℕ, zero, suc, _+_, _-_, _≤_, _<_}
+use native.Mathlib.Nat.{add-assoc}
+use native.Mathlib.Omega.{arith}
+use native.Mathlib.Numerals.{add-one}
+use mathlib.Core.Bool.{Bool, true, false, _&&_, _||_, not, cond}
+use mathlib.Core.List.{List, [], _∷_}
+use lib.Dec.{ltb, eqb}
+use lib.ListN.{length, getD, drop, length-drop, drop-of-length-le}
+use lib.Seq.{drop-cons}
+use borrow.Author.Tests.{lt-ltb, le-ltb, ltb-true, ltb-false, eq-eqb, ne-eqb, not-true, not-false}
+use Rattle.lists.proofs.Booleans.{and-left, and-right}
+use Rattle.head.specs.declared.Answer.{Answer}
+use Rattle.head.specs.declared.Answer.the-variants.{Accepted, Refused}
+use Rattle.head.specs.declared.Refusal.the-variants.{UnknownKind, ShortOutput}
+use Rattle.head.specs.Refusals.{settled}
+use Rattle.head.proofs.Answers.{accepted-passed}
+use Rattle.frames.specs.Frames.{framed, frame, writeAnswer, writeReply}
+use Rattle.frames.specs.Writing.{Wrote}
+use Rattle.frames.specs.declared.Written.{Written}
+use Rattle.frames.specs.declared.Message.{Message}
+use Rattle.frames.specs.declared.Message.the-variants.{Quote, Look, Watch, Unwatch, Open}
+use Rattle.notation.specs.declared.Fields.{Fields}
+use Rattle.notation.specs.Fields.{noField, after, fieldsFrom}
+use Rattle.notation.specs.Lines.{nothing, opens, opening, quoteOf, fits, ofNumber, said, saidBy, lineLength}
+
+-- ---- messages
+
+module _ (f : Fields) where
+  -- the numbers of an opening fit its frame
+  pub opens-fit : opens f ≡ true → (getD (f .numbers) 0 0 < 256) × (getD (f .numbers) 1 0 < 65536) × (getD (f .numbers) 2 0 < 256)
+  unfolding opens
+  opens-fit t =
+      let three = eqb (f .count) 3 in
+      let one = ltb (getD (f .numbers) 0 0) 256 in
+      let two = ltb (getD (f .numbers) 1 0) 65536 in
+      let last = ltb (getD (f .numbers) 2 0) 256 in
+      let front = and-left ((three && one) && two) last t in (
+        ltb-true (getD (f .numbers) 0 0) 256 (and-right three one (and-left (three && one) two front)),
+        ltb-true (getD (f .numbers) 1 0) 65536 (and-right (three && one) two front),
+        ltb-true (getD (f .numbers) 2 0) 256 (and-right ((three && one) && two) last t),
+      )
+
+  pub opening-not : opens f ≡ false → nothing ≡ opening f
+  unfolding opening
+  opening-not t = rw t
+
+  pub opening-of : opens f ≡ true → Open (getD (f .numbers) 0 0) (getD (f .numbers) 1 0) (getD (f .numbers) 2 0) ≡ opening f
+  unfolding opening
+  opening-of t = rw t
+
+  pub quote-none : f .count < 1 → nothing ≡ quoteOf f
+  unfolding quoteOf
+  quote-none h = rw (lt-ltb (f .count) 1 h)
+
+  pub quote-many : 1 ≤ f .count → 6 < f .count → nothing ≡ quoteOf f
+  unfolding quoteOf
+  quote-many h k = rw (le-ltb (f .count) 1 h, lt-ltb 6 (f .count) k)
+
+  pub quote-of : 1 ≤ f .count → f .count ≤ 6 → Quote (f .count) ≡ quoteOf f
+  unfolding quoteOf
+  quote-of h k = rw (le-ltb (f .count) 1 h, le-ltb 6 (f .count) k)
+
+  pub fits-two : fits f ≡ true → getD (f .numbers) 0 0 < 65536
+  unfolding fits
+  fits-two t = ltb-true (getD (f .numbers) 0 0) 65536 (and-right (eqb (f .count) 1) (ltb (getD (f .numbers) 0 0) 65536) t)
+
+  module _ (letter : ℕ) where
+    pub said-unfair : not (f .fair) || f .empty ≡ true → nothing ≡ said letter f
+    unfolding said
+    said-unfair t = rw t
+
+    module _ (t : not (f .fair) || f .empty ≡ false) where
+      pub said-opening : letter ≡ 79 → opening f ≡ said letter f
+      unfolding said
+      said-opening e = rw (t, eq-eqb letter 79 e)
+
+      module _ (o : letter ≡ 79 → ⊥) where
+        pub said-quote : letter ≡ 81 → quoteOf f ≡ said letter f
+        unfolding said
+        said-quote e = rw (t, ne-eqb letter 79 o, eq-eqb letter 81 e)
+
+        module _ (q : letter ≡ 81 → ⊥) where
+          pub said-not : fits f ≡ false → nothing ≡ said letter f
+          unfolding said
+          said-not h = rw (t, ne-eqb letter 79 o, ne-eqb letter 81 q, h)
+
+          pub said-number : fits f ≡ true → ofNumber letter (getD (f .numbers) 0 0) ≡ said letter f
+          unfolding said
+          said-number h = rw (t, ne-eqb letter 79 o, ne-eqb letter 81 q, h)
+
+-- the letters of a number
+module _ (letter n : ℕ) where
+  pub of-look : letter ≡ 76 → Look n ≡ ofNumber letter n
+  unfolding ofNumber
+  of-look e = rw (eq-eqb letter 76 e)
+
+  pub of-watch : letter ≡ 87 → Watch n ≡ ofNumber letter n
+  unfolding ofNumber
+  of-watch e = rw e
+
+  pub of-end : letter ≡ 85 → Unwatch n ≡ ofNumber letter n
+  unfolding ofNumber
+  of-end e = rw e
+
+  pub of-other : (letter ≡ 76 → ⊥) → (letter ≡ 87 → ⊥) → (letter ≡ 85 → ⊥) → nothing ≡ ofNumber letter n
+  unfolding ofNumber
+  of-other l w u = rw (ne-eqb letter 76 l, ne-eqb letter 87 w, ne-eqb letter 85 u)
+
+-- ---- the bytes of a line
+
+module _ (line : List ℕ) where
+  -- one more byte is taken
+  pub fields-more : (f : Fields) {whole : Fields} {at : ℕ} → at < length line → whole ≡ fieldsFrom f (drop at line) → whole ≡ fieldsFrom (after f (getD line at 0)) (drop (at + 1) line)
+  unfolding fieldsFrom
+  fields-more f {at = at} h e = e ∙ ap (fieldsFrom f) (drop-cons line at 0 h) ∙ rw (add-one at)
+
+  -- all bytes are taken
+  pub fields-finish : (f : Fields) {whole : Fields} {at : ℕ} → length line ≤ at → whole ≡ fieldsFrom f (drop at line) → f ≡ whole
+  unfolding fieldsFrom
+  fields-finish f h e = sym (e ∙ ap (fieldsFrom f) (drop-of-length-le line h))
+
+  -- ---- the end of a line
+
+  -- one more byte is no newline
+  pub end-more : {end at : ℕ} → at < length line → not (eqb (getD line at 0) 10) ≡ true → end ≡ at + lineLength (drop at line) → end ≡ (at + 1) + lineLength (drop (at + 1) line)
+  unfolding lineLength
+  end-more {at = at} h n e =
+      let one : lineLength (drop at line) ≡ suc (lineLength (drop (suc at) line)) = ap lineLength (drop-cons line at 0 h) ∙ rw (not-true (eqb (getD line at 0) 10) n) in
+      rw (add-one at) (omega (arith, e, one))
+
+  -- a newline
+  pub end-newline : {end at : ℕ} → at < length line → not (eqb (getD line at 0) 10) ≡ false → end ≡ at + lineLength (drop at line) → at ≡ end
+  unfolding lineLength
+  end-newline {at = at} h n e =
+      let none : lineLength (drop at line) ≡ 0 = ap lineLength (drop-cons line at 0 h) ∙ rw (not-false (eqb (getD line at 0) 10) n) in
+      omega (arith, e, none)
+
+  -- the end of the text
+  pub end-last : {end at : ℕ} → length line ≤ at → end ≡ at + lineLength (drop at line) → at ≡ end
+  unfolding lineLength
+  end-last {at = at} h e =
+      let none : lineLength (drop at line) ≡ 0 = ap lineLength (drop-of-length-le line h) in
+      omega (arith, e, none)
+
+-- ---- a whole line
+
+-- an empty line
+pub read-none : (line : List ℕ) {f : Fields} → length line < 1 → f ≡ fieldsFrom noField (drop 1 line) → record { message = nothing; numbers = f .numbers } ≡ saidBy line
+unfolding saidBy fieldsFrom
+read-none [] h e = rw e
+read-none (letter ∷ bytes) h e = absurd (omega arith)
+
+-- a line with its letter
+pub read-some : (line : List ℕ) {f : Fields} {m : Message} → 1 ≤ length line → f ≡ fieldsFrom noField (drop 1 line) → m ≡ said (getD line 0 0) f
+    → record { message = m; numbers = f .numbers } ≡ saidBy line
+unfolding saidBy
+read-some [] h e s = absurd (omega arith)
+read-some (letter ∷ bytes) h e s = rw (s, e)
+
+-- ---- what callers need
+
+-- a line ends within the text
+line-inside : (text : List ℕ) → lineLength text ≤ length text
+unfolding lineLength
+line-inside [] = omega arith
+line-inside (byte ∷ bytes) = go (eqb byte 10) (line-inside bytes)
+  where
+    go : (b : Bool) → lineLength bytes ≤ length bytes → cond b 0 (suc (lineLength bytes)) ≤ suc (length bytes)
+    go true h = omega arith
+    go false h = omega arith
+
+pub end-inside : (text : List ℕ) (place : ℕ) → place ≤ length text → place + lineLength (drop place text) ≤ length text
+end-inside text place h = omega (arith, line-inside (drop place text), length-drop place text)
+
+-- the frame that was written fits the output
+pub wrote-fits : {m : Message} {numbers before after : List ℕ} {r : Written} → Wrote m numbers before r after → r .count ≤ length before
+unfolding writeReply writeAnswer settled
+wrote-fits {m} {numbers} {before} w = rw (w .reply) (go (writeAnswer m numbers (length before)) refl)
+  where
+    go : (a : Answer) → writeAnswer m numbers (length before) ≡ a → settled a (length (frame m numbers)) 0 ≤ length before
+    go Accepted e =
+        let more = accepted-passed (not (framed m)) UnknownKind ((ltb (length before) (length (frame m numbers)), ShortOutput) ∷ []) e in
+        ltb-false (length before) (length (frame m numbers)) (accepted-passed (ltb (length before) (length (frame m numbers))) ShortOutput [] (more .1) .0)
+    go (Refused k) e = omega arith

@@ -1,0 +1,52 @@
+-- `line_end` meets its contract: no newline stands in what was passed.
+use mathlib.Core.Path.{_≡_, refl}
+use Prim.Native.Nat.{_+_, _-_, _≤_}
+use native.Mathlib.Omega.{arith}
+use denote.Ref.{now}
+use lib.ListN.{length, drop}
+use borrow.Author.Needs.{needs}
+use Rattle.notation.proofs.Reading.{end-more, end-newline, end-last}
+use Rattle.notation.specs.Lines.{lineLength}
+use Rattle.notation.proofs.lines.line_end.Statement.{statement}
+use Rattle.notation.proofs.lines.line_end.Tie as tie
+
+abbrev Inv-loop : tie.InvT-loop
+Inv-loop text place at₀ at = place + lineLength (drop place text) ≡ at + lineLength (drop at text)
+
+abbrev μ-loop : tie.MeasureT-loop
+μ-loop text place at₀ at = length text - at
+
+loop-holds : tie.Need-loop-holds Inv-loop μ-loop
+loop-holds c = refl
+
+shared-slice-read-if1 : tie.Need-shared-slice-read-if1 Inv-loop μ-loop
+shared-slice-read-if1 c = search needs
+
+add-at : tie.Need-add-at Inv-loop μ-loop
+add-at c = search needs
+
+loop-less : tie.Need-loop-less Inv-loop μ-loop
+loop-less c = search needs
+
+loop-again : tie.Need-loop-again Inv-loop μ-loop
+loop-again c = end-more (now (c .before .before .before .before .args .text)) (c .before .before .loop-test .taken) (c .if1 .taken) (c .before .before .before .loop .inv)
+
+returns : tie.Need-returns Inv-loop μ-loop
+returns c = end-newline (now (c .before .before .before .before .args .text)) (c .before .before .loop-test .taken) (c .if1 .left) (c .before .before .before .loop .inv)
+
+returns-2 : tie.Need-returns-2 Inv-loop μ-loop
+returns-2 c = end-last _ (c .loop-test .left) (c .before .loop .inv)
+
+pub line-end-spec : {M : Type 1} → statement M
+line-end-spec =
+    tie.close
+    (tie.spec
+    Inv-loop
+    μ-loop
+    loop-holds
+    shared-slice-read-if1
+    add-at
+    loop-less
+    loop-again
+    returns
+    returns-2)

@@ -1,0 +1,119 @@
+// Reading a line as a message, and writing its frame.
+ghost use mathlib.Core.Path.{_≡_};
+ghost use Prim.Native.Nat.{_+_, _≤_};
+ghost use lib.ListN.{length, drop};
+ghost use Rattle.frames.specs.Writing.{Wrote};
+ghost use Rattle.notation.specs.Lines.{opens, opening, quoteOf, fits, said, saidBy, lineLength};
+use crate::Fields;
+use crate::Said;
+use crate::scanning::fields_from;
+use frames::Message;
+use frames::Written;
+use head::Refusal;
+
+// Whether the fields are three numbers that fit the frame of an opening.
+fn opens(fields: Fields) -> bool
+    ensures { λ r. ⌜ r ≡ opens fields ⌝ }
+{
+    let numbers = fields.numbers;
+    (fields.count == 3) & (numbers[0] < 256) & (numbers[1] < 65536) & (numbers[2] < 256)
+}
+
+// The opening of three numbers.
+fn opening(fields: Fields) -> Message
+    ensures { λ r. ⌜ r ≡ opening fields ⌝ }
+{
+    let numbers = fields.numbers;
+    if !opens(fields) {
+        return Message::Refused(Refusal::UnknownKind);
+    }
+    Message::Open(numbers[0] as u8, numbers[1] as u16, numbers[2] as u8)
+}
+
+// The quote of one to six numbers.
+fn quote(fields: Fields) -> Message
+    ensures { λ r. ⌜ r ≡ quoteOf fields ⌝ }
+{
+    let count = fields.count;
+    if count < 1 {
+        return Message::Refused(Refusal::UnknownKind);
+    }
+    if 6 < count {
+        return Message::Refused(Refusal::UnknownKind);
+    }
+    Message::Quote(count as u8)
+}
+
+// Whether the fields are a single number that fits two bytes.
+fn fits(fields: Fields) -> bool
+    ensures { λ r. ⌜ r ≡ fits fields ⌝ }
+{
+    let numbers = fields.numbers;
+    (fields.count == 1) & (numbers[0] < 65536)
+}
+
+// The message of a letter and its fields.
+fn message_of(letter: u8, fields: Fields) -> Message
+    ensures { λ r. ⌜ r ≡ said letter fields ⌝ }
+{
+    let numbers = fields.numbers;
+    if !fields.fair | fields.empty {
+        return Message::Refused(Refusal::UnknownKind);
+    }
+    if letter == 79 {
+        return opening(fields);
+    }
+    if letter == 81 {
+        return quote(fields);
+    }
+    if !fits(fields) {
+        return Message::Refused(Refusal::UnknownKind);
+    }
+    let n = numbers[0] as u16;
+    match letter {
+        76 => Message::Look(n),
+        87 => Message::Watch(n),
+        85 => Message::Unwatch(n),
+        _ => Message::Refused(Refusal::UnknownKind),
+    }
+}
+
+// Reads a line, without its newline.
+pub fn read_line(line: &[u8]) -> Said
+    ensures { λ r. ⌜ r ≡ saidBy (now (line .entry)) ⌝ }
+{
+    let fields = fields_from(line, 1);
+    let numbers = fields.numbers;
+    if line.len() < 1 {
+        return Said {
+            message: Message::Refused(Refusal::UnknownKind),
+            numbers,
+        };
+    }
+    Said {
+        message: message_of(line[0], fields),
+        numbers,
+    }
+}
+
+// The end of the line that begins at a place: where its newline stands, or the end of the text.
+pub fn line_end(text: &[u8], place: usize) -> usize
+    requires { ⌜ place ≤ length (now text) ⌝ }
+    ensures { λ r. ⌜ r ≡ place + lineLength (drop place (now (text .entry))) ⌝ }
+{
+    let mut at = place;
+    while at < text.len() && text[at] != 10 {
+        at += 1;
+    }
+    at
+}
+
+// Writes the frame of a line over the front of the output: 1 for a line that says no message, then 13.
+pub fn write_line(line: &[u8], out: &mut [u8]) -> Written
+    ensures { λ r. ⌜ Wrote (saidBy (now (line .entry)) .message) (saidBy (now (line .entry)) .numbers) (now (out .entry)) r (now (out .exit)) ⌝ }
+{
+    let said = read_line(line);
+    let message = said.message;
+    let numbers = said.numbers;
+    frames::write(message, numbers, out)
+}

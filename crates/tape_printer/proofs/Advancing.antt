@@ -1,0 +1,89 @@
+-- Where a step leaves the place: within the tape, and behind the frame that stood there, unless the tape is over.
+use mathlib.Core.Path.{_≡_, refl, sym, ap, _∙_}
+use Prim.Native.Nat.{ℕ, _+_, _-_, _≤_, _<_}
+use native.Mathlib.Omega.{arith}
+use mathlib.Core.Bool.{Bool, true, false, _&&_, _||_, not, cond, true≢false}
+use mathlib.Core.List.{List, []}
+use lib.Dec.{ltb}
+use lib.ListN.{length, getD, drop, length-append, length-drop}
+use Rattle.lists.specs.Lists.{laid}
+use Rattle.frames.specs.declared.Read.{Read}
+use Rattle.frames.specs.Frames.{messageAt, columnsAt, stays, readAt}
+use Rattle.frames.proofs.Reading.{Found, beyond, at-end, unknown, cut, whole, found}
+use Rattle.tape.specs.Print.{Asked, finished, unread, misplaced, request, asked}
+use Rattle.tape.specs.Play.{Played, playAsked, playAt, Player, begun, bookMake}
+use Rattle.head.specs.declared.Head.{Head}
+use Rattle.model.specs.Rows.{Tables}
+use Rattle.tape.specs.declared.Step.{Step}
+use Rattle.tape.specs.Steps.{textRoom, stepAt, stepReply, Stepped}
+use Rattle.tape_printer.specs.Stands.{left, Advanced}
+
+module _ (tape : List ℕ) (place : ℕ) (k : Player) (h : place ≤ length tape) where
+  -- what is asked for is played
+  asked-on : (a : Asked) (next : ℕ) → place < next → next ≤ length tape → let one = playAsked begun bookMake a next k in Advanced tape place (one .next) (one .over)
+  unfolding playAsked left
+  asked-on finished next m t = record { inside = t; less = omega arith }
+  asked-on (unread u) next m t = record { inside = t; less = omega arith }
+  asked-on misplaced next m t = record { inside = t; less = omega arith }
+  asked-on (request r) next m t = record { inside = t; less = omega arith }
+
+  -- what stands at the place is played
+  read-on : (r : Read) → Found tape place r → let one = playAsked begun bookMake (asked (begun k) (r .message) (r .columns)) (r .next) k in Advanced tape place (one .next) (one .over)
+  unfolding playAsked asked stays left
+  read-on _ (beyond t) = absurd (omega arith)
+  read-on _ (at-end t) = record { inside = h; less = omega arith }
+  read-on _ unknown = record { inside = h; less = omega arith }
+  read-on _ cut = record { inside = h; less = omega arith }
+  read-on _ (whole kind t) =
+      asked-on (asked (begun k) (messageAt tape (place + 1) (getD tape place 0)) (columnsAt tape (place + 1) (getD tape place 0))) _ (omega arith) t
+
+  -- a step
+  pub advanced : (room : ℕ) → Advanced tape place (stepReply tape place k room .next) (stepReply tape place k room .over)
+  unfolding stepReply stepAt playAt left
+  advanced room = go (ltb room (textRoom (length (k .bytes))))
+    where
+      go : (b : Bool) → let one = cond b (record { text = []; state = k; next = place; over = true }) (playAt begun bookMake tape place k) in Advanced tape place (one .next) (one .over)
+      go true = record { inside = h; less = omega arith }
+      go false = read-on (readAt tape place) (found tape place)
+
+-- ---- what a frame that was played leaves
+
+module _ {tape : List ℕ} {place : ℕ} {k : Player} {before : List ℕ} {r : Step} {t' : Tables} {bytes' after : List ℕ} (s : Stepped tape place k before r t' bytes' after) where
+  -- the place went on, whatever else ends the tape
+  pub stepped-on : (over : Bool) {from : ℕ} → place ≡ from → from ≤ length tape → Advanced tape from (r .next) (over || r .over)
+  unfolding left
+  stepped-on over e h = rw (← e) (go over)
+    where
+      one : Advanced tape place (r .next) (r .over)
+      one = rw (s .reply) (advanced tape place k (omega (arith, e)) (length before))
+
+      go : (b : Bool) → Advanced tape place (r .next) (b || r .over)
+      go true = record { inside = one .inside; less = omega arith }
+      go false = one
+
+  -- the lines fit the text
+  pub stepped-fits : length after ≡ length before → r .count ≤ length before
+  unfolding stepReply laid
+  stepped-fits e =
+      let l : List ℕ = stepAt tape place k (length before) .text in
+      let n : r .count ≡ length l = ap (λ (x : Step). x .count) (s .reply) in
+      omega (arith, n, ap length (s .text), e, length-append l (drop (length l) before), length-drop (length l) before)
+
+-- ---- the frames of a piece
+
+-- what holds from frame to frame: the lines fit the text, the place stands within the tape, and all that is lent keeps its length
+pub record Playing (tape : List ℕ) (end : ℕ) (columns₀ positions₀ lower-ends₀ bytes₀ text₀ columns positions lower-ends bytes text : List ℕ) (place ended used : ℕ) : Type 0 where
+  pub columns-long : length columns ≡ length columns₀
+  pub positions-long : length positions ≡ length positions₀
+  pub lower-ends-long : length lower-ends ≡ length lower-ends₀
+  pub bytes-long : length bytes ≡ length bytes₀
+  pub text-long : length text ≡ length text₀
+  pub inside : place ≤ length tape
+  pub same : ended ≡ end
+  pub fits : used ≤ length text
+
+-- a frame that is played leaves less
+pub less-left : (over ready : Bool) {tape : List ℕ} {place next : ℕ} {over' result : Bool} → Advanced tape place next over' → result ≡ not over && ready → result ≡ true → left tape next over' < left tape place over
+unfolding left
+less-left true ready a e t = absurd (true≢false (sym t ∙ e))
+less-left false ready a e t = a .less

@@ -1,0 +1,17 @@
+-- `plays` meets its contract.
+use mathlib.Core.Path.{_∙_}
+use borrow.Author.Needs.{needs}
+use Rattle.tape_printer.proofs.plays.Statement.{statement}
+use Rattle.tape_printer.proofs.plays.Tie as tie
+
+returns : tie.Need-returns
+returns c = search needs
+
+ready-requires : tie.Need-ready-requires
+ready-requires c κs = search needs
+
+returns-2 : tie.Need-returns-2
+returns-2 c = rw (c .before .if1 .left) (c .ready .ensures)
+
+pub plays-spec : {M : Type 1} → statement M
+plays-spec = tie.close (tie.spec returns ready-requires returns-2)
