@@ -4,13 +4,15 @@ use Prim.Native.Nat.{_≤_}
 use native.Mathlib.Omega.{arith}
 use lib.ListN.{length}
 use borrow.Author.Needs.{needs}
+use Rattle.rows.specs.Lent.{Cleared}
+use Rattle.rows.proofs.Clears.{cleared-zeros}
+use Rattle.calls.specs.Left.{tables}
+use Rattle.tape_printer.proofs.Advancing.{same-cleared}
 use Rattle.tape_printer.proofs.main.Statement.{statement}
 use Rattle.tape_printer.proofs.main.Tie as tie
 
 abbrev Inv-loop : tie.InvT-loop
-Inv-loop columns₀ positions₀ lower-ends₀ bytes₀ tape₀ text₀ stand₀ turns₀ columns positions lower-ends bytes tape text stand turns =
-    (stand .used ≤ length text) × (stand .place ≤ stand .end) × (stand .end ≤ length tape) × (length tape ≡ 65536) × (length columns ≡ 6144) ×
-    (length positions ≡ 1024) × (length lower-ends ≡ 1024) × (length bytes ≡ 57400) × (length text ≡ 273613)
+Inv-loop columns₀ positions₀ lower-ends₀ bytes₀ tape₀ text₀ stand₀ turns₀ columns positions lower-ends bytes tape text stand turns = (stand .used ≤ length text) × (stand .place ≤ stand .end) × (stand .end ≤ length tape) × (length tape ≡ 65536) × (length columns ≡ 6144) × (length positions ≡ 1024) × (length lower-ends ≡ 1024) × (length bytes ≡ 57400) × (length text ≡ 273613) × Cleared (stand .head) (stand .head .rows) (tables columns positions lower-ends)
 
 abbrev μ-loop : tie.MeasureT-loop
 μ-loop columns₀ positions₀ lower-ends₀ bytes₀ tape₀ text₀ stand₀ turns₀ columns positions lower-ends bytes tape text stand turns = turns
@@ -19,7 +21,7 @@ fresh-requires : tie.Need-fresh-requires Inv-loop μ-loop
 fresh-requires c κs = search needs
 
 loop-holds : tie.Need-loop-holds Inv-loop μ-loop
-loop-holds c = (omega arith, omega arith, omega arith, refl, refl, refl, refl, refl, refl)
+loop-holds c = (omega arith, omega arith, omega arith, refl, refl, refl, refl, refl, refl, same-cleared (c .fresh .ensures) (cleared-zeros _))
 
 sub-turns : tie.Need-sub-turns Inv-loop μ-loop
 sub-turns c = search needs
@@ -43,26 +45,13 @@ slice-aggregate-read-on-6 : tie.Need-slice-aggregate-read-on-6 Inv-loop μ-loop
 slice-aggregate-read-on-6 c = sym (c .before .before .before .before .before .before .before .before .before .loop .inv .8)
 
 read-on-requires : tie.Need-read-on-requires Inv-loop μ-loop
-read-on-requires c κs = let i = c .before .before .before .before .before .before .before .before .before .loop .inv in (i .0, i .1, i .2)
+read-on-requires c κs = let i = c .before .before .before .before .before .before .before .before .before .loop .inv in (i .0, i .1, i .2, i .9)
 
 loop-less : tie.Need-loop-less Inv-loop μ-loop
 loop-less c = search needs
 
 loop-again : tie.Need-loop-again Inv-loop μ-loop
-loop-again c =
-    let k = c .before .before .before .before .before .before .read-on .kept in
-    let e = c .before .before .before .before .before .before .read-on .ensures in
-    let i = c .before .before .before .before .before .before .before .before .before .before .before .before .before .before .before .before .loop .inv in (
-      omega (arith, e .0, k .1 .1 .1 .1 .1 .1 .0, i .8),
-      e .1,
-      omega (arith, e .2, k .1 .0, i .3),
-      k .1 .0 ∙ i .3,
-      k .1 .1 .0 ∙ i .4,
-      k .1 .1 .1 .0 ∙ i .5,
-      k .1 .1 .1 .1 .0 ∙ i .6,
-      k .1 .1 .1 .1 .1 .0 ∙ i .7,
-      k .1 .1 .1 .1 .1 .1 .0 ∙ i .8,
-    )
+loop-again c = let k = c .before .before .before .before .before .before .«read-on» .kept in let e = c .before .before .before .before .before .before .«read-on» .ensures in let i = c .before .before .before .before .before .before .before .before .before .before .before .before .before .before .before .before .loop .inv in (omega (arith, e .0, k .1 .1 .1 .1 .1 .1 .0, i .8), e .1, omega (arith, e .2, k .1 .0, i .3), k .1 .0 ∙ i .3, k .1 .1 .0 ∙ i .4, k .1 .1 .1 .0 ∙ i .5, k .1 .1 .1 .1 .0 ∙ i .6, k .1 .1 .1 .1 .1 .0 ∙ i .7, k .1 .1 .1 .1 .1 .1 .0 ∙ i .8, e .3)
 
 slice-aggregate-flush : tie.Need-slice-aggregate-flush Inv-loop μ-loop
 slice-aggregate-flush c = sym (c .before .before .loop .inv .8)

@@ -1,29 +1,31 @@
 -- `play_one` meets its contract: the lines fit the text, and the place goes on.
 use native.Mathlib.Omega.{arith}
 use borrow.Author.Needs.{needs}
-use Rattle.tape_printer.proofs.Advancing.{stepped-on, stepped-fits}
+use Rattle.tape.proofs.Clears.{step-cleared}
+use Rattle.tape_printer.proofs.Advancing.{stepped-on, stepped-fits, same-cleared}
 use Rattle.tape_printer.proofs.play_one.Statement.{statement}
 use Rattle.tape_printer.proofs.play_one.Tie as tie
 
 with-room-requires : tie.Need-with-room-requires
 with-room-requires c κs = search needs
 
-sub-play : tie.Need-sub-play
-sub-play c = search needs
+sub-play-cleared : tie.Need-sub-play-cleared
+sub-play-cleared c = search needs
 
-part-play-start : tie.Need-part-play-start
-part-play-start c = search needs
+part-play-cleared-start : tie.Need-part-play-cleared-start
+part-play-cleared-start c = search needs
 
-part-play-end : tie.Need-part-play-end
-part-play-end c = search needs
+part-play-cleared-end : tie.Need-part-play-cleared-end
+part-play-cleared-end c = search needs
 
-play-requires : tie.Need-play-requires
-play-requires c κs = search needs
+play-cleared-requires : tie.Need-play-cleared-requires
+play-cleared-requires c κs = same-cleared (c .before .before .before .before .before .before .before .«with-room» .ensures .3) (c .before .before .before .before .before .before .before .before .before .before .before .before .before .before .before .pre .2)
 
 add-t26 : tie.Need-add-t26
 add-t26 c =
-    let play = c .before .before .before .before .before .before .before .before .before .before .before .before .before .play in
-    omega (arith, stepped-fits (play .ensures) (play .kept .1 .1 .1 .1 .1 .1 .1 .1 .0), c .before .before .before .before .before .before .before .before .before .before .before .before .before .before .before .before .before .before .before .before .before .with-room .ensures .0, c .before .before .before .before .before .before .before .before .before .before .before .before .before .before .before .before .before .before .before .before .before .before .before .before .before .before .before .before .before .good .1 .1 .1 .1 .1 .1 .0 .0)
+    let made = c .before .before .before .before .before .before .before .before .before .before .before .before .before .play-cleared in
+    let room = c .before .before .before .before .before .before .before .before .before .before .before .before .before .before .before .before .before .before .before .before .before in
+    omega (arith, stepped-fits (made .ensures) (made .kept .1 .1 .1 .1 .1 .1 .1 .1 .1 .0), c .before .before .before .before .before .before .before .before .before .before .before .before .before .before .play-cleared-arg5 .given, room .«with-room» .ensures .0, room .before .before .before .before .before .before .before .before .good .1 .1 .1 .1 .1 .1 .0 .0)
 
 same-length : tie.Need-same-length
 same-length c = search needs
@@ -41,21 +43,26 @@ same-length-5 : tie.Need-same-length-5
 same-length-5 c = search needs
 
 returns : tie.Need-returns
-returns c = (
-  omega (arith, stepped-fits (c .before .before .before .before .before .before .before .before .before .before .before .before .before .before .before .play .ensures) (c .before .before .before .before .before .before .before .before .before .before .before .before .before .before .before .play .kept .1 .1 .1 .1 .1 .1 .1 .1 .0), c .before .before .before .before .before .before .before .before .before .before .before .before .before .before .before .before .before .before .before .before .before .before .before .with-room .ensures .0),
-  c .before .before .before .before .before .before .before .before .before .before .before .before .before .before .before .before .before .before .before .before .before .before .before .with-room .ensures .2,
-  stepped-on (c .before .before .before .before .before .before .before .before .before .before .before .before .before .before .before .play .ensures) (c .before .before .before .before .before .before .before .before .before .before .before .before .before .before .before .before .before .before .before .before .before .before .before .with-room .result .over) (c .before .before .before .before .before .before .before .before .before .before .before .before .before .before .before .before .before .before .before .before .before .before .before .with-room .ensures .1) (c .before .before .before .before .before .before .before .before .before .before .before .before .before .before .before .before .before .before .before .before .before .before .before .before .before .before .before .before .before .before .before .pre .1),
-)
+returns c =
+    let made = c .before .before .before .before .before .before .before .before .before .before .before .before .before .before .before .play-cleared in
+    let room = c .before .before .before .before .before .before .before .before .before .before .before .before .before .before .before .before .before .before .before .before .before .before .before in
+    let pre = room .before .before .before .before .before .before .before .before .pre in
+    let e = room .«with-room» .ensures in (
+      omega (arith, stepped-fits (made .ensures) (made .kept .1 .1 .1 .1 .1 .1 .1 .1 .1 .0), c .before .before .before .before .before .before .before .before .before .before .before .before .before .before .before .before .play-cleared-arg5 .given, e .0),
+      e .2,
+      stepped-on (made .ensures) (room .«with-room» .result .over) (e .1) (pre .1),
+      step-cleared _ _ _ _ _ _ (made .ensures) (same-cleared (e .3) (pre .2)),
+    )
 
 pub play-one-spec : {M : Type 1} → statement M
 play-one-spec =
     tie.close
     (tie.spec
     with-room-requires
-    sub-play
-    part-play-start
-    part-play-end
-    play-requires
+    sub-play-cleared
+    part-play-cleared-start
+    part-play-cleared-end
+    play-cleared-requires
     add-t26
     same-length
     same-length-2

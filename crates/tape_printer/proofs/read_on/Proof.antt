@@ -1,7 +1,9 @@
 -- `read_on` meets its contract: what was read stands within the tape.
+use mathlib.Core.Path.{_∙_}
 use native.Mathlib.Omega.{arith}
 use lib.ListN.{length-take}
 use borrow.Author.Needs.{needs}
+use Rattle.tape_printer.proofs.Advancing.{same-cleared}
 use Rattle.tape_printer.proofs.read_on.Statement.{statement}
 use Rattle.tape_printer.proofs.read_on.Tie as tie
 
@@ -12,7 +14,10 @@ same-length : tie.Need-same-length
 same-length c = search needs
 
 returns : tie.Need-returns
-returns c = search needs
+returns c =
+    let entry = c .before .before .before .before .before .before .before .before .before in
+    let e = c .before .flush .ensures in
+    (omega (arith, e .0), omega (arith, e .1, e .2, entry .pre .1), omega (arith, e .2, entry .pre .2), same-cleared (e .3) (entry .pre .3))
 
 refill-requires : tie.Need-refill-requires
 refill-requires c κs = search needs
@@ -24,7 +29,10 @@ slice-aggregate-play-one : tie.Need-slice-aggregate-play-one
 slice-aggregate-play-one c = simp length-take (omega arith)
 
 play-one-requires : tie.Need-play-one-requires
-play-one-requires c κs = search needs
+play-one-requires c κs =
+    let filled = c .before .before .before .before .before .before .before .before .before .refill .ensures in
+    let flushed = c .before .before .before .before .before .before .before .before .before .before .before .before .flush .ensures in
+    (omega (arith, filled .0, flushed .0), omega (arith, filled .1), same-cleared (filled .3 ∙ flushed .3) (c .before .before .before .before .before .before .before .before .before .before .before .before .before .before .before .before .before .before .before .before .pre .3))
 
 same-length-2 : tie.Need-same-length-2
 same-length-2 c = search needs
@@ -46,8 +54,8 @@ same-length-7 c = search needs
 
 returns-2 : tie.Need-returns-2
 returns-2 c =
-    let e = c .before .before .before .before .before .before .before .before .before .before .play-one .ensures in
-    (e .0, omega (arith, rw length-take at (e .2 .inside), e .1), omega (arith, e .1, c .before .before .before .before .before .before .before .before .before .before .before .before .before .before .before .before .before .before .before .before .refill .ensures .2))
+    let e = c .before .before .before .before .before .before .before .before .before .before .«play-one» .ensures in
+    (e .0, omega (arith, rw length-take at (e .2 .inside), e .1), omega (arith, e .1, c .before .before .before .before .before .before .before .before .before .before .before .before .before .before .before .before .before .before .before .before .refill .ensures .2), e .3)
 
 slice-reshare-prefix-play-piece : tie.Need-slice-reshare-prefix-play-piece
 slice-reshare-prefix-play-piece c = search needs
@@ -56,7 +64,10 @@ slice-aggregate-play-piece : tie.Need-slice-aggregate-play-piece
 slice-aggregate-play-piece c = simp length-take (omega arith)
 
 play-piece-requires : tie.Need-play-piece-requires
-play-piece-requires c κs = search needs
+play-piece-requires c κs =
+    let filled = c .before .before .before .before .before .before .before .before .before .refill .ensures in
+    let flushed = c .before .before .before .before .before .before .before .before .before .before .before .before .flush .ensures in
+    (omega (arith, filled .0, flushed .0), omega (arith, filled .1), same-cleared (filled .3 ∙ flushed .3) (c .before .before .before .before .before .before .before .before .before .before .before .before .before .before .before .before .before .before .before .before .pre .3))
 
 same-length-8 : tie.Need-same-length-8
 same-length-8 c = search needs
@@ -78,8 +89,8 @@ same-length-13 c = search needs
 
 returns-3 : tie.Need-returns-3
 returns-3 c =
-    let e = c .before .before .before .before .before .before .before .before .before .before .play-piece .ensures in
-    (e .0, omega (arith, rw length-take at (e .1), e .2), omega (arith, e .2, c .before .before .before .before .before .before .before .before .before .before .before .before .before .before .before .before .before .before .before .before .refill .ensures .2))
+    let e = c .before .before .before .before .before .before .before .before .before .before .«play-piece» .ensures in
+    (e .0, omega (arith, rw length-take at (e .1), e .2), omega (arith, e .2, c .before .before .before .before .before .before .before .before .before .before .before .before .before .before .before .before .before .before .before .before .refill .ensures .2), e .3)
 
 pub read-on-spec : {M : Type 1} → statement M
 read-on-spec =
