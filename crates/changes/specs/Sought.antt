@@ -1,4 +1,6 @@
 -- Places sought in the tables: the next that passes a test, and those of the rows that do not stay.
+use mathlib.Core.Path.{_≡_}
+use mathlib.Core.Logic.{_⊎_}
 use Prim.Native.Nat.{ℕ, zero, suc, _+_, _-_, _≤_, _<_}
 use mathlib.Core.Bool.{Bool, false, not, cond}
 use mathlib.Core.List.{List, map}
@@ -44,6 +46,10 @@ pub record Below (places : List ℕ) (count : ℕ) : Type 0 where
 -- the positions at the places below count rise
 pub record Rises (positions : List ℕ) (count : ℕ) : Type 0 where
   pub rise : (i j : ℕ) → i < j → j < count → getD positions i 0 < getD positions j 0
+
+-- each lower end at the places below count is 0 or names the position at one of them
+pub record Named (positions lowers : List ℕ) (count : ℕ) : Type 0 where
+  pub names : (i : ℕ) → i < count → (getD lowers i 0 ≡ 0) ⊎ ((j : ℕ) × (j < count) × (getD positions j 0 ≡ getD lowers i 0))
 
 -- a window that moves by one position or not at all, where what expires is not behind its start
 pub record Steps (w : Shift) : Type 0 where

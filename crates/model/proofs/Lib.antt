@@ -7,6 +7,7 @@ pub mod Opening
 pub mod Quoting
 pub mod Watching
 pub mod Replay
+pub mod Reached
 pub mod Kept
 pub mod Marked
 pub mod Worst

@@ -1,4 +1,5 @@
 -- A list of calls on one book, run by the book model and by the reference model.
+use mathlib.Core.Path.{_≡_}
 use Prim.Native.Nat.{ℕ}
 use mathlib.Core.Bool.{cond}
 use mathlib.Core.List.{List, [], _∷_}
@@ -6,6 +7,7 @@ use lib.ListN.{length}
 use Rattle.lists.specs.Lists.{laid, padded}
 use Rattle.head.specs.declared.Head.{Head}
 use Rattle.head.specs.declared.Reply.{Reply}
+use Rattle.head.specs.Heads.{freshHead}
 use Rattle.head.specs.Refusals.{settled}
 use Rattle.model.specs.Rows.{Tables, filled}
 use Rattle.model.specs.Reference.{Reference, Lengths, Fed, Told, rowsOf, opened, referenceStep}
@@ -116,3 +118,9 @@ module _ {S : Type 0} (step : Call → S → Seen × S) where
       let one = step c s in
       let rest = runs cs (one .1) in
       (one .0 ∷ rest .0, rest .1)
+
+-- a book that some list of calls leaves, from a head of zeros and anything lent
+pub record Reached (w : World) : Type 0 where
+  pub calls : List Call
+  pub lent : Lent
+  pub ends : runs bookStep calls (record { head = freshHead 0 0 0; lent = lent }) .1 ≡ w
