@@ -5,4 +5,5 @@ pub mod Watches
 pub mod Openings
 pub mod Quotes
 pub mod Clears
+pub mod Reaching
 pub mod Made

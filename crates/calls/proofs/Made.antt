@@ -11,16 +11,10 @@ use Rattle.model.specs.Rows.{Tables}
 use Rattle.model.specs.Reference.{unopened}
 use Rattle.model.specs.Calls.{Call, Open, Quote, Look, Watch, End, Lent, Seen, World, bookStep, expectedStep, runs}
 use Rattle.model.proofs.Replay.{replay}
-use Rattle.calls.specs.Left.{Opened, Quoted, Looked, Watched, Ended}
-
-abbrev lent : Tables → List ℕ → Lent
-lent t ws = record { tables = t; watches = ws }
+use Rattle.calls.specs.Left.{world, Opened, Quoted, Looked, Watched, Ended}
 
 abbrev seen : Reply → List ℕ → Tables → List ℕ → Seen
-seen r out t ws = record { reply = r; out = out; lent = lent t ws }
-
-abbrev world : Head → Tables → List ℕ → World
-world h t ws = record { head = h; lent = lent t ws }
+seen r out t ws = record { reply = r; out = out; lent = record { tables = t; watches = ws } }
 
 -- a call was made on a book, met its contract, and left this to be seen and this book: the next call gets the head that was handed
 -- back, unless by a refused opening

@@ -14,11 +14,16 @@ use Rattle.head.specs.Heads.{settingsHold, lastPosition}
 use Rattle.head.specs.Refusals.{first}
 use Rattle.model.specs.Rows.{Tables}
 use Rattle.model.specs.Book
+use Rattle.model.specs.Calls.{World}
 use Rattle.rows.specs.Lent.{Cleared}
 
 -- the three lent tables
 abbrev pub tables : List ℕ → List ℕ → List ℕ → Tables
 tables columns positions lowerEnds = record { columns = columns; positions = positions; lowerEnds = lowerEnds }
+
+-- a book: the head, the lent tables and the watches
+abbrev pub world : Head → Tables → List ℕ → World
+world h t ws = record { head = h; lent = record { tables = t; watches = ws } }
 
 -- the answer of a call that is lent the tables, before it reads them: 3, 11
 unfoldable pub loanAnswer : Head → Tables → Answer

@@ -10,6 +10,7 @@ pub use looking::look;
 pub use opening::open;
 pub use quoting::quote;
 pub use quoting::quote_cleared;
+pub use quoting::quote_reached;
 pub use watching::end;
 pub use watching::watch;
 

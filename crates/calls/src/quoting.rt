@@ -5,10 +5,11 @@ ghost use lib.Dec.{ltb};
 ghost use lib.ListN.{length};
 ghost use Rattle.head.specs.declared.Answer.the-variants.{Accepted};
 ghost use Rattle.head.specs.Heads.{lastPosition};
+ghost use Rattle.model.specs.Calls.{Reached};
 ghost use Rattle.rows.specs.Lent.{Cleared};
 ghost use Rattle.changes.specs.Flagged.{flagged};
 ghost use Rattle.changes.specs.Watches.{allFrames};
-ghost use Rattle.calls.specs.Left.{tables, rowAnswer, Quoted};
+ghost use Rattle.calls.specs.Left.{tables, world, rowAnswer, Quoted};
 use crate::judging::judge_watchful;
 use crate::judging::with_test;
 use changes::count_all_changes;
@@ -186,6 +187,31 @@ pub fn quote(
         head,
         quote,
         head.capacity,
+        columns,
+        positions,
+        lower_ends,
+        watches,
+        out,
+    )
+}
+
+// Takes a quote on a book that calls left: only the places of its rows are in use.
+pub fn quote_reached(
+    head: Head,
+    quote: &[u32],
+    columns: &mut [u32],
+    positions: &mut [u32],
+    lower_ends: &mut [u32],
+    watches: [u32; 8],
+    out: &mut [u8],
+) -> Reply
+    requires { ⌜ Reached (world head (tables (now columns) (now positions) (now «lower_ends»)) watches) ⌝ }
+    ensures { λ r. ⌜ Quoted head (now (quote .entry)) (tables (now (columns .entry)) (now (positions .entry)) (now («lower_ends» .entry))) watches (now (out .entry)) r (tables (now (columns .exit)) (now (positions .exit)) (now («lower_ends» .exit))) (now (out .exit)) ⌝ }
+{
+    quote_cleared(
+        head,
+        quote,
+        head.rows,
         columns,
         positions,
         lower_ends,
