@@ -5,11 +5,13 @@ ghost use lib.Dec.{ltb};
 ghost use lib.ListN.{length};
 ghost use Rattle.head.specs.declared.Answer.the-variants.{Accepted};
 ghost use Rattle.head.specs.Heads.{lastPosition};
+ghost use Rattle.head.specs.Refusals.{first, settled};
 ghost use Rattle.model.specs.Calls.{Reached};
 ghost use Rattle.rows.specs.Lent.{Cleared};
 ghost use Rattle.changes.specs.Flagged.{flagged};
 ghost use Rattle.changes.specs.Watches.{allFrames};
-ghost use Rattle.calls.specs.Left.{tables, world, rowAnswer, Quoted};
+ghost use Rattle.calls.specs.Left.{tables, world, quoteTests, rowAnswer, reachedAnswer, Quoted};
+use crate::judging::judge_settings;
 use crate::judging::judge_watchful;
 use crate::judging::with_test;
 use changes::count_all_changes;
@@ -21,6 +23,15 @@ use head::Reply;
 use rows::difference;
 use rows::mark;
 use rows::settle;
+
+// An answer with the tests of the quote itself behind it: 4, 6.
+fn with_quote(answer: Answer, head: Head, quote: &[u32]) -> Answer
+    ensures { λ r. ⌜ r ≡ settled answer (first (quoteTests head (now (quote .entry)))) answer ⌝ }
+{
+    let d = head.dimensions as usize;
+    let wide = with_test(answer, quote.len() != d, Refusal::ColumnCount);
+    with_test(wide, Head::MAX_POSITION <= head.newest, Refusal::TapeFull)
+}
 
 // The answer of a quote but for the output: 3, 11, 12, 4, 6.
 fn judge_row(
@@ -34,9 +45,14 @@ fn judge_row(
     ensures { λ r. ⌜ r ≡ rowAnswer head (now (quote .entry)) (tables (now (columns .entry)) (now (positions .entry)) (now («lower_ends» .entry))) watches ⌝ }
 {
     let judged = judge_watchful(head, columns, positions, lower_ends, watches);
-    let d = head.dimensions as usize;
-    let wide = with_test(judged, quote.len() != d, Refusal::ColumnCount);
-    with_test(wide, Head::MAX_POSITION <= head.newest, Refusal::TapeFull)
+    with_quote(judged, head, quote)
+}
+
+// The answer of a quote on a book that calls left, but for the output: 3, 4, 6.
+fn judge_reached(head: Head, quote: &[u32]) -> Answer
+    ensures { λ r. ⌜ r ≡ reachedAnswer head (now (quote .entry)) ⌝ }
+{
+    with_quote(judge_settings(head), head, quote)
 }
 
 // Whether the changes of a quote are longer than the room for them; where 57,400 bytes are lent, none are, and none is counted.
@@ -133,9 +149,9 @@ fn accept(
     }
 }
 
-// Takes a quote on tables of which only the places below used rows are in use: writes the changes of every watch, puts the quote's
-// row into the tables, and hands back the next head and how many bytes were written.
-pub fn quote_cleared(
+// Takes a quote that has this answer but for the output: where it is refused everything lent stays as it was.
+fn take(
+    answer: Answer,
     head: Head,
     quote: &[u32],
     used: u32,
@@ -145,10 +161,10 @@ pub fn quote_cleared(
     watches: [u32; 8],
     out: &mut [u8],
 ) -> Reply
+    requires { ⌜ answer ≡ rowAnswer head (now quote) (tables (now columns) (now positions) (now «lower_ends»)) watches ⌝ }
     requires { ⌜ Cleared head used (tables (now columns) (now positions) (now «lower_ends»)) ⌝ }
     ensures { λ r. ⌜ Quoted head (now (quote .entry)) (tables (now (columns .entry)) (now (positions .entry)) (now («lower_ends» .entry))) watches (now (out .entry)) r (tables (now (columns .exit)) (now (positions .exit)) (now («lower_ends» .exit))) (now (out .exit)) ⌝ }
 {
-    let answer = judge_row(head, quote, columns, positions, lower_ends, watches);
     match answer {
         Answer::Accepted => {}
         Answer::Refused(_) => {
@@ -171,7 +187,36 @@ pub fn quote_cleared(
     )
 }
 
-// Takes a quote on any tables: every place may be in use.
+// Takes a quote on tables of which only the places below used rows are in use: writes the changes of every watch, puts the quote's
+// row into the tables, and hands back the next head and how many bytes were written.
+pub fn quote_cleared(
+    head: Head,
+    quote: &[u32],
+    used: u32,
+    columns: &mut [u32],
+    positions: &mut [u32],
+    lower_ends: &mut [u32],
+    watches: [u32; 8],
+    out: &mut [u8],
+) -> Reply
+    requires { ⌜ Cleared head used (tables (now columns) (now positions) (now «lower_ends»)) ⌝ }
+    ensures { λ r. ⌜ Quoted head (now (quote .entry)) (tables (now (columns .entry)) (now (positions .entry)) (now («lower_ends» .entry))) watches (now (out .entry)) r (tables (now (columns .exit)) (now (positions .exit)) (now («lower_ends» .exit))) (now (out .exit)) ⌝ }
+{
+    let answer = judge_row(head, quote, columns, positions, lower_ends, watches);
+    take(
+        answer,
+        head,
+        quote,
+        used,
+        columns,
+        positions,
+        lower_ends,
+        watches,
+        out,
+    )
+}
+
+// Takes a quote on any tables: they are judged, and every place may be in use.
 pub fn quote(
     head: Head,
     quote: &[u32],
@@ -183,7 +228,9 @@ pub fn quote(
 ) -> Reply
     ensures { λ r. ⌜ Quoted head (now (quote .entry)) (tables (now (columns .entry)) (now (positions .entry)) (now («lower_ends» .entry))) watches (now (out .entry)) r (tables (now (columns .exit)) (now (positions .exit)) (now («lower_ends» .exit))) (now (out .exit)) ⌝ }
 {
-    quote_cleared(
+    let answer = judge_row(head, quote, columns, positions, lower_ends, watches);
+    take(
+        answer,
         head,
         quote,
         head.capacity,
@@ -195,7 +242,7 @@ pub fn quote(
     )
 }
 
-// Takes a quote on a book that calls left: only the places of its rows are in use.
+// Takes a quote on a book that calls left: neither tables nor watches are judged, and only the places of the rows are in use.
 pub fn quote_reached(
     head: Head,
     quote: &[u32],
@@ -208,7 +255,9 @@ pub fn quote_reached(
     requires { ⌜ Reached (world head (tables (now columns) (now positions) (now «lower_ends»)) watches) ⌝ }
     ensures { λ r. ⌜ Quoted head (now (quote .entry)) (tables (now (columns .entry)) (now (positions .entry)) (now («lower_ends» .entry))) watches (now (out .entry)) r (tables (now (columns .exit)) (now (positions .exit)) (now («lower_ends» .exit))) (now (out .exit)) ⌝ }
 {
-    quote_cleared(
+    let answer = judge_reached(head, quote);
+    take(
+        answer,
         head,
         quote,
         head.rows,

@@ -1,11 +1,14 @@
--- `quote_reached` meets its contract: a book that calls left has only its rows' places in use.
+-- `quote_reached` meets its contract: a book that calls left is answered by the settings and the quote, and only its rows' places are in use.
 use borrow.Author.Needs.{needs}
-use Rattle.calls.proofs.Reaching.{reached-cleared}
+use Rattle.calls.proofs.Reaching.{reached-answers, reached-cleared}
 use Rattle.calls.proofs.quoting.quote_reached.Statement.{statement}
 use Rattle.calls.proofs.quoting.quote_reached.Tie as tie
 
-quote-cleared-requires : tie.Need-quote-cleared-requires
-quote-cleared-requires c κs = reached-cleared (c .before .before .before .before .before .before .before .before .before .pre)
+judge-reached-requires : tie.Need-judge-reached-requires
+judge-reached-requires c κs = search needs
+
+take-requires : tie.Need-take-requires
+take-requires c κs = let entry = c .before .before .before .before .before .before .before .before .before .before in (reached-answers _ (entry .pre) (c .before .before .before .before .judge-reached .ensures), reached-cleared (entry .pre))
 
 same-length : tie.Need-same-length
 same-length c = search needs
@@ -25,4 +28,11 @@ returns c = search needs
 pub quote-reached-spec : {M : Type 1} → statement M
 quote-reached-spec =
     tie.close
-    (tie.spec quote-cleared-requires same-length same-length-2 same-length-3 same-length-4 returns)
+    (tie.spec
+    judge-reached-requires
+    take-requires
+    same-length
+    same-length-2
+    same-length-3
+    same-length-4
+    returns)
