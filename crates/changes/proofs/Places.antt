@@ -1,4 +1,4 @@
--- Laws of the next place that passes a test: of cells and flags tested by blocks, of a table halved, and of the rows removed, listed.
+-- Laws of the next place that passes a test: of cells and flags tested by blocks, and of the rows removed, listed.
 use mathlib.Core.Path.{_≡_, refl, sym, ap, _∙_}
 use mathlib.Core.Logic.{_⊎_, inl, inr}
 use Prim.Native.Nat.{ℕ, zero, suc, _+_, _-_, _≤_, _<_}
@@ -8,14 +8,14 @@ use native.Mathlib.Decide.{decLt}
 use native.Mathlib.Omega.{arith}
 use mathlib.Core.Bool.{Bool, true, false, _||_, not, cond}
 use mathlib.Core.List.{List, [], _∷_, _++_}
-use lib.Dec.{leb, eqb}
+use lib.Dec.{eqb}
 use lib.ListN.{length, getD, set, take, length-append, length-set}
 use lib.Seq.{take-suc-set}
-use borrow.Author.Tests.{lt-leb, le-leb, eq-eqb, ne-eqb, not-true}
+use borrow.Author.Tests.{eq-eqb, ne-eqb, not-true}
 use Rattle.lists.specs.Lists.{keep, filter, any, run}
 use Rattle.lists.proofs.Filters.{any-append, filter-append, length-filter}
 use Rattle.lists.proofs.Runs.{length-run, run-snoc, none-any, filter-upto, order}
-use Rattle.changes.specs.Sought.{nextOf, nextPlace, nextEqual, firstFrom, nextRemoved, removedPlaces, Rises}
+use Rattle.changes.specs.Sought.{nextOf, nextPlace, nextEqual, nextRemoved, removedPlaces}
 
 -- i of the 16 places from `from` on are tested
 pub record Tested (test : ℕ → Bool) (from : ℕ) (found : Bool) (i : ℕ) : Type 0 where
@@ -96,7 +96,7 @@ module _ (test : ℕ → Bool) where
     next-gap i q u v w = gap count i (count - i) q u (omega arith) w
 
     -- it passes, if it is below count
-    next-found : (i : ℕ) → i ≤ count → nextPlace test count i < count → test (nextPlace test count i) ≡ true
+    pub next-found : (i : ℕ) → i ≤ count → nextPlace test count i < count → test (nextPlace test count i) ≡ true
     unfolding nextPlace
     next-found i h l = found count i (count - i) (omega arith) l
 
@@ -157,40 +157,6 @@ module _ (cells : List ℕ) (x count i : ℕ) where
   pub equal-skip : {found : Bool} → found ≡ any (λ k. eqb (getD cells k 0) x) (run i 16) → found ≡ false → nextEqual cells x count (i + 16) ≡ nextEqual cells x count i
   unfolding nextEqual
   equal-skip e f = sym (next-skip (λ k. eqb (getD cells k 0) x) count i 16 (none-any (λ k. eqb (getD cells k 0) x) i 16 (sym e ∙ f)))
-
--- below low the positions are below start, and from high on they are not
-pub record Halved (positions : List ℕ) (start count low high : ℕ) : Type 0 where
-  pub ordered : low ≤ high
-  pub within : high ≤ count
-  pub below : (q : ℕ) → q < low → getD positions q 0 < start
-  pub above : (q : ℕ) → high ≤ q → q < count → start ≤ getD positions q 0
-
-pub halved-start : (positions : List ℕ) (start count : ℕ) → Halved positions start count 0 count
-halved-start positions start count = record { ordered = omega arith; within = omega arith; below = λ q h. absurd (omega arith); above = λ q u v. absurd (omega arith) }
-
-module _ {positions : List ℕ} {start count low high middle : ℕ} (v : Halved positions start count low high) (r : Rises positions count) (l : low ≤ middle) (h : middle < high) where
-  pub halved-low : getD positions middle 0 < start → Halved positions start count (middle + 1) high
-  halved-low b = record { ordered = omega arith; within = v .within; below = λ q u. at q u (order q middle); above = v .above }
-    where
-      at : (q : ℕ) → q < middle + 1 → (q < middle) ⊎ ((q ≡ middle) ⊎ (middle < q)) → getD positions q 0 < start
-      at q u (inl o) = omega (arith, r .rise q middle o (omega (arith, v .within)))
-      at q u (inr (inl o)) = rw o b
-      at q u (inr (inr o)) = absurd (omega arith)
-
-  pub halved-high : start ≤ getD positions middle 0 → Halved positions start count low middle
-  halved-high b = record { ordered = l; within = omega (arith, v .within); below = v .below; above = λ q u w. at q u w (order q middle) }
-    where
-      at : (q : ℕ) → middle ≤ q → q < count → (q < middle) ⊎ ((q ≡ middle) ⊎ (middle < q)) → start ≤ getD positions q 0
-      at q u w (inl o) = absurd (omega arith)
-      at q u w (inr (inl o)) = rw o b
-      at q u w (inr (inr o)) = omega (arith, r .rise middle q o w)
-
-pub halved-all : {positions : List ℕ} {start count low high : ℕ} → Halved positions start count low high → high ≤ low → low ≡ firstFrom positions start count
-unfolding firstFrom
-halved-all {positions} {start} {count} {low} {high} v h =
-    sym
-    (next-is (λ k. leb start (getD positions k 0)) count low (omega (arith, v .ordered, v .within)) (λ q u. lt-leb start (getD positions q 0) (v .below q u))
-    (λ u. le-leb start (getD positions low 0) (v .above low h u)))
 
 -- one more place, listed if its row does not stay
 removed-more : (kept : List Bool) (i : ℕ) → removedPlaces kept (i + 1) ≡ removedPlaces kept i ++ keep (not (getD kept i false)) i []

@@ -1,11 +1,11 @@
 // Places sought in the tables: the next cell of a value and the next row that does not stay, by blocks of 16; a window's first row, by
-// halving.
+// halving and counting.
 ghost use mathlib.Core.Path.{_≡_};
 ghost use Prim.Native.Nat.{_+_, _≤_};
 ghost use mathlib.Core.Bool.{false, not};
-ghost use lib.Dec.{eqb};
+ghost use lib.Dec.{ltb, eqb};
 ghost use lib.ListN.{length, getD, take};
-ghost use Rattle.lists.specs.Lists.{any, run};
+ghost use Rattle.lists.specs.Lists.{filter, any, run};
 ghost use Rattle.changes.specs.Sought.{nextEqual, firstFrom, nextRemoved, removedPlaces, Rises};
 
 // Whether one of the 16 cells from a place on is x.
@@ -55,23 +55,39 @@ pub fn next_equal(cells: &[u32], from: usize, count: usize, x: u32) -> usize
     count
 }
 
-// The first place below count whose position is at least start, or count where none is; positions that rise are halved.
+// How many of the size positions from a place on are below start.
+fn count_below(positions: &[u32], from: usize, size: usize, start: u32) -> u32
+    requires { ⌜ from + size ≤ length (now positions) ⌝ }
+    requires { ⌜ size ≤ 32 ⌝ }
+    ensures { λ r. ⌜ r ≡ length (filter (λ i. ltb (getD (now (positions .entry)) (from + i) 0) start) (run 0 size)) ⌝ }
+{
+    let mut n: u32 = 0;
+    let mut i = 0;
+    while i < size {
+        n += (positions[from + i] < start) as u32;
+        i += 1;
+    }
+    n
+}
+
+// The first place below count whose position is at least start, or count where none is; positions that rise are halved down to 32, and
+// of these the ones below start are counted.
 pub fn first_from(positions: &[u32], count: usize, start: u32) -> usize
     requires { ⌜ count ≤ length (now positions) ⌝ }
     requires { ⌜ Rises (now positions) count ⌝ }
     ensures { λ r. ⌜ r ≡ firstFrom (now (positions .entry)) start count ⌝ }
 {
     let mut low: usize = 0;
-    let mut high = count;
-    while low < high {
-        let middle = low + (high - low) / 2;
-        if positions[middle] < start {
-            low = middle + 1;
-        } else {
-            high = middle;
+    let mut size = count;
+    while 32 < size {
+        let half = size / 2;
+        let middle = low + half;
+        size -= half;
+        if positions[middle - 1] < start {
+            low = middle;
         }
     }
-    low
+    low + count_below(positions, low, size, start) as usize
 }
 
 // Whether one of the 16 rows from a place on does not stay.
