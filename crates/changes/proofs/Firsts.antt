@@ -12,8 +12,8 @@ use lib.ListN.{length, getD}
 use borrow.Author.Tests.{leb-true, leb-false, lt-ltb, le-ltb}
 use Rattle.lists.specs.Lists.{filter, run}
 use Rattle.lists.proofs.Runs.{filter-upto, order}
+use Rattle.cells.proofs.Places.{next-within, next-gap, next-found}
 use Rattle.changes.specs.Sought.{firstFrom, Rises}
-use Rattle.changes.proofs.Places.{next-within, next-gap, next-found}
 
 -- of a run all of whose numbers pass, all are counted
 all-passed : (test : ℕ → Bool) (a k : ℕ) → ((q : ℕ) → a ≤ q → q < a + k → test q ≡ true) → length (filter test (run a k)) ≡ k

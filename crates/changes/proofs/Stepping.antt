@@ -15,12 +15,13 @@ use Rattle.lists.proofs.Filters.{filter-filter}
 use Rattle.lists.proofs.Runs.{filter-upto}
 use Rattle.skyline.specs.Skyline.{stabbed}
 use Rattle.model.specs.Rows.{renamed}
+use Rattle.cells.specs.Removed.{removedPlaces}
+use Rattle.cells.proofs.Places.{next-gap, next-is}
 use Rattle.changes.specs.declared.Shift.{Shift}
 use Rattle.changes.specs.Picked.{picked}
 use Rattle.changes.specs.Flagged.{Flagged, wasListed, nowListed, moves, moving, fallsOut, fallen}
-use Rattle.changes.specs.Sought.{nextEqual, firstFrom, removedPlaces, listedOf, Rises, Steps}
+use Rattle.changes.specs.Sought.{nextEqual, firstFrom, listedOf, Rises, Steps}
 use Rattle.changes.proofs.Picking.{picked-none, picked-more}
-use Rattle.changes.proofs.Places.{next-gap, next-is}
 use Rattle.changes.proofs.Firsts.{before-first}
 
 -- places that do not pass pick nothing

@@ -1,5 +1,4 @@
 -- `first_from` meets its contract: what is sought lies among the size places from low on, or behind them.
-use Prim.Native.Nat.{_-_}
 use native.Mathlib.Omega.{arith}
 use denote.Ref.{now}
 use Rattle.changes.proofs.Firsts.{first-within, Halved, halved-start, halved-low, halved-high, halved-all}
