@@ -30,7 +30,9 @@ use Rattle.model.specs.Rows.{Row, Tables, rowAt, rowsIn, filled, expiring, rema
 use Rattle.model.specs.Book.{tornWatches, bookRows, watchfulAnswer, quoteRows, quoteHead, quoteBytes, quoteAnswer, quoteReply, quoteTables, quoteOut}
 use Rattle.model.proofs.ChangesFit.{changes-fit}
 use Rattle.cells.specs.Selected.{selected}
+use Rattle.cells.specs.Removed.{removedPlaces}
 use Rattle.cells.proofs.Selecting.{selected-filter}
+use Rattle.cells.proofs.Removals.{removed-few}
 use Rattle.rows.specs.Lent.{rowsLeft, rowsNext, Ready}
 use Rattle.rows.proofs.Reading.{length-rows}
 use Rattle.changes.specs.Flagged.{flagged}
@@ -188,6 +190,18 @@ module _ {h : Head} {x : List ℕ} {t : Tables} {ws : List ℕ} {kept : List Boo
       let stand = rows-stand h t p in
       (v .admitted .below, (v .fits, (stand .0, (stand .1, rw bytes-are (changes-fit h x t ws (p .held) (p .untorn) .bytes-most)))))
 
+  -- the rows are few
+  few-rows : h .rows ≤ 1024
+  few-rows = omega (arith, v .admitted .passed .whole, v .admitted .passed .settings)
+
+  -- what is asked before the rows that do not stay are listed on 1,024 places
+  pub list-asks : (h .rows ≤ length kept) × ((h .rows ≤ 1024) × (h .rows ≤ 1024))
+  list-asks = (v .fits, (few-rows, few-rows))
+
+  -- they are no more than the places
+  pub listed-few : {n : ℕ} → n ≡ length (removedPlaces kept (h .rows)) → n ≤ 1024
+  listed-few e = omega (arith, removed-few kept (h .rows), few-rows)
+
   -- what is asked before the tables are settled
   pub ready : Ready h x lower kept t
   unfolding expiring
@@ -223,12 +237,13 @@ module _ {h : Head} {x : List ℕ} {t : Tables} {ws : List ℕ} {kept : List Boo
 
     module _ (f : over ≡ false) where
       -- what is asked before the changes are written
-      pub write-asks : (h .capacity < 65536) × ((tornWatches (h .capacity) ws ≡ false)
+      pub write-asks : {removed : List ℕ} → removed ≡ removedPlaces kept (h .rows)
+          → (h .capacity < 65536) × ((tornWatches (h .capacity) ws ≡ false)
           × ((h .newest < lastPosition)
-          × ((h .rows ≤ length kept) × ((h .rows ≤ length (t .positions)) × ((h .rows ≤ length (t .lowerEnds)) × ((h .rows ≤ 1024)
+          × ((h .rows ≤ length kept) × ((h .rows ≤ length (t .positions)) × ((h .rows ≤ length (t .lowerEnds)) × ((removed ≡ removedPlaces kept (h .rows))
           × (Rises (t .positions) (h .rows) × ((gone ≤ windowStart (h .newest) (h .capacity)) × (length bytes ≤ length out)))))))))
       unfolding expiring windowStart
-      write-asks =
+      write-asks r =
           let p = v .admitted .passed in
           let asks = count-asks in
           let gone-is = v .found .expired in (
@@ -244,7 +259,7 @@ module _ {h : Head} {x : List ℕ} {t : Tables} {ws : List ℕ} {kept : List Boo
                     (
                       asks .1 .1 .1 .0,
                       (
-                        omega (arith, p .whole, p .settings),
+                        r,
                         (untorn-rows h t (p .untorn) .rises, (omega arith, ltb-false (length out) (length bytes) (sym o ∙ f))),
                       ),
                     ),

@@ -14,6 +14,7 @@ ghost use Rattle.calls.specs.Left.{tables, world, quoteTests, rowAnswer,
 use crate::judging::judge_settings;
 use crate::judging::judge_watchful;
 use crate::judging::with_test;
+use cells::list_removed;
 use changes::count_all_changes;
 use changes::write_all_changes;
 use head::Answer;
@@ -122,10 +123,13 @@ fn accept(
             count: 0,
         };
     }
+    let mut places = [0u16; 1024];
+    let length = list_removed(&keep, head.rows as usize, &mut places);
     let count = write_all_changes(
         watches,
         head,
         &keep,
+        &places[..length],
         positions,
         lower_ends,
         gone,

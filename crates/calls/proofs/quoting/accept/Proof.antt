@@ -1,9 +1,11 @@
 -- `accept` meets its contract: what is marked tells the changes and the rows that stay; nothing is written before the room is known.
+use mathlib.Core.Path.{sym, ap, _∙_}
 use native.Mathlib.Omega.{arith}
+use lib.ListN.{length}
 use denote.Ref.{now}
 use borrow.Author.Needs.{needs}
 use Rattle.calls.specs.Left.{tables}
-use Rattle.calls.proofs.Quotes.{Marked, admitted, mark-asks, marked, count-asks, write-asks, ready, quote-full, quote-done}
+use Rattle.calls.proofs.Quotes.{Marked, admitted, mark-asks, marked, count-asks, list-asks, listed-few, write-asks, ready, quote-full, quote-done}
 use Rattle.calls.proofs.quoting.accept.Statement.{statement}
 use Rattle.calls.proofs.quoting.accept.Tie as tie
 
@@ -52,22 +54,47 @@ same-length-3 c = search needs
 returns : tie.Need-returns
 returns c = quote-full (known (c .before .before .before .before .before .before)) _ (c .before .overflows .ensures) (c .if1 .taken)
 
+slice-aggregate-list-removed : tie.Need-slice-aggregate-list-removed
+slice-aggregate-list-removed c = search needs
+
+cast-list-removed : tie.Need-cast-list-removed
+cast-list-removed c = search needs
+
+slice-aggregate-list-removed-2 : tie.Need-slice-aggregate-list-removed-2
+slice-aggregate-list-removed-2 c = search needs
+
+list-removed-requires : tie.Need-list-removed-requires
+list-removed-requires c κs = list-asks (known (c .before .before .before .before .before .before .before .before .before))
+
+-- what is known once the rows that do not stay are listed: what stood where the room was tested, and where they were marked
+abbrev tested : tie.After-list-removed → tie.Else1
+tested c = c .before .before .before .before
+
+abbrev marks : tie.After-list-removed → tie.After-mark
+marks c = tested c .before .before .before .before .before .before
+
+abbrev entry : tie.After-list-removed → tie.Start
+entry c = marks c .before .before .before .before .before .before .before .before .before .before .before .before .before
+
 slice-aggregate-write-all-changes : tie.Need-slice-aggregate-write-all-changes
 slice-aggregate-write-all-changes c = search needs
 
+array-share-prefix-places : tie.Need-array-share-prefix-places
+array-share-prefix-places c = omega (arith, listed-few (known (marks (c .before .before))) (c .before .before .list-removed .ensures .0))
+
+slice-aggregate-write-all-changes-2 : tie.Need-slice-aggregate-write-all-changes-2
+slice-aggregate-write-all-changes-2 c = let r = c .before .before .before .list-removed .ensures in r .0 ∙ sym (ap length (r .1))
+
 write-all-changes-requires : tie.Need-write-all-changes-requires
 write-all-changes-requires c κs =
-    let tested = c .before .before .before .before in
-    let marks = tested .before .before .before .before .before .before in
-    write-asks (known marks) (now (marks .before .before .before .before .before .before .before .before .before .before .before .before .before .args .out)) (tested .before .overflows .ensures) (tested .if1 .left)
+    let listed = c .before .before .before .before .before .before in
+    write-asks (known (marks listed)) (now (entry listed .args .out)) (tested listed .before .overflows .ensures) (tested listed .if1 .left) (listed .list-removed .ensures .1)
 
 slice-aggregate-settle : tie.Need-slice-aggregate-settle
 slice-aggregate-settle c = search needs
 
 settle-requires : tie.Need-settle-requires
-settle-requires c κs =
-    let marks = c .before .before .before .before .before .before .before .before .before .before .before .before .before .before .before .before .before in
-    (ready (known marks), marks .before .before .before .before .before .before .before .before .before .before .before .before .before .pre .1)
+settle-requires c κs = let listed = c .before .before .before .before .before .before .before .before .before .before .before .before .before in (ready (known (marks listed)), entry listed .pre .1)
 
 after-quote-requires : tie.Need-after-quote-requires
 after-quote-requires c κs = search needs
@@ -88,8 +115,8 @@ returns-2 : tie.Need-returns-2
 returns-2 c =
     let settled = c .before .before .before .before .before .before .before in
     let wrote = settled .before .before .before .before .before .before .before in
-    let tested = wrote .before .before .before .before .before in
-    quote-done (known (tested .before .before .before .before .before .before)) _ (tested .before .overflows .ensures) (tested .if1 .left) (wrote .write-all-changes .ensures .0) (wrote .write-all-changes .ensures .1)
+    let listed = wrote .before .before .before .before .before .before .before in
+    quote-done (known (marks listed)) _ (tested listed .before .overflows .ensures) (tested listed .if1 .left) (wrote .write-all-changes .ensures .0) (wrote .write-all-changes .ensures .1)
     (settled .settle .ensures .0) (settled .settle .ensures .1) (c .after-quote .ensures)
 
 pub accept-spec : {M : Type 1} → statement M
@@ -108,7 +135,13 @@ accept-spec =
     same-length-2
     same-length-3
     returns
+    slice-aggregate-list-removed
+    cast-list-removed
+    slice-aggregate-list-removed-2
+    list-removed-requires
     slice-aggregate-write-all-changes
+    array-share-prefix-places
+    slice-aggregate-write-all-changes-2
     write-all-changes-requires
     slice-aggregate-settle
     settle-requires
