@@ -1,19 +1,26 @@
--- What is known of a book that calls left: what a quote on it answers, and that only the places of its rows are in use.
-use mathlib.Core.Path.{_≡_, refl, sym, subst, _∙_}
-use Prim.Native.Nat.{ℕ}
+-- What is known of a book that calls left: what a quote on it answers, that only the places of its rows are in use, and that each
+-- lower end names a row.
+use mathlib.Core.Path.{_≡_, refl, sym, ap, subst, _∙_}
+use mathlib.Core.Logic.{_⊎_, inl, inr}
+use Prim.Native.Nat.{ℕ, _<_}
 use native.Mathlib.Omega.{arith}
-use mathlib.Core.List.{List}
+use mathlib.Core.List.{List, map, List·Memᴰ}
+use Rattle.lists.specs.Lists.{run}
+use Rattle.lists.proofs.Members.{into-map, of-map}
+use Rattle.lists.proofs.Runs.{into-run, of-run}
 use Rattle.head.specs.declared.Answer.{Answer}
 use Rattle.head.specs.declared.Head.{Head}
-use Rattle.model.specs.Rows.{Tables}
+use Rattle.model.specs.Rows.{Row, Tables, rowAt, rowsIn}
+use Rattle.model.specs.Book.{bookRows}
 use Rattle.model.specs.Reference.{Reference, unopened, rowsOf, headOf}
 use Rattle.model.specs.Calls.{Lent, World, Reached}
 use Rattle.model.proofs.Tables.{cells-counted}
 use Rattle.model.proofs.Sound.{rows-none, rows-few, rows-wide}
 use Rattle.model.proofs.Joined.{Faithful, some-capacity}
-use Rattle.model.proofs.Reached.{reached-by, reached-judged}
+use Rattle.model.proofs.Reached.{reached-by, reached-judged, reached-names}
 use Rattle.rows.specs.Lent.{Cleared}
 use Rattle.rows.proofs.Clears.{cleared-zeros, cleared-filled}
+use Rattle.changes.specs.Sought.{Named}
 use Rattle.calls.specs.Left.{world, quoteTests, rowAnswer, reachedAnswer}
 
 -- a quote on it is answered by its settings and the quote's own tests
@@ -36,3 +43,24 @@ faithful-cleared s l f =
 -- so only the places of the rows are in use
 pub reached-cleared : {w : World} → Reached w → Cleared (w .head) (w .head .rows) (w .lent .tables)
 reached-cleared = reached-by (λ w. Cleared (w .head) (w .head .rows) (w .lent .tables)) unopened-cleared faithful-cleared
+
+-- each lower end is 0 or names a row
+pub reached-named : {w : World} → Reached w → Named (w .lent .tables .positions) (w .lent .tables .lowerEnds) (w .head .rows)
+unfolding bookRows rowsIn rowAt
+reached-named {w} g = record { names = λ i low. go i (reached-names g (row i) (into-map row i places (into-run 0 (w .head .rows) i (omega arith) (omega arith)))) }
+  where
+    row : ℕ → Row
+    row = rowAt (w .head .dimensions) (w .lent .tables)
+
+    places : List ℕ
+    places = run 0 (w .head .rows)
+
+    -- the row whose position it is stands at a place
+    go : (i : ℕ) → (row i .lowerEnd ≡ 0) ⊎ List·Memᴰ (row i .lowerEnd) (map Row.position (map row places))
+        → (row i .lowerEnd ≡ 0) ⊎ ((j : ℕ) × (j < w .head .rows) × (row j .position ≡ row i .lowerEnd))
+    go i (inl e) = inl e
+    go i (inr m) =
+        let r = of-map Row.position (row i .lowerEnd) (map row places) m in
+        let j = of-map row (r .0) places (r .1) in
+        let low = of-run 0 (w .head .rows) (j .0) (j .1) .1 in
+        inr (j .0, omega (arith, low), sym (r .2 ∙ ap Row.position (j .2)))
