@@ -4,7 +4,7 @@ pub mod Rooms
 pub mod Behind
 pub mod Turning
 pub mod Plays
-pub mod Clears
+pub mod Reached
 pub mod Waits
 pub mod Agrees
 pub mod Streaming

@@ -1,10 +1,11 @@
 // The calls that the frames of a tape ask for, each with its lines of print.
 ghost use mathlib.Core.Path.{_≡_};
+ghost use mathlib.Core.Bool.{true};
 ghost use mathlib.Core.List.{List, _++_};
 ghost use Prim.Native.Nat.{ℕ, _+_, _*_, _/_, _≤_};
 ghost use lib.ListN.{length, take};
-ghost use Rattle.rows.specs.Lent.{Cleared};
-ghost use Rattle.calls.specs.Left.{tables};
+ghost use Rattle.model.specs.Calls.{Reached};
+ghost use Rattle.calls.specs.Left.{tables, world, Quoted};
 ghost use Rattle.head.specs.Refusals.{settled};
 ghost use Rattle.text.specs.Text.{Laid};
 ghost use Rattle.printed.specs.Printed.{changeLines, changesIn};
@@ -15,6 +16,7 @@ use crate::Turn;
 use head::Answer;
 use head::Head;
 use head::Refusal;
+use head::Reply;
 
 // Lays the line of a refusal, and returns how many bytes.
 pub fn refuse(refusal: Refusal, text: &mut [u8]) -> usize
@@ -100,12 +102,32 @@ pub fn open(
     }
 }
 
-// Makes a quote of the first count columns on tables with so many rows in use, and lays its line and its changes.
+// Makes a quote on a book that calls left, or on any book.
+fn make_quote(
+    head: Head,
+    quote: &[u32],
+    reached: bool,
+    columns: &mut [u32],
+    positions: &mut [u32],
+    lower_ends: &mut [u32],
+    watches: [u32; 8],
+    bytes: &mut [u8],
+) -> Reply
+    requires { ⌜ (reached ≡ true → Reached (world head (tables (now columns) (now positions) (now «lower_ends»)) watches)) ⌝ }
+    ensures { λ r. ⌜ Quoted head (now (quote .entry)) (tables (now (columns .entry)) (now (positions .entry)) (now («lower_ends» .entry))) watches (now (bytes .entry)) r (tables (now (columns .exit)) (now (positions .exit)) (now («lower_ends» .exit))) (now (bytes .exit)) ⌝ }
+{
+    if reached {
+        return calls::quote_reached(head, quote, columns, positions, lower_ends, watches, bytes);
+    }
+    calls::quote(head, quote, columns, positions, lower_ends, watches, bytes)
+}
+
+// Makes a quote of the first count columns, on a book that calls left or on any, and lays its line and its changes.
 pub fn quote(
     head: Head,
     count: usize,
     quote: [u32; 6],
-    used: u32,
+    reached: bool,
     columns: &mut [u32],
     positions: &mut [u32],
     lower_ends: &mut [u32],
@@ -114,13 +136,13 @@ pub fn quote(
     text: &mut [u8],
 ) -> Turn
     requires { ⌜ (count ≤ 6) × (textRoom (length (now bytes)) ≤ length (now text)) ⌝ }
-    requires { ⌜ Cleared head used (tables (now columns) (now positions) (now «lower_ends»)) ⌝ }
+    requires { ⌜ (reached ≡ true → Reached (world head (tables (now columns) (now positions) (now «lower_ends»)) watches)) ⌝ }
     ensures { λ r. ⌜ Turned (made (Request.Quote (take count quote)) (player head (tables (now (columns .entry)) (now (positions .entry)) (now («lower_ends» .entry))) watches (now (bytes .entry)))) (now (text .entry)) r (tables (now (columns .exit)) (now (positions .exit)) (now («lower_ends» .exit))) (now (bytes .exit)) (now (text .exit)) ⌝ }
 {
-    let reply = calls::quote_cleared(
+    let reply = make_quote(
         head,
         &quote[..count],
-        used,
+        reached,
         columns,
         positions,
         lower_ends,

@@ -6,7 +6,7 @@ mod waiting;
 use head::Answer;
 use head::Head;
 pub use playing::play;
-pub use playing::play_cleared;
+pub use playing::play_reached;
 pub use waiting::ready;
 
 // What playing a frame hands back: whether it was played, whether the tape is over, the place behind the frame, how many bytes of

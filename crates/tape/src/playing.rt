@@ -1,10 +1,11 @@
 // The player: reads the frame at a place, judges its place on the tape, makes its call, and lays its lines.
 ghost use mathlib.Core.Path.{_≡_};
+ghost use mathlib.Core.Bool.{true};
 ghost use Prim.Native.Nat.{_≤_};
 ghost use lib.Dec.{ltb};
 ghost use lib.ListN.{length};
-ghost use Rattle.rows.specs.Lent.{Cleared};
-ghost use Rattle.calls.specs.Left.{tables};
+ghost use Rattle.model.specs.Calls.{Reached};
+ghost use Rattle.calls.specs.Left.{tables, world};
 ghost use Rattle.tape.specs.Steps.{player, textRoom, Stepped};
 ghost use Rattle.tape.specs.Turns.{outOfPlace, placed, columnCount, observed, taken, Turned};
 use crate::Step;
@@ -105,12 +106,12 @@ fn observe(
     }
 }
 
-// Makes the call of a message that is in its place, and lays its lines.
+// Makes the call of a message that is in its place, on a book that calls left or on any, and lays its lines.
 fn take(
     message: Message,
     quote: [u32; 6],
     head: Head,
-    used: u32,
+    reached: bool,
     columns: &mut [u32],
     positions: &mut [u32],
     lower_ends: &mut [u32],
@@ -119,7 +120,7 @@ fn take(
     text: &mut [u8],
 ) -> Turn
     requires { ⌜ (columnCount message ≤ 6) × (textRoom (length (now bytes)) ≤ length (now text)) ⌝ }
-    requires { ⌜ Cleared head used (tables (now columns) (now positions) (now «lower_ends»)) ⌝ }
+    requires { ⌜ (reached ≡ true → Reached (world head (tables (now columns) (now positions) (now «lower_ends»)) watches)) ⌝ }
     ensures { λ r. ⌜ Turned (taken message quote (player head (tables (now (columns .entry)) (now (positions .entry)) (now («lower_ends» .entry))) watches (now (bytes .entry)))) (now (text .entry)) r (tables (now (columns .exit)) (now (positions .exit)) (now («lower_ends» .exit))) (now (bytes .exit)) (now (text .exit)) ⌝ }
 {
     match message {
@@ -127,7 +128,7 @@ fn take(
             head,
             k as usize,
             quote,
-            used,
+            reached,
             columns,
             positions,
             lower_ends,
@@ -159,13 +160,13 @@ fn take(
     }
 }
 
-// Plays the frame at a place of a tape, on tables of which only the places below used rows are in use: its lines are laid at the
-// start of the text. The tape is over where nothing could be read. A text that may be too short is refused with 13.
-pub fn play_cleared(
+// Plays the frame at a place of a tape, on a book that calls left or on any: its lines are laid at the start of the text. The tape is
+// over where nothing could be read. A text that may be too short is refused with 13.
+fn play_frame(
     tape: &[u8],
     place: usize,
     head: Head,
-    used: u32,
+    reached: bool,
     columns: &mut [u32],
     positions: &mut [u32],
     lower_ends: &mut [u32],
@@ -173,7 +174,7 @@ pub fn play_cleared(
     bytes: &mut [u8],
     text: &mut [u8],
 ) -> Step
-    requires { ⌜ Cleared head used (tables (now columns) (now positions) (now «lower_ends»)) ⌝ }
+    requires { ⌜ (reached ≡ true → Reached (world head (tables (now columns) (now positions) (now «lower_ends»)) watches)) ⌝ }
     ensures { λ r. ⌜ Stepped (now (tape .entry)) place (player head (tables (now (columns .entry)) (now (positions .entry)) (now («lower_ends» .entry))) watches (now (bytes .entry))) (now (text .entry)) r (tables (now (columns .exit)) (now (positions .exit)) (now («lower_ends» .exit))) (now (bytes .exit)) (now (text .exit)) ⌝ }
 {
     if short_text(bytes.len(), text.len()) {
@@ -193,7 +194,7 @@ pub fn play_cleared(
         placed(head.settings_hold(), message),
         quote,
         head,
-        used,
+        reached,
         columns,
         positions,
         lower_ends,
@@ -213,7 +214,36 @@ pub fn play_cleared(
     }
 }
 
-// Plays the frame at a place of a tape, on any tables: every place may be in use.
+// Plays the frame at a place of a tape, on a book that calls left.
+pub fn play_reached(
+    tape: &[u8],
+    place: usize,
+    head: Head,
+    columns: &mut [u32],
+    positions: &mut [u32],
+    lower_ends: &mut [u32],
+    watches: [u32; 8],
+    bytes: &mut [u8],
+    text: &mut [u8],
+) -> Step
+    requires { ⌜ Reached (world head (tables (now columns) (now positions) (now «lower_ends»)) watches) ⌝ }
+    ensures { λ r. ⌜ Stepped (now (tape .entry)) place (player head (tables (now (columns .entry)) (now (positions .entry)) (now («lower_ends» .entry))) watches (now (bytes .entry))) (now (text .entry)) r (tables (now (columns .exit)) (now (positions .exit)) (now («lower_ends» .exit))) (now (bytes .exit)) (now (text .exit)) ⌝ }
+{
+    play_frame(
+        tape,
+        place,
+        head,
+        true,
+        columns,
+        positions,
+        lower_ends,
+        watches,
+        bytes,
+        text,
+    )
+}
+
+// Plays the frame at a place of a tape, on any book.
 pub fn play(
     tape: &[u8],
     place: usize,
@@ -227,11 +257,11 @@ pub fn play(
 ) -> Step
     ensures { λ r. ⌜ Stepped (now (tape .entry)) place (player head (tables (now (columns .entry)) (now (positions .entry)) (now («lower_ends» .entry))) watches (now (bytes .entry))) (now (text .entry)) r (tables (now (columns .exit)) (now (positions .exit)) (now («lower_ends» .exit))) (now (bytes .exit)) (now (text .exit)) ⌝ }
 {
-    play_cleared(
+    play_frame(
         tape,
         place,
         head,
-        head.capacity,
+        false,
         columns,
         positions,
         lower_ends,

@@ -1,11 +1,12 @@
--- `play` meets its contract: it plays on tables whose every place may be in use.
+-- `play` meets its contract: nothing is said of the book.
+use mathlib.Core.Path.{sym}
+use mathlib.Core.Bool.{true≢false}
 use borrow.Author.Needs.{needs}
-use Rattle.rows.proofs.Clears.{cleared-all}
 use Rattle.tape.proofs.playing.play.Statement.{statement}
 use Rattle.tape.proofs.playing.play.Tie as tie
 
-play-cleared-requires : tie.Need-play-cleared-requires
-play-cleared-requires c κs = cleared-all _ _
+play-frame-requires : tie.Need-play-frame-requires
+play-frame-requires c κs = λ e. absurd (true≢false (sym e))
 
 same-length : tie.Need-same-length
 same-length c = search needs
@@ -29,7 +30,7 @@ pub play-spec : {M : Type 1} → statement M
 play-spec =
     tie.close
     (tie.spec
-    play-cleared-requires
+    play-frame-requires
     same-length
     same-length-2
     same-length-3

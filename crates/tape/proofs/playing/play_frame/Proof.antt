@@ -1,10 +1,10 @@
--- `play_cleared` meets its contract: a text that is too short is refused, else the frame is played.
+-- `play_frame` meets its contract: a text that is too short is refused, else the frame is played.
 use mathlib.Core.Path.{sym, _∙_}
 use borrow.Author.Needs.{needs}
 use Rattle.tape.proofs.Rooms.{text-enough}
 use Rattle.tape.proofs.Plays.{placed-columns, step-short, step-played}
-use Rattle.tape.proofs.playing.play_cleared.Statement.{statement}
-use Rattle.tape.proofs.playing.play_cleared.Tie as tie
+use Rattle.tape.proofs.playing.play_frame.Statement.{statement}
+use Rattle.tape.proofs.playing.play_frame.Tie as tie
 
 short-text-requires : tie.Need-short-text-requires
 short-text-requires c κs = search needs
@@ -49,8 +49,8 @@ returns-2 c =
     let read = known .before .before .before in
     step-played _ _ _ _ _ _ _ (sym (read .before .if1 .left) ∙ read .before .before .short-text .ensures) (read .read-at .ensures) (known .before .settings-hold .ensures) (known .placed .ensures) (made .take .ensures)
 
-pub play-cleared-spec : {M : Type 1} → statement M
-play-cleared-spec =
+pub play-frame-spec : {M : Type 1} → statement M
+play-frame-spec =
     tie.close
     (tie.spec
     short-text-requires
