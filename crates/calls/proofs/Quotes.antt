@@ -37,7 +37,7 @@ use Rattle.rows.specs.Lent.{rowsLeft, rowsNext, Ready}
 use Rattle.rows.proofs.Reading.{length-rows}
 use Rattle.changes.specs.Flagged.{flagged}
 use Rattle.changes.specs.Watches.{allFrames}
-use Rattle.changes.specs.Sought.{Rises}
+use Rattle.changes.specs.Sought.{Rises, Named}
 use Rattle.changes.proofs.Quoting.{Found, untorn-rows, quote-frames}
 use Rattle.calls.specs.Left.{rowAnswer, Quoted}
 use Rattle.calls.proofs.Answering.{Passed, begun, stays, watchful-passed, refused-reply, refused-left, accepted-reply, accepted-left}
@@ -237,13 +237,14 @@ module _ {h : Head} {x : List ℕ} {t : Tables} {ws : List ℕ} {kept : List Boo
 
     module _ (f : over ≡ false) where
       -- what is asked before the changes are written
-      pub write-asks : {removed : List ℕ} → removed ≡ removedPlaces kept (h .rows)
+      pub write-asks : {removed : List ℕ} {named : Bool} → removed ≡ removedPlaces kept (h .rows) → (named ≡ true → Named (t .positions) (t .lowerEnds) (h .rows))
           → (h .capacity < 65536) × ((tornWatches (h .capacity) ws ≡ false)
           × ((h .newest < lastPosition)
           × ((h .rows ≤ length kept) × ((h .rows ≤ length (t .positions)) × ((h .rows ≤ length (t .lowerEnds)) × ((removed ≡ removedPlaces kept (h .rows))
-          × (Rises (t .positions) (h .rows) × ((gone ≤ windowStart (h .newest) (h .capacity)) × (length bytes ≤ length out)))))))))
+          × (Rises (t .positions) (h .rows)
+          × ((named ≡ true → Named (t .positions) (t .lowerEnds) (h .rows)) × ((gone ≤ windowStart (h .newest) (h .capacity)) × (length bytes ≤ length out))))))))))
       unfolding expiring windowStart
-      write-asks r =
+      write-asks r n =
           let p = v .admitted .passed in
           let asks = count-asks in
           let gone-is = v .found .expired in (
@@ -260,7 +261,7 @@ module _ {h : Head} {x : List ℕ} {t : Tables} {ws : List ℕ} {kept : List Boo
                       asks .1 .1 .1 .0,
                       (
                         r,
-                        (untorn-rows h t (p .untorn) .rises, (omega arith, ltb-false (length out) (length bytes) (sym o ∙ f))),
+                        (untorn-rows h t (p .untorn) .rises, (n, (omega arith, ltb-false (length out) (length bytes) (sym o ∙ f)))),
                       ),
                     ),
                   ),

@@ -134,6 +134,7 @@ fn accept(
         lower_ends,
         gone,
         lower,
+        false,
         out,
     );
     let rows = settle(

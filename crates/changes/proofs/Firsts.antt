@@ -1,19 +1,22 @@
--- Laws of a window's first place: which positions stand before it and which from it on, and the places to which halving brings it down.
+-- Laws of a window's first place: which positions stand before it and which from it on, the places to which halving brings it down, and
+-- what a row or none at the window's start says of lower ends.
 use mathlib.Core.Path.{_≡_, refl, ap, _∙_}
 use mathlib.Core.Logic.{_⊎_, inl, inr}
 use Prim.Native.Nat.{ℕ, zero, suc, _+_, _-_, _≤_, _<_}
 use native.Mathlib.Nat.{le-refl}
 use native.Mathlib.Decide.{decLt}
 use native.Mathlib.Omega.{arith}
-use mathlib.Core.Bool.{Bool, true, false}
+use mathlib.Core.Bool.{Bool, true, false, _&&_, not}
 use mathlib.Core.List.{List}
-use lib.Dec.{ltb, leb}
+use lib.Dec.{ltb, leb, eqb}
 use lib.ListN.{length, getD}
-use borrow.Author.Tests.{leb-true, leb-false, lt-ltb, le-ltb}
+use borrow.Author.Tests.{leb-true, leb-false, lt-ltb, le-ltb, eqb-false, not-true}
 use Rattle.lists.specs.Lists.{filter, run}
+use Rattle.lists.proofs.Booleans.{and-left, and-right}
 use Rattle.lists.proofs.Runs.{filter-upto, order}
 use Rattle.cells.proofs.Places.{next-within, next-gap, next-found}
-use Rattle.changes.specs.Sought.{firstFrom, Rises}
+use Rattle.changes.specs.Sought.{nextEqual, firstFrom, Rises, Named}
+use Rattle.changes.proofs.Places.{equal-none}
 
 -- of a run all of whose numbers pass, all are counted
 all-passed : (test : ℕ → Bool) (a k : ℕ) → ((q : ℕ) → a ≤ q → q < a + k → test q ≡ true) → length (filter test (run a k)) ≡ k
@@ -86,3 +89,29 @@ module _ {positions : List ℕ} {start count low size : ℕ} (v : Halved positio
       (λ q h. lt-ltb (getD positions (low + q) 0) start (before-first positions start count (low + q) (omega (arith, v .upto, v .within)) (omega arith)))
       (λ q h l. le-ltb (getD positions (low + q) 0) start (from-first positions start count r (low + q) (omega (arith, v .upto, v .within)) (omega (arith, v .from)))) in
       omega (arith, v .from, e ∙ ap (λ (m : ℕ). length (filter below (run 0 m))) parts ∙ counted)
+
+module _ (positions lowers : List ℕ) (start count : ℕ) (r : Rises positions count) where
+  -- a row at start stands at the window's first place
+  stands-first : (j : ℕ) → j < count → getD positions j 0 ≡ start → firstFrom positions start count ≡ j
+  stands-first j h e = go (order (firstFrom positions start count) j)
+    where
+      go : (firstFrom positions start count < j) ⊎ ((firstFrom positions start count ≡ j) ⊎ (j < firstFrom positions start count)) → firstFrom positions start count ≡ j
+      go (inl l) = absurd (omega (arith, at-first positions start count (omega arith), r .rise (firstFrom positions start count) j l h))
+      go (inr (inl f)) = f
+      go (inr (inr l)) = absurd (omega (arith, before-first positions start count j h l))
+
+  -- so where each lower end names a row, and none stands there, no lower end is start
+  unnamed : Named positions lowers count → 1 ≤ start → (getD positions (firstFrom positions start count) 0 ≡ start → ⊥) → (i : ℕ) → i < count → getD lowers i 0 ≡ start → ⊥
+  unnamed n s none i h e = go (n .names i h)
+    where
+      go : (getD lowers i 0 ≡ 0) ⊎ ((j : ℕ) × (j < count) × (getD positions j 0 ≡ getD lowers i 0)) → ⊥
+      go (inl z) = omega arith
+      go (inr (j, l, p)) = none (rw (stands-first j l (p ∙ e)) (p ∙ e))
+
+  -- and none is found
+  pub lower-none : {named : Bool} {first : ℕ} → (named ≡ true → Named positions lowers count) → 1 ≤ start → first ≡ firstFrom positions start count
+      → named && not (eqb (getD positions first 0) start) ≡ true → count ≡ nextEqual lowers start count first
+  lower-none {named} {first} n s e t =
+      let apart = eqb-false (getD positions first 0) start (not-true (eqb (getD positions first 0) start) (and-right named (not (eqb (getD positions first 0) start)) t)) in
+      let within = first-within positions start count in
+      equal-none lowers start count first (omega arith) (unnamed (n (and-left named (not (eqb (getD positions first 0) start)) t)) s (rw e at apart))

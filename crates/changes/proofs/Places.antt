@@ -1,6 +1,8 @@
 -- Laws of the next cell of a value.
-use mathlib.Core.Path.{_≡_, sym, _∙_}
-use Prim.Native.Nat.{ℕ, _+_, _≤_, _<_}
+use mathlib.Core.Path.{_≡_, sym, ap, _∙_}
+use Prim.Native.Nat.{ℕ, _+_, _-_, _≤_, _<_}
+use native.Mathlib.Nat.{le-refl}
+use native.Mathlib.Omega.{arith}
 use mathlib.Core.Bool.{Bool, false}
 use mathlib.Core.List.{List}
 use lib.Dec.{eqb}
@@ -8,6 +10,7 @@ use lib.ListN.{getD}
 use borrow.Author.Tests.{eq-eqb, ne-eqb}
 use Rattle.lists.specs.Lists.{any, run}
 use Rattle.lists.proofs.Runs.{none-any}
+use Rattle.cells.specs.Removed.{nextPlace}
 use Rattle.cells.proofs.Places.{next-from, next-within, next-past, next-here, next-pass, next-skip}
 use Rattle.changes.specs.Sought.{nextEqual}
 
@@ -36,3 +39,10 @@ module _ (cells : List ℕ) (x count i : ℕ) where
   pub equal-skip : {found : Bool} → found ≡ any (λ k. eqb (getD cells k 0) x) (run i 16) → found ≡ false → nextEqual cells x count (i + 16) ≡ nextEqual cells x count i
   unfolding nextEqual
   equal-skip e f = sym (next-skip (λ k. eqb (getD cells k 0) x) count i 16 (none-any (λ k. eqb (getD cells k 0) x) i 16 (sym e ∙ f)))
+
+  pub equal-none : i ≤ count → ((q : ℕ) → q < count → getD cells q 0 ≡ x → ⊥) → count ≡ nextEqual cells x count i
+  unfolding nextEqual
+  equal-none h none =
+      let is : ℕ → Bool = λ k. eqb (getD cells k 0) x in
+      let e : i + (count - i) ≡ count = omega arith in
+      sym (next-skip is count i (count - i) (λ q u v. ne-eqb (getD cells q 0) x (none q (omega arith))) ∙ ap (nextPlace is count) e ∙ next-past is count count (le-refl count))

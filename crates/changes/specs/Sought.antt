@@ -34,8 +34,9 @@ pub record Rises (positions : List ℕ) (count : ℕ) : Type 0 where
 pub record Named (positions lowers : List ℕ) (count : ℕ) : Type 0 where
   pub names : (i : ℕ) → i < count → (getD lowers i 0 ≡ 0) ⊎ ((j : ℕ) × (j < count) × (getD positions j 0 ≡ getD lowers i 0))
 
--- a window that moves by one position or not at all, where what expires is not behind its start
+-- a window that starts at 1 or later and moves by one position or not at all, where what expires is not behind its start
 pub record Steps (w : Shift) : Type 0 where
+  pub starts : 1 ≤ w .before
   pub forth : w .before ≤ w .after
   pub by-one : w .after ≤ w .before + 1
   pub expires : w .gone ≤ w .before

@@ -1,10 +1,12 @@
-// Places sought in the tables: the next cell of a value, by blocks of 16; a window's first row, by halving and counting.
+// Places sought in the tables: the next cell of a value, by blocks of 16; a window's first row, by halving and counting; the first lower
+// end at its start.
 ghost use mathlib.Core.Path.{_≡_};
 ghost use Prim.Native.Nat.{_+_, _≤_};
+ghost use mathlib.Core.Bool.{true};
 ghost use lib.Dec.{ltb, eqb};
 ghost use lib.ListN.{length, getD};
 ghost use Rattle.lists.specs.Lists.{filter, any, run};
-ghost use Rattle.changes.specs.Sought.{nextEqual, firstFrom, Rises};
+ghost use Rattle.changes.specs.Sought.{nextEqual, firstFrom, Rises, Named};
 
 // Whether one of the 16 cells from a place on is x.
 fn any_equal(cells: &[u32], from: usize, x: u32) -> bool
@@ -86,4 +88,31 @@ pub fn first_from(positions: &[u32], count: usize, start: u32) -> usize
         }
     }
     low + count_below(positions, low, size, start) as usize
+}
+
+// The first place from first on and below count whose lower end is start, or count where none is; first is the first place of the window
+// that starts there. Where each lower end is 0 or names a row, as named says, none is start unless a row stands there.
+pub fn first_lower_end(
+    positions: &[u32],
+    lower_ends: &[u32],
+    count: usize,
+    first: usize,
+    start: u32,
+    named: bool,
+) -> usize
+    requires { ⌜ count ≤ length (now positions) ⌝ }
+    requires { ⌜ count ≤ length (now «lower_ends») ⌝ }
+    requires { ⌜ Rises (now positions) count ⌝ }
+    requires { ⌜ (named ≡ true → Named (now positions) (now «lower_ends») count) ⌝ }
+    requires { ⌜ 1 ≤ start ⌝ }
+    requires { ⌜ first ≡ firstFrom (now positions) start count ⌝ }
+    ensures { λ r. ⌜ r ≡ nextEqual (now («lower_ends» .entry)) start count first ⌝ }
+{
+    if count <= first {
+        return count;
+    }
+    if named & (positions[first] != start) {
+        return count;
+    }
+    next_equal(lower_ends, first, count, start)
 }

@@ -1,9 +1,11 @@
 -- `accept` meets its contract: what is marked tells the changes and the rows that stay; nothing is written before the room is known.
-use mathlib.Core.Path.{sym, ap, _∙_}
+use mathlib.Core.Path.{refl, sym, ap, _∙_}
 use native.Mathlib.Omega.{arith}
+use mathlib.Core.Bool.{false}
 use lib.ListN.{length}
 use denote.Ref.{now}
 use borrow.Author.Needs.{needs}
+use Rattle.lists.proofs.Booleans.{clash}
 use Rattle.calls.specs.Left.{tables}
 use Rattle.calls.proofs.Quotes.{Marked, admitted, mark-asks, marked, count-asks, list-asks, listed-few, write-asks, ready, quote-full, quote-done}
 use Rattle.calls.proofs.quoting.accept.Statement.{statement}
@@ -89,6 +91,7 @@ write-all-changes-requires : tie.Need-write-all-changes-requires
 write-all-changes-requires c κs =
     let listed = c .before .before .before .before .before .before in
     write-asks (known (marks listed)) (now (entry listed .args .out)) (tested listed .before .overflows .ensures) (tested listed .if1 .left) (listed .list-removed .ensures .1)
+    (λ e. absurd (clash false e refl))
 
 slice-aggregate-settle : tie.Need-slice-aggregate-settle
 slice-aggregate-settle c = search needs

@@ -9,13 +9,13 @@ use Rattle.changes.proofs.watches.write_all_changes.Statement.{statemen
 use Rattle.changes.proofs.watches.write_all_changes.Tie as tie
 
 abbrev Inv-loop : tie.InvT-loop
-Inv-loop head keep removed positions lower-ends gone lower out₀ watches at₀ i₀ out at i = Written gone (head .newest) (flagged keep positions lower-ends (head .rows)) lower watches out₀ out at i
+Inv-loop head keep removed positions lower-ends gone lower named out₀ watches at₀ i₀ out at i = Written gone (head .newest) (flagged keep positions lower-ends (head .rows)) lower watches out₀ out at i
 
 abbrev μ-loop : tie.MeasureT-loop
-μ-loop head keep removed positions lower-ends gone lower out₀ watches at₀ i₀ out at i = 8 - i
+μ-loop head keep removed positions lower-ends gone lower named out₀ watches at₀ i₀ out at i = 8 - i
 
 loop-holds : tie.Need-loop-holds Inv-loop μ-loop
-loop-holds c = written-start _ _ _ _ _ _ (search needs) (c .before .before .before .before .before .pre .1 .1 .1 .1 .1 .1 .1 .1 .1)
+loop-holds c = written-start _ _ _ _ _ _ (search needs) (c .before .before .before .before .before .pre .1 .1 .1 .1 .1 .1 .1 .1 .1 .1)
 
 mul-write-watch : tie.Need-mul-write-watch Inv-loop μ-loop
 mul-write-watch c = search needs
@@ -36,7 +36,7 @@ write-watch-requires : tie.Need-write-watch-requires Inv-loop μ-loop
 write-watch-requires c κs =
     let p = c .before .before .before .before .before .before .before .before .pre in
     let n = watch-below _ _ (c .before .before .loop .i) (p .1 .0) (c .before .loop-test .taken) in
-    (omega arith, (p .1 .1 .0, (p .1 .1 .1 .0, (p .1 .1 .1 .1 .0, (p .1 .1 .1 .1 .1 .0, (p .1 .1 .1 .1 .1 .1 .0, (p .1 .1 .1 .1 .1 .1 .1 .0, (start-below _ _ _ _ n (p .1 .1 .1 .1 .1 .1 .1 .1 .0), written-rest (c .before .before .loop .inv) (c .before .loop-test .taken)))))))))
+    (omega arith, (p .1 .1 .0, (p .1 .1 .1 .0, (p .1 .1 .1 .1 .0, (p .1 .1 .1 .1 .1 .0, (p .1 .1 .1 .1 .1 .1 .0, (p .1 .1 .1 .1 .1 .1 .1 .0, (p .1 .1 .1 .1 .1 .1 .1 .1 .0, (start-below _ _ _ _ n (p .1 .1 .1 .1 .1 .1 .1 .1 .1 .0), written-rest (c .before .before .loop .inv) (c .before .loop-test .taken))))))))))
 
 add-at : tie.Need-add-at Inv-loop μ-loop
 add-at c = omega (arith, written-fits (c .before .before .before .before .before .loop .inv) (c .before .before .before .before .loop-test .taken), c .before .before .write-watch .ensures .0)
