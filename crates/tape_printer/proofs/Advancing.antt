@@ -14,8 +14,8 @@ use Rattle.tape.specs.Print.{Asked, finished, unread, misplaced, request, asked
 use Rattle.tape.specs.Play.{Played, playAsked, playAt, Player, begun, bookMake}
 use Rattle.head.specs.declared.Head.{Head}
 use Rattle.model.specs.Rows.{Tables}
-use Rattle.rows.specs.Lent.{Cleared}
-use Rattle.calls.specs.Left.{tables}
+use Rattle.model.specs.Calls.{Reached}
+use Rattle.calls.specs.Left.{tables, world}
 use Rattle.tape.specs.declared.Step.{Step}
 use Rattle.tape.specs.Steps.{textRoom, stepAt, stepReply, Stepped}
 use Rattle.tape_printer.specs.Stands.{left, Advanced}
@@ -73,9 +73,9 @@ module _ {tape : List ℕ} {place : ℕ} {k : Player} {before : List ℕ} {r : S
 
 -- ---- the frames of a piece
 
--- what holds from frame to frame: the lines fit the text, the place stands within the tape, all that is lent keeps its length, and of the
--- tables only the places of the rows are in use
-pub record Playing (tape : List ℕ) (end : ℕ) (columns₀ positions₀ lower-ends₀ bytes₀ text₀ columns positions lower-ends bytes text : List ℕ) (place ended used : ℕ) (head : Head) : Type 0 where
+-- what holds from frame to frame: the lines fit the text, the place stands within the tape, all that is lent keeps its length, and the
+-- book is one that calls left
+pub record Playing (tape : List ℕ) (end : ℕ) (columns₀ positions₀ lower-ends₀ bytes₀ text₀ columns positions lower-ends bytes text : List ℕ) (place ended used : ℕ) (head : Head) (watches : List ℕ) : Type 0 where
   pub columns-long : length columns ≡ length columns₀
   pub positions-long : length positions ≡ length positions₀
   pub lower-ends-long : length lower-ends ≡ length lower-ends₀
@@ -84,11 +84,11 @@ pub record Playing (tape : List ℕ) (end : ℕ) (columns₀ positions₀ lower-
   pub inside : place ≤ length tape
   pub same : ended ≡ end
   pub fits : used ≤ length text
-  pub cleared : Cleared head (head .rows) (tables columns positions lower-ends)
+  pub reached : Reached (world head (tables columns positions lower-ends) watches)
 
--- the same head, by another name
-pub same-cleared : {h h' : Head} {t : Tables} → h' ≡ h → Cleared h (h .rows) t → Cleared h' (h' .rows) t
-same-cleared e c = rw e c
+-- the same head and watches, by other names
+pub same-reached : {h h' : Head} {t : Tables} {ws ws' : List ℕ} → h' ≡ h → ws' ≡ ws → Reached (world h t ws) → Reached (world h' t ws')
+same-reached e f c = rw (e, f) c
 
 -- a frame that is played leaves less
 pub less-left : (over ready : Bool) {tape : List ℕ} {place next : ℕ} {over' result : Bool} → Advanced tape place next over' → result ≡ not over && ready → result ≡ true → left tape next over' < left tape place over

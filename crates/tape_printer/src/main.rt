@@ -3,8 +3,8 @@ ghost use mathlib.Core.Path.{_≡_};
 ghost use Prim.Native.Nat.{_≤_};
 ghost use mathlib.Core.Bool.{_&&_, not};
 ghost use lib.ListN.{length};
-ghost use Rattle.rows.specs.Lent.{Cleared};
-ghost use Rattle.calls.specs.Left.{tables};
+ghost use Rattle.model.specs.Calls.{Reached};
+ghost use Rattle.calls.specs.Left.{tables, world};
 ghost use Rattle.tape.specs.Steps.{ready};
 ghost use Rattle.tape_printer.specs.Stands.{Advanced};
 use head::Head;
@@ -27,7 +27,7 @@ struct Stand {
 // Writes out the gathered lines; where that fails the tape is over.
 fn flush(stand: Stand, text: &[u8]) -> Stand
     requires { ⌜ stand .used ≤ length (now text) ⌝ }
-    ensures { λ r. ⌜ (r .used ≡ 0) × (r .place ≡ stand .place) × (r .end ≡ stand .end) × (r .head ≡ stand .head) ⌝ }
+    ensures { λ r. ⌜ (r .used ≡ 0) × (r .place ≡ stand .place) × (r .end ≡ stand .end) × (r .head ≡ stand .head) × (r .watches ≡ stand .watches) ⌝ }
 {
     let used = stand.used;
     let mut now = stand;
@@ -41,7 +41,7 @@ fn flush(stand: Stand, text: &[u8]) -> Stand
 // Writes out the gathered lines if there is no room behind them for those of any frame.
 fn with_room(stand: Stand, text: &[u8]) -> Stand
     requires { ⌜ stand .used ≤ length (now text) ⌝ }
-    ensures { λ r. ⌜ (r .used ≤ length (now (text .entry))) × (r .place ≡ stand .place) × (r .end ≡ stand .end) × (r .head ≡ stand .head) ⌝ }
+    ensures { λ r. ⌜ (r .used ≤ length (now (text .entry))) × (r .place ≡ stand .place) × (r .end ≡ stand .end) × (r .head ≡ stand .head) × (r .watches ≡ stand .watches) ⌝ }
 {
     if LONGEST_LINES <= text.len() - stand.used {
         return stand;
@@ -59,18 +59,17 @@ fn play_one(
     bytes: &mut [u8],
     text: &mut [u8],
 ) -> Stand
-    requires { ⌜ (stand .used ≤ length (now text)) × (stand .place ≤ length (now tape)) × Cleared (stand .head) (stand .head .rows) (tables (now columns) (now positions) (now «lower_ends»)) ⌝ }
-    ensures { λ r. ⌜ (r .used ≤ length (now (text .entry))) × (r .end ≡ stand .end) × Advanced (now (tape .entry)) (stand .place) (r .place) (r .over) × Cleared (r .head) (r .head .rows) (tables (now (columns .exit)) (now (positions .exit)) (now («lower_ends» .exit))) ⌝ }
+    requires { ⌜ (stand .used ≤ length (now text)) × (stand .place ≤ length (now tape)) × Reached (world (stand .head) (tables (now columns) (now positions) (now «lower_ends»)) (stand .watches)) ⌝ }
+    ensures { λ r. ⌜ (r .used ≤ length (now (text .entry))) × (r .end ≡ stand .end) × Advanced (now (tape .entry)) (stand .place) (r .place) (r .over) × Reached (world (r .head) (tables (now (columns .exit)) (now (positions .exit)) (now («lower_ends» .exit))) (r .watches)) ⌝ }
 {
     let now = with_room(stand, text);
     let used = now.used;
     let head = now.head;
     let watches = now.watches;
-    let step = tape::play_cleared(
+    let step = tape::play_reached(
         tape,
         now.place,
         head,
-        head.rows,
         columns,
         positions,
         lower_ends,
@@ -111,8 +110,8 @@ fn play_piece(
     bytes: &mut [u8],
     text: &mut [u8],
 ) -> Stand
-    requires { ⌜ (stand .used ≤ length (now text)) × (stand .place ≤ length (now tape)) × Cleared (stand .head) (stand .head .rows) (tables (now columns) (now positions) (now «lower_ends»)) ⌝ }
-    ensures { λ r. ⌜ (r .used ≤ length (now (text .entry))) × (r .place ≤ length (now (tape .entry))) × (r .end ≡ stand .end) × Cleared (r .head) (r .head .rows) (tables (now (columns .exit)) (now (positions .exit)) (now («lower_ends» .exit))) ⌝ }
+    requires { ⌜ (stand .used ≤ length (now text)) × (stand .place ≤ length (now tape)) × Reached (world (stand .head) (tables (now columns) (now positions) (now «lower_ends»)) (stand .watches)) ⌝ }
+    ensures { λ r. ⌜ (r .used ≤ length (now (text .entry))) × (r .place ≤ length (now (tape .entry))) × (r .end ≡ stand .end) × Reached (world (r .head) (tables (now (columns .exit)) (now (positions .exit)) (now («lower_ends» .exit))) (r .watches)) ⌝ }
 {
     let mut now = stand;
     while plays(now, tape) {
@@ -124,7 +123,7 @@ fn play_piece(
 // Reads on behind the begun frame, which is moved to the front of what has come of the tape.
 fn refill(stand: Stand, tape: &mut [u8]) -> Stand
     requires { ⌜ (stand .place ≤ stand .end) × (stand .end ≤ length (now tape)) ⌝ }
-    ensures { λ r. ⌜ (r .used ≡ stand .used) × (r .place ≡ 0) × (r .end ≤ length (now (tape .entry))) × (r .head ≡ stand .head) ⌝ }
+    ensures { λ r. ⌜ (r .used ≡ stand .used) × (r .place ≡ 0) × (r .end ≤ length (now (tape .entry))) × (r .head ≡ stand .head) × (r .watches ≡ stand .watches) ⌝ }
 {
     let mut now = stand;
     let rest = now.end - now.place;
@@ -146,8 +145,8 @@ fn read_on(
     bytes: &mut [u8],
     text: &mut [u8],
 ) -> Stand
-    requires { ⌜ (stand .used ≤ length (now text)) × (stand .place ≤ stand .end) × (stand .end ≤ length (now tape)) × Cleared (stand .head) (stand .head .rows) (tables (now columns) (now positions) (now «lower_ends»)) ⌝ }
-    ensures { λ r. ⌜ (r .used ≤ length (now (text .entry))) × (r .place ≤ r .end) × (r .end ≤ length (now (tape .entry))) × Cleared (r .head) (r .head .rows) (tables (now (columns .exit)) (now (positions .exit)) (now («lower_ends» .exit))) ⌝ }
+    requires { ⌜ (stand .used ≤ length (now text)) × (stand .place ≤ stand .end) × (stand .end ≤ length (now tape)) × Reached (world (stand .head) (tables (now columns) (now positions) (now «lower_ends»)) (stand .watches)) ⌝ }
+    ensures { λ r. ⌜ (r .used ≤ length (now (text .entry))) × (r .place ≤ r .end) × (r .end ≤ length (now (tape .entry))) × Reached (world (r .head) (tables (now (columns .exit)) (now (positions .exit)) (now («lower_ends» .exit))) (r .watches)) ⌝ }
 {
     let mut now = flush(stand, text);
     if now.over {

@@ -4,15 +4,15 @@ use Prim.Native.Nat.{_≤_}
 use native.Mathlib.Omega.{arith}
 use lib.ListN.{length}
 use borrow.Author.Needs.{needs}
-use Rattle.rows.specs.Lent.{Cleared}
-use Rattle.rows.proofs.Clears.{cleared-zeros}
-use Rattle.calls.specs.Left.{tables}
-use Rattle.tape_printer.proofs.Advancing.{same-cleared}
+use Rattle.model.specs.Calls.{Reached}
+use Rattle.model.proofs.Reached.{reached-first}
+use Rattle.calls.specs.Left.{tables, world}
+use Rattle.tape_printer.proofs.Advancing.{same-reached}
 use Rattle.tape_printer.proofs.main.Statement.{statement}
 use Rattle.tape_printer.proofs.main.Tie as tie
 
 abbrev Inv-loop : tie.InvT-loop
-Inv-loop columns₀ positions₀ lower-ends₀ bytes₀ tape₀ text₀ stand₀ turns₀ columns positions lower-ends bytes tape text stand turns = (stand .used ≤ length text) × (stand .place ≤ stand .end) × (stand .end ≤ length tape) × (length tape ≡ 65536) × (length columns ≡ 6144) × (length positions ≡ 1024) × (length lower-ends ≡ 1024) × (length bytes ≡ 57400) × (length text ≡ 273613) × Cleared (stand .head) (stand .head .rows) (tables columns positions lower-ends)
+Inv-loop columns₀ positions₀ lower-ends₀ bytes₀ tape₀ text₀ stand₀ turns₀ columns positions lower-ends bytes tape text stand turns = (stand .used ≤ length text) × (stand .place ≤ stand .end) × (stand .end ≤ length tape) × (length tape ≡ 65536) × (length columns ≡ 6144) × (length positions ≡ 1024) × (length lower-ends ≡ 1024) × (length bytes ≡ 57400) × (length text ≡ 273613) × Reached (world (stand .head) (tables columns positions lower-ends) (stand .watches))
 
 abbrev μ-loop : tie.MeasureT-loop
 μ-loop columns₀ positions₀ lower-ends₀ bytes₀ tape₀ text₀ stand₀ turns₀ columns positions lower-ends bytes tape text stand turns = turns
@@ -21,7 +21,7 @@ fresh-requires : tie.Need-fresh-requires Inv-loop μ-loop
 fresh-requires c κs = search needs
 
 loop-holds : tie.Need-loop-holds Inv-loop μ-loop
-loop-holds c = (omega arith, omega arith, omega arith, refl, refl, refl, refl, refl, refl, same-cleared (c .fresh .ensures) (cleared-zeros _))
+loop-holds c = (omega arith, omega arith, omega arith, refl, refl, refl, refl, refl, refl, same-reached (c .fresh .ensures) refl (reached-first _))
 
 sub-turns : tie.Need-sub-turns Inv-loop μ-loop
 sub-turns c = search needs

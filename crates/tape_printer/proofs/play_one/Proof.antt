@@ -1,31 +1,34 @@
 -- `play_one` meets its contract: the lines fit the text, and the place goes on.
 use native.Mathlib.Omega.{arith}
 use borrow.Author.Needs.{needs}
-use Rattle.tape.proofs.Clears.{step-cleared}
-use Rattle.tape_printer.proofs.Advancing.{stepped-on, stepped-fits, same-cleared}
+use Rattle.tape.proofs.Reached.{step-reached}
+use Rattle.tape_printer.proofs.Advancing.{stepped-on, stepped-fits, same-reached}
 use Rattle.tape_printer.proofs.play_one.Statement.{statement}
 use Rattle.tape_printer.proofs.play_one.Tie as tie
 
 with-room-requires : tie.Need-with-room-requires
 with-room-requires c κs = search needs
 
-sub-play-cleared : tie.Need-sub-play-cleared
-sub-play-cleared c = search needs
+sub-play-reached : tie.Need-sub-play-reached
+sub-play-reached c = search needs
 
-part-play-cleared-start : tie.Need-part-play-cleared-start
-part-play-cleared-start c = search needs
+part-play-reached-start : tie.Need-part-play-reached-start
+part-play-reached-start c = search needs
 
-part-play-cleared-end : tie.Need-part-play-cleared-end
-part-play-cleared-end c = search needs
+part-play-reached-end : tie.Need-part-play-reached-end
+part-play-reached-end c = search needs
 
-play-cleared-requires : tie.Need-play-cleared-requires
-play-cleared-requires c κs = same-cleared (c .before .before .before .before .before .before .before .«with-room» .ensures .3) (c .before .before .before .before .before .before .before .before .before .before .before .before .before .before .before .pre .2)
+play-reached-requires : tie.Need-play-reached-requires
+play-reached-requires c κs =
+    let room = c .before .before .before .before .before .before .before in
+    let e = room .«with-room» .ensures in
+    same-reached (e .3) (e .4) (room .before .before .before .before .before .before .before .before .pre .2)
 
 add-t26 : tie.Need-add-t26
 add-t26 c =
-    let made = c .before .before .before .before .before .before .before .before .before .before .before .before .before .play-cleared in
+    let made = c .before .before .before .before .before .before .before .before .before .before .before .before .before .play-reached in
     let room = c .before .before .before .before .before .before .before .before .before .before .before .before .before .before .before .before .before .before .before .before .before in
-    omega (arith, stepped-fits (made .ensures) (made .kept .1 .1 .1 .1 .1 .1 .1 .1 .1 .0), c .before .before .before .before .before .before .before .before .before .before .before .before .before .before .play-cleared-arg5 .given, room .«with-room» .ensures .0, room .before .before .before .before .before .before .before .before .good .1 .1 .1 .1 .1 .1 .0 .0)
+    omega (arith, stepped-fits (made .ensures) (made .kept .1 .1 .1 .1 .1 .1 .1 .1 .0), c .before .before .before .before .before .before .before .before .before .before .before .before .before .before .play-reached-arg5 .given, room .«with-room» .ensures .0, room .before .before .before .before .before .before .before .before .good .1 .1 .1 .1 .1 .1 .0 .0)
 
 same-length : tie.Need-same-length
 same-length c = search needs
@@ -44,14 +47,14 @@ same-length-5 c = search needs
 
 returns : tie.Need-returns
 returns c =
-    let made = c .before .before .before .before .before .before .before .before .before .before .before .before .before .before .before .play-cleared in
+    let made = c .before .before .before .before .before .before .before .before .before .before .before .before .before .before .before .play-reached in
     let room = c .before .before .before .before .before .before .before .before .before .before .before .before .before .before .before .before .before .before .before .before .before .before .before in
     let pre = room .before .before .before .before .before .before .before .before .pre in
     let e = room .«with-room» .ensures in (
-      omega (arith, stepped-fits (made .ensures) (made .kept .1 .1 .1 .1 .1 .1 .1 .1 .1 .0), c .before .before .before .before .before .before .before .before .before .before .before .before .before .before .before .before .play-cleared-arg5 .given, e .0),
+      omega (arith, stepped-fits (made .ensures) (made .kept .1 .1 .1 .1 .1 .1 .1 .1 .0), c .before .before .before .before .before .before .before .before .before .before .before .before .before .before .before .before .play-reached-arg5 .given, e .0),
       e .2,
       stepped-on (made .ensures) (room .«with-room» .result .over) (e .1) (pre .1),
-      step-cleared _ _ _ _ _ _ (made .ensures) (same-cleared (e .3) (pre .2)),
+      step-reached (made .ensures) (same-reached (e .3) (e .4) (pre .2)),
     )
 
 pub play-one-spec : {M : Type 1} → statement M
@@ -59,10 +62,10 @@ play-one-spec =
     tie.close
     (tie.spec
     with-room-requires
-    sub-play-cleared
-    part-play-cleared-start
-    part-play-cleared-end
-    play-cleared-requires
+    sub-play-reached
+    part-play-reached-start
+    part-play-reached-end
+    play-reached-requires
     add-t26
     same-length
     same-length-2

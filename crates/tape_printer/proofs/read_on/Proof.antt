@@ -3,7 +3,7 @@ use mathlib.Core.Path.{_∙_}
 use native.Mathlib.Omega.{arith}
 use lib.ListN.{length-take}
 use borrow.Author.Needs.{needs}
-use Rattle.tape_printer.proofs.Advancing.{same-cleared}
+use Rattle.tape_printer.proofs.Advancing.{same-reached}
 use Rattle.tape_printer.proofs.read_on.Statement.{statement}
 use Rattle.tape_printer.proofs.read_on.Tie as tie
 
@@ -17,7 +17,7 @@ returns : tie.Need-returns
 returns c =
     let entry = c .before .before .before .before .before .before .before .before .before in
     let e = c .before .flush .ensures in
-    (omega (arith, e .0), omega (arith, e .1, e .2, entry .pre .1), omega (arith, e .2, entry .pre .2), same-cleared (e .3) (entry .pre .3))
+    (omega (arith, e .0), omega (arith, e .1, e .2, entry .pre .1), omega (arith, e .2, entry .pre .2), same-reached (e .3) (e .4) (entry .pre .3))
 
 refill-requires : tie.Need-refill-requires
 refill-requires c κs = search needs
@@ -32,7 +32,7 @@ play-one-requires : tie.Need-play-one-requires
 play-one-requires c κs =
     let filled = c .before .before .before .before .before .before .before .before .before .refill .ensures in
     let flushed = c .before .before .before .before .before .before .before .before .before .before .before .before .flush .ensures in
-    (omega (arith, filled .0, flushed .0), omega (arith, filled .1), same-cleared (filled .3 ∙ flushed .3) (c .before .before .before .before .before .before .before .before .before .before .before .before .before .before .before .before .before .before .before .before .pre .3))
+    (omega (arith, filled .0, flushed .0), omega (arith, filled .1), same-reached (filled .3 ∙ flushed .3) (filled .4 ∙ flushed .4) (c .before .before .before .before .before .before .before .before .before .before .before .before .before .before .before .before .before .before .before .before .pre .3))
 
 same-length-2 : tie.Need-same-length-2
 same-length-2 c = search needs
@@ -67,7 +67,7 @@ play-piece-requires : tie.Need-play-piece-requires
 play-piece-requires c κs =
     let filled = c .before .before .before .before .before .before .before .before .before .refill .ensures in
     let flushed = c .before .before .before .before .before .before .before .before .before .before .before .before .flush .ensures in
-    (omega (arith, filled .0, flushed .0), omega (arith, filled .1), same-cleared (filled .3 ∙ flushed .3) (c .before .before .before .before .before .before .before .before .before .before .before .before .before .before .before .before .before .before .before .before .pre .3))
+    (omega (arith, filled .0, flushed .0), omega (arith, filled .1), same-reached (filled .3 ∙ flushed .3) (filled .4 ∙ flushed .4) (c .before .before .before .before .before .before .before .before .before .before .before .before .before .before .before .before .before .before .before .before .pre .3))
 
 same-length-8 : tie.Need-same-length-8
 same-length-8 c = search needs
