@@ -54,13 +54,12 @@ pub record Admitted (h : Head) (x : List ℕ) (t : Tables) (ws : List ℕ) : Typ
   pub wide : length x ≡ h .dimensions
   pub below : h .newest < lastPosition
 
--- whatever is tested behind them
-pub admitted-before : (h : Head) (x : List ℕ) (t : Tables) (ws : List ℕ) (more : List (Bool × Refusal))
-    → watchfulAnswer h t ws ((not (eqb (length x) (h .dimensions)), ColumnCount) ∷ (leb lastPosition (h .newest), TapeFull) ∷ more) ≡ Accepted → Admitted h x t ws
-admitted-before h x t ws more e =
+pub admitted : (h : Head) (x : List ℕ) (t : Tables) (ws : List ℕ) → rowAnswer h x t ws ≡ Accepted → Admitted h x t ws
+unfolding rowAnswer
+admitted h x t ws e =
     let p = watchful-passed h t ws _ e in
     let c = accepted-passed (not (eqb (length x) (h .dimensions))) ColumnCount _ (p .2) in
-    let f = accepted-passed (leb lastPosition (h .newest)) TapeFull more (c .1) in
+    let f = accepted-passed (leb lastPosition (h .newest)) TapeFull [] (c .1) in
     record {
       passed = p .0;
       untorn = p .1;
@@ -68,19 +67,18 @@ admitted-before h x t ws more e =
       below = leb-false lastPosition (h .newest) (f .0);
     }
 
-pub admitted : (h : Head) (x : List ℕ) (t : Tables) (ws : List ℕ) → rowAnswer h x t ws ≡ Accepted → Admitted h x t ws
-unfolding rowAnswer
-admitted h x t ws e = admitted-before h x t ws [] e
+-- the rows are few
+pub few-rows : {h : Head} {x : List ℕ} {t : Tables} {ws : List ℕ} → Admitted h x t ws → h .rows ≤ 1024
+few-rows a = omega (arith, a .passed .whole, a .passed .settings)
 
--- what is asked before the rows are marked on 1,024 flags
-pub mark-asks : (h : Head) (x : List ℕ) (t : Tables) (ws : List ℕ) → rowAnswer h x t ws ≡ Accepted
-    → (h .dimensions ≤ length x) × ((h .rows * h .dimensions ≤ length (t .columns)) × ((h .rows ≤ length (t .positions)) × ((h .rows ≤ 1024) × (h .rows ≤ 1024))))
-mark-asks h x t ws e =
+-- what is asked before the rows are marked on this many flags
+pub mark-asks : (h : Head) (x : List ℕ) (t : Tables) (ws : List ℕ) (flags : ℕ) → rowAnswer h x t ws ≡ Accepted → h .rows ≤ flags
+    → (h .dimensions ≤ length x) × ((h .rows * h .dimensions ≤ length (t .columns)) × ((h .rows ≤ length (t .positions)) × ((h .rows ≤ flags) × (h .rows ≤ 1024))))
+mark-asks h x t ws flags e fits =
     let a = admitted h x t ws e in
     let p = a .passed in
     let w = a .wide in
-    let few : h .rows ≤ 1024 = omega (arith, p .whole, p .settings) in
-    (omega arith, (le-trans (mul-le-mul-right (h .dimensions) (p .whole .few-rows)) (p .long .columns), (omega (arith, p .long, p .whole), (few, few))))
+    (omega arith, (le-trans (mul-le-mul-right (h .dimensions) (p .whole .few-rows)) (p .long .columns), (omega (arith, p .long, p .whole), (fits, few-rows a))))
 
 -- ---- room for one row more
 module _ (h : Head) (x : List ℕ) (t : Tables) (p : Passed h t) where
@@ -190,17 +188,13 @@ module _ {h : Head} {x : List ℕ} {t : Tables} {ws : List ℕ} {kept : List Boo
       let stand = rows-stand h t p in
       (v .admitted .below, (v .fits, (stand .0, (stand .1, rw bytes-are (changes-fit h x t ws (p .held) (p .untorn) .bytes-most)))))
 
-  -- the rows are few
-  few-rows : h .rows ≤ 1024
-  few-rows = omega (arith, v .admitted .passed .whole, v .admitted .passed .settings)
-
-  -- what is asked before the rows that do not stay are listed on 1,024 places
-  pub list-asks : (h .rows ≤ length kept) × ((h .rows ≤ 1024) × (h .rows ≤ 1024))
-  list-asks = (v .fits, (few-rows, few-rows))
+  -- what is asked before the rows that do not stay are listed on this many places
+  pub list-asks : {places : ℕ} → h .rows ≤ places → (h .rows ≤ length kept) × ((h .rows ≤ places) × (h .rows ≤ 1024))
+  list-asks fits = (v .fits, (fits, few-rows (v .admitted)))
 
   -- they are no more than the places
-  pub listed-few : {n : ℕ} → n ≡ length (removedPlaces kept (h .rows)) → n ≤ 1024
-  listed-few e = omega (arith, removed-few kept (h .rows), few-rows)
+  pub listed-few : {n places : ℕ} → h .rows ≤ places → n ≡ length (removedPlaces kept (h .rows)) → n ≤ places
+  listed-few fits e = omega (arith, removed-few kept (h .rows))
 
   -- what is asked before the tables are settled
   pub ready : Ready h x lower kept t

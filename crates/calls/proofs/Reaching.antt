@@ -4,12 +4,14 @@ use mathlib.Core.Path.{_≡_, refl, sym, ap, subst, _∙_}
 use mathlib.Core.Logic.{_⊎_, inl, inr}
 use Prim.Native.Nat.{ℕ, _<_}
 use native.Mathlib.Omega.{arith}
+use mathlib.Core.Bool.{Bool, true, false}
 use mathlib.Core.List.{List, map, List·Memᴰ}
 use Rattle.lists.specs.Lists.{run}
 use Rattle.lists.proofs.Members.{into-map, of-map}
 use Rattle.lists.proofs.Runs.{into-run, of-run}
 use Rattle.head.specs.declared.Answer.{Answer}
 use Rattle.head.specs.declared.Head.{Head}
+use Rattle.head.specs.Heads.{freshHead}
 use Rattle.model.specs.Rows.{Row, Tables, rowAt, rowsIn}
 use Rattle.model.specs.Book.{bookRows}
 use Rattle.model.specs.Reference.{Reference, unopened, rowsOf, headOf}
@@ -19,9 +21,9 @@ use Rattle.model.proofs.Sound.{rows-none, rows-few, rows-wide}
 use Rattle.model.proofs.Joined.{Faithful, some-capacity}
 use Rattle.model.proofs.Reached.{reached-by, reached-judged, reached-names}
 use Rattle.rows.specs.Lent.{Cleared}
-use Rattle.rows.proofs.Clears.{cleared-zeros, cleared-filled}
+use Rattle.rows.proofs.Clears.{cleared-all, cleared-filled}
 use Rattle.changes.specs.Sought.{Named}
-use Rattle.calls.specs.Left.{world, quoteTests, rowAnswer, reachedAnswer}
+use Rattle.calls.specs.Left.{world, quoteTests, rowAnswer, reachedAnswer, usedRows}
 
 -- a quote on it is answered by its settings and the quote's own tests
 pub reached-answers : {h : Head} (x : List ℕ) {t : Tables} {ws : List ℕ} {a : Answer} → Reached (world h t ws) → a ≡ reachedAnswer h x → a ≡ rowAnswer h x t ws
@@ -31,7 +33,7 @@ reached-answers {h} x r e = e ∙ sym (reached-judged (quoteTests h x) r)
 -- before any opening the head is one of zeros
 unopened-cleared : (l : Lent) → Cleared (headOf unopened) (headOf unopened .rows) (l .tables)
 unfolding headOf
-unopened-cleared l = rw (rows-none unopened refl) (cleared-zeros (l .tables))
+unopened-cleared l = rw (rows-none unopened refl) (cleared-all (freshHead 0 0 0) (l .tables))
 
 -- from then on it counts the rows that fill the tables
 faithful-cleared : (s : Reference) (l : Lent) → Faithful s l → Cleared (headOf s) (headOf s .rows) (l .tables)
@@ -41,8 +43,14 @@ faithful-cleared s l f =
     (cleared-filled (headOf s) (rowsOf s) (l .tables) refl (rows-few s (some-capacity s l f)) (omega (arith, cells-counted (s .dimensions) (rowsOf s) (rows-wide s (f .wide)))))
 
 -- so only the places of the rows are in use
-pub reached-cleared : {w : World} → Reached w → Cleared (w .head) (w .head .rows) (w .lent .tables)
+reached-cleared : {w : World} → Reached w → Cleared (w .head) (w .head .rows) (w .lent .tables)
 reached-cleared = reached-by (λ w. Cleared (w .head) (w .head .rows) (w .lent .tables)) unopened-cleared faithful-cleared
+
+-- in any other book every place may be
+pub used-cleared : (h : Head) (t : Tables) (ws : List ℕ) (reached : Bool) {used : ℕ} → (reached ≡ true → Reached (world h t ws)) → used ≡ usedRows h reached → Cleared h used t
+unfolding usedRows
+used-cleared h t ws true r e = rw e (reached-cleared (r refl))
+used-cleared h t ws false r e = rw e (cleared-all h t)
 
 -- each lower end is 0 or names a row
 pub reached-named : {w : World} → Reached w → Named (w .lent .tables .positions) (w .lent .tables .lowerEnds) (w .head .rows)

@@ -1,16 +1,16 @@
 // The quote: judged, its changes written for each watch, and its row taken into the tables.
 ghost use mathlib.Core.Path.{_≡_};
 ghost use Prim.Native.Nat.{_≤_, _<_};
+ghost use mathlib.Core.Bool.{true};
 ghost use lib.Dec.{ltb};
 ghost use lib.ListN.{length};
 ghost use Rattle.head.specs.declared.Answer.the-variants.{Accepted};
 ghost use Rattle.head.specs.Heads.{lastPosition};
 ghost use Rattle.head.specs.Refusals.{first, settled};
 ghost use Rattle.model.specs.Calls.{Reached};
-ghost use Rattle.rows.specs.Lent.{Cleared};
 ghost use Rattle.changes.specs.Flagged.{flagged};
 ghost use Rattle.changes.specs.Watches.{allFrames};
-ghost use Rattle.calls.specs.Left.{tables, world, quoteTests, rowAnswer, reachedAnswer, Quoted};
+ghost use Rattle.calls.specs.Left.{tables, world, quoteTests, rowAnswer, reachedAnswer, usedRows, Quoted};
 use crate::judging::judge_settings;
 use crate::judging::judge_watchful;
 use crate::judging::with_test;
@@ -80,37 +80,52 @@ fn overflows(
     room < count_all_changes(watches, head, keep, positions, lower_ends, gone, lower)
 }
 
-// Takes a quote that passed every test but the last: its changes are written and its row is put into the tables, if the changes fit.
-fn accept(
+// Below which number of rows the places of the tables may be in use.
+fn used_rows(head: Head, reached: bool) -> u32
+    ensures { λ r. ⌜ r ≡ usedRows head reached ⌝ }
+{
+    if reached {
+        return head.rows;
+    }
+    head.capacity
+}
+
+// Takes a quote that passed every test but the last, with a flag and a place for each row: its changes are written and its row is put
+// into the tables, if the changes fit.
+fn accept_with(
+    keep: &mut [bool],
+    places: &mut [u16],
     head: Head,
     quote: &[u32],
-    used: u32,
+    reached: bool,
     columns: &mut [u32],
     positions: &mut [u32],
     lower_ends: &mut [u32],
     watches: [u32; 8],
     out: &mut [u8],
 ) -> Reply
+    requires { ⌜ head .rows ≤ length (now keep) ⌝ }
+    requires { ⌜ head .rows ≤ length (now places) ⌝ }
     requires { ⌜ rowAnswer head (now quote) (tables (now columns) (now positions) (now «lower_ends»)) watches ≡ Accepted ⌝ }
-    requires { ⌜ Cleared head used (tables (now columns) (now positions) (now «lower_ends»)) ⌝ }
+    requires { ⌜ (reached ≡ true → Reached (world head (tables (now columns) (now positions) (now «lower_ends»)) watches)) ⌝ }
     ensures { λ r. ⌜ Quoted head (now (quote .entry)) (tables (now (columns .entry)) (now (positions .entry)) (now («lower_ends» .entry))) watches (now (out .entry)) r (tables (now (columns .exit)) (now (positions .exit)) (now («lower_ends» .exit))) (now (out .exit)) ⌝ }
 {
-    let mut keep = [false; 1024];
     let gone = difference(head.newest + 1, head.capacity);
+    let rows = head.rows as usize;
     let lower = mark(
         head.directions,
         head.dimensions as usize,
         columns,
         positions,
-        head.rows as usize,
+        rows,
         quote,
         gone,
-        &mut keep,
+        keep,
     );
     if overflows(
         watches,
         head,
-        &keep,
+        keep,
         positions,
         lower_ends,
         gone,
@@ -123,25 +138,25 @@ fn accept(
             count: 0,
         };
     }
-    let mut places = [0u16; 1024];
-    let length = list_removed(&keep, head.rows as usize, &mut places);
+    let length = list_removed(keep, rows, places);
     let count = write_all_changes(
         watches,
         head,
-        &keep,
+        keep,
         &places[..length],
         positions,
         lower_ends,
         gone,
         lower,
-        false,
+        reached,
         out,
     );
-    let rows = settle(
+    let used = used_rows(head, reached);
+    let left = settle(
         head,
         quote,
         lower,
-        &keep,
+        keep,
         used,
         columns,
         positions,
@@ -149,9 +164,52 @@ fn accept(
     );
     Reply {
         answer: Answer::Accepted,
-        head: head.after_quote(rows),
+        head: head.after_quote(left),
         count,
     }
+}
+
+// Takes a quote that passed every test but the last, with flags and places of its own: few for few rows, since each is zeroed.
+fn accept(
+    head: Head,
+    quote: &[u32],
+    reached: bool,
+    columns: &mut [u32],
+    positions: &mut [u32],
+    lower_ends: &mut [u32],
+    watches: [u32; 8],
+    out: &mut [u8],
+) -> Reply
+    requires { ⌜ rowAnswer head (now quote) (tables (now columns) (now positions) (now «lower_ends»)) watches ≡ Accepted ⌝ }
+    requires { ⌜ (reached ≡ true → Reached (world head (tables (now columns) (now positions) (now «lower_ends»)) watches)) ⌝ }
+    ensures { λ r. ⌜ Quoted head (now (quote .entry)) (tables (now (columns .entry)) (now (positions .entry)) (now («lower_ends» .entry))) watches (now (out .entry)) r (tables (now (columns .exit)) (now (positions .exit)) (now («lower_ends» .exit))) (now (out .exit)) ⌝ }
+{
+    if head.rows <= 128 {
+        return accept_with(
+            &mut [false; 128],
+            &mut [0u16; 128],
+            head,
+            quote,
+            reached,
+            columns,
+            positions,
+            lower_ends,
+            watches,
+            out,
+        );
+    }
+    accept_with(
+        &mut [false; 1024],
+        &mut [0u16; 1024],
+        head,
+        quote,
+        reached,
+        columns,
+        positions,
+        lower_ends,
+        watches,
+        out,
+    )
 }
 
 // Takes a quote that has this answer but for the output: where it is refused everything lent stays as it was.
@@ -159,7 +217,7 @@ fn take(
     answer: Answer,
     head: Head,
     quote: &[u32],
-    used: u32,
+    reached: bool,
     columns: &mut [u32],
     positions: &mut [u32],
     lower_ends: &mut [u32],
@@ -167,7 +225,7 @@ fn take(
     out: &mut [u8],
 ) -> Reply
     requires { ⌜ answer ≡ rowAnswer head (now quote) (tables (now columns) (now positions) (now «lower_ends»)) watches ⌝ }
-    requires { ⌜ Cleared head used (tables (now columns) (now positions) (now «lower_ends»)) ⌝ }
+    requires { ⌜ (reached ≡ true → Reached (world head (tables (now columns) (now positions) (now «lower_ends»)) watches)) ⌝ }
     ensures { λ r. ⌜ Quoted head (now (quote .entry)) (tables (now (columns .entry)) (now (positions .entry)) (now («lower_ends» .entry))) watches (now (out .entry)) r (tables (now (columns .exit)) (now (positions .exit)) (now («lower_ends» .exit))) (now (out .exit)) ⌝ }
 {
     match answer {
@@ -183,36 +241,7 @@ fn take(
     accept(
         head,
         quote,
-        used,
-        columns,
-        positions,
-        lower_ends,
-        watches,
-        out,
-    )
-}
-
-// Takes a quote on tables of which only the places below used rows are in use: writes the changes of every watch, puts the quote's
-// row into the tables, and hands back the next head and how many bytes were written.
-pub fn quote_cleared(
-    head: Head,
-    quote: &[u32],
-    used: u32,
-    columns: &mut [u32],
-    positions: &mut [u32],
-    lower_ends: &mut [u32],
-    watches: [u32; 8],
-    out: &mut [u8],
-) -> Reply
-    requires { ⌜ Cleared head used (tables (now columns) (now positions) (now «lower_ends»)) ⌝ }
-    ensures { λ r. ⌜ Quoted head (now (quote .entry)) (tables (now (columns .entry)) (now (positions .entry)) (now («lower_ends» .entry))) watches (now (out .entry)) r (tables (now (columns .exit)) (now (positions .exit)) (now («lower_ends» .exit))) (now (out .exit)) ⌝ }
-{
-    let answer = judge_row(head, quote, columns, positions, lower_ends, watches);
-    take(
-        answer,
-        head,
-        quote,
-        used,
+        reached,
         columns,
         positions,
         lower_ends,
@@ -238,7 +267,7 @@ pub fn quote(
         answer,
         head,
         quote,
-        head.capacity,
+        false,
         columns,
         positions,
         lower_ends,
@@ -265,7 +294,7 @@ pub fn quote_reached(
         answer,
         head,
         quote,
-        head.rows,
+        true,
         columns,
         positions,
         lower_ends,

@@ -1,6 +1,8 @@
--- `quote` meets its contract: every place of the tables may be in use.
+-- `quote` meets its contract: it is judged, and takes the tables for any.
+use mathlib.Core.Path.{refl}
+use mathlib.Core.Bool.{false}
 use borrow.Author.Needs.{needs}
-use Rattle.rows.proofs.Clears.{cleared-all}
+use Rattle.lists.proofs.Booleans.{clash}
 use Rattle.calls.proofs.quoting.quote.Statement.{statement}
 use Rattle.calls.proofs.quoting.quote.Tie as tie
 
@@ -8,7 +10,7 @@ judge-row-requires : tie.Need-judge-row-requires
 judge-row-requires c κs = search needs
 
 take-requires : tie.Need-take-requires
-take-requires c κs = (c .before .before .before .before .judge-row .ensures, cleared-all _ _)
+take-requires c κs = (c .before .before .before .before .judge-row .ensures, λ e. absurd (clash false e refl))
 
 same-length : tie.Need-same-length
 same-length c = search needs

@@ -1,6 +1,6 @@
--- `quote_reached` meets its contract: a book that calls left is answered by the settings and the quote, and only its rows' places are in use.
+-- `quote_reached` meets its contract: a book that calls left is answered by the settings and the quote.
 use borrow.Author.Needs.{needs}
-use Rattle.calls.proofs.Reaching.{reached-answers, reached-cleared}
+use Rattle.calls.proofs.Reaching.{reached-answers}
 use Rattle.calls.proofs.quoting.quote_reached.Statement.{statement}
 use Rattle.calls.proofs.quoting.quote_reached.Tie as tie
 
@@ -8,7 +8,10 @@ judge-reached-requires : tie.Need-judge-reached-requires
 judge-reached-requires c κs = search needs
 
 take-requires : tie.Need-take-requires
-take-requires c κs = let entry = c .before .before .before .before .before .before .before .before .before .before in (reached-answers _ (entry .pre) (c .before .before .before .before .judge-reached .ensures), reached-cleared (entry .pre))
+take-requires c κs =
+    let judged = c .before .before .before .before in
+    let entry = judged .before .before .before .before .before .before in
+    (reached-answers _ (entry .pre) (judged .judge-reached .ensures), λ _. entry .pre)
 
 same-length : tie.Need-same-length
 same-length c = search needs

@@ -15,7 +15,10 @@ returns : tie.Need-returns
 returns c = quote-refused _ _ _ _ _ (c .before .before .before .before .before .before .before .pre .0) (c .enum-told2 .given .1)
 
 accept-requires : tie.Need-accept-requires
-accept-requires c κs = let entry = c .before .before .before .before .before .before .before .before .before .before .before in (sym (entry .pre .0) ∙ c .before .before .before .before .enum-told .given .1, entry .pre .1)
+accept-requires c κs =
+    let told = c .before .before .before .before in
+    let entry = told .before .before .before .before .before .before .before in
+    (sym (entry .pre .0) ∙ told .enum-told .given .1, entry .pre .1)
 
 same-length : tie.Need-same-length
 same-length c = search needs
