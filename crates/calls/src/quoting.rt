@@ -123,7 +123,7 @@ fn accept(
         head,
         quote,
         lower,
-        &keep,
+        &places[..length],
         used,
         columns,
         positions,

@@ -1,7 +1,8 @@
 -- `accept` meets its contract: what is marked tells the changes and the rows that stay; nothing is written before the room is known.
-use mathlib.Core.Path.{sym, ap, _∙_}
+use mathlib.Core.Path.{_≡_, sym, ap, _∙_}
+use Prim.Native.Nat.{_≤_}
 use native.Mathlib.Omega.{arith}
-use lib.ListN.{length}
+use lib.ListN.{length, take}
 use denote.Ref.{now}
 use borrow.Author.Needs.{needs}
 use Rattle.calls.specs.Left.{tables}
@@ -79,22 +80,33 @@ entry c = marks c .before .before .before .before .before .before .before .befor
 slice-aggregate-write-all-changes : tie.Need-slice-aggregate-write-all-changes
 slice-aggregate-write-all-changes c = search needs
 
+-- the list is no longer than the places
+fits : (c : tie.After-list-removed) → c .list-removed .result ≤ 1024
+fits c = listed-few (known (marks c)) (c .list-removed .ensures .0)
+
+-- and is as long as was counted
+long : (c : tie.After-list-removed) → c .list-removed .result ≡ length (take (c .list-removed .result) (c .list-removed .last .1 .1 .0))
+long c = c .list-removed .ensures .0 ∙ sym (ap length (c .list-removed .ensures .1))
+
 array-share-prefix-places : tie.Need-array-share-prefix-places
-array-share-prefix-places c = omega (arith, listed-few (known (marks (c .before .before))) (c .before .before .list-removed .ensures .0))
+array-share-prefix-places c = omega (arith, fits (c .before .before))
 
 slice-aggregate-write-all-changes-2 : tie.Need-slice-aggregate-write-all-changes-2
-slice-aggregate-write-all-changes-2 c = let r = c .before .before .before .list-removed .ensures in r .0 ∙ sym (ap length (r .1))
+slice-aggregate-write-all-changes-2 c = long (c .before .before .before)
 
 write-all-changes-requires : tie.Need-write-all-changes-requires
 write-all-changes-requires c κs =
     let listed = c .before .before .before .before .before .before in
     write-asks (known (marks listed)) (now (entry listed .args .out)) (tested listed .before .overflows .ensures) (tested listed .if1 .left) (listed .list-removed .ensures .1)
 
+array-share-prefix-places-2 : tie.Need-array-share-prefix-places-2
+array-share-prefix-places-2 c = omega (arith, fits (c .before .before .before .before .before .before .before .before .before))
+
 slice-aggregate-settle : tie.Need-slice-aggregate-settle
-slice-aggregate-settle c = search needs
+slice-aggregate-settle c = long (c .before .before .before .before .before .before .before .before .before .before)
 
 settle-requires : tie.Need-settle-requires
-settle-requires c κs = let listed = c .before .before .before .before .before .before .before .before .before .before .before .before .before in (ready (known (marks listed)), entry listed .pre .1)
+settle-requires c κs = let listed = c .before .before .before .before .before .before .before .before .before .before .before .before .before in (ready (known (marks listed)) (listed .list-removed .ensures .1), entry listed .pre .1)
 
 after-quote-requires : tie.Need-after-quote-requires
 after-quote-requires c κs = search needs
@@ -143,6 +155,7 @@ accept-spec =
     array-share-prefix-places
     slice-aggregate-write-all-changes-2
     write-all-changes-requires
+    array-share-prefix-places-2
     slice-aggregate-settle
     settle-requires
     after-quote-requires
