@@ -29,10 +29,9 @@ use Rattle.head.proofs.Answers.{accepted-passed, first-more, first-holds, first
 use Rattle.model.specs.Rows.{Row, Tables, rowAt, rowsIn, filled, expiring, remains, remaining, lowerEndAmong, rowsAfter}
 use Rattle.model.specs.Book.{tornWatches, bookRows, watchfulAnswer, quoteRows, quoteHead, quoteBytes, quoteAnswer, quoteReply, quoteTables, quoteOut}
 use Rattle.model.proofs.ChangesFit.{changes-fit}
-use Rattle.cells.specs.Selected.{selected}
 use Rattle.cells.specs.Removed.{removedPlaces}
 use Rattle.cells.proofs.Selecting.{selected-filter}
-use Rattle.cells.proofs.Removals.{removed-few}
+use Rattle.cells.proofs.Removals.{removed-few, stays-removed, listed-removed}
 use Rattle.rows.specs.Lent.{rowsLeft, rowsNext, Ready}
 use Rattle.rows.proofs.Reading.{length-rows}
 use Rattle.changes.specs.Flagged.{flagged}
@@ -141,7 +140,6 @@ pub record Marked (h : Head) (x : List ℕ) (t : Tables) (ws : List ℕ) (kept :
   pub eight : length ws ≡ 8
   pub fits : h .rows ≤ length kept
   pub found : Found (h .dimensions) (h .directions) (h .capacity) (h .newest) (h .rows) (bookRows h t) x kept gone lower
-  pub selects : selected kept (bookRows h t) ≡ rowsLeft h x t
 
 module _ (h : Head) (x : List ℕ) (t : Tables) (ws : List ℕ) where
   pub marked : {kept : List Bool} {gone lower : ℕ} → rowAnswer h x t ws ≡ Accepted → length ws ≡ 8 → gone ≡ h .newest + 1 - h .capacity → (before : List Bool)
@@ -156,7 +154,6 @@ module _ (h : Head) (x : List ℕ) (t : Tables) (ws : List ℕ) where
         eight = w;
         fits = rw (flags, length-append) (omega (arith, long));
         found = record { expired = g; flags = rw flags (take-at (map stays rs) (drop (h .rows) before) (h .rows) long); sought = l ∙ lower-bare (h .dimensions) (h .directions) gone (h .rows) x t };
-        selects = rw (flags, g) (selected-filter _ _ _);
       }
     where
       stays : Row → Bool
@@ -197,9 +194,9 @@ module _ {h : Head} {x : List ℕ} {t : Tables} {ws : List ℕ} {kept : List Boo
   listed-few fits e = omega (arith, removed-few kept (h .rows))
 
   -- what is asked before the tables are settled
-  pub ready : Ready h x lower kept t
-  unfolding expiring
-  ready =
+  pub ready : {removed : List ℕ} → removed ≡ removedPlaces kept (h .rows) → Ready h x lower removed t
+  unfolding remaining
+  ready r =
       let p = v .admitted .passed in
       record {
         few = p .settings .small-capacity;
@@ -209,9 +206,9 @@ module _ {h : Head} {x : List ℕ} {t : Tables} {ws : List ℕ} {kept : List Boo
         columns-fit = p .long .columns;
         positions-fit = p .long .positions;
         lower-ends-fit = p .long .lowerEnds;
-        flags-fit = v .fits;
+        listed = rw r (listed-removed kept (h .rows) (v .fits));
         wide = v .admitted .wide;
-        selects = v .selects;
+        selects = rw (r, stays-removed kept (h .rows) (v .fits), v .found .flags, v .found .expired) (selected-filter _ _);
         lower≡ = rw (v .found .expired) at (v .found .sought);
         room = rows-room h x t p;
       }

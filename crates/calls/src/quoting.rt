@@ -156,7 +156,7 @@ fn accept_with(
         head,
         quote,
         lower,
-        keep,
+        &places[..length],
         used,
         columns,
         positions,

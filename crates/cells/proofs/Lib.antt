@@ -2,7 +2,6 @@
 pub mod Clearing
 pub mod Pasting
 pub mod Selecting
-pub mod Running
 pub mod Gathering
 pub mod Renaming
 pub mod Blanks

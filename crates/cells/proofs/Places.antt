@@ -1,4 +1,4 @@
--- Laws of the next place that passes a test, and of places tested by blocks of 16.
+-- Laws of the next place that passes a test, of the places that pass, and of places tested by blocks of 16.
 use mathlib.Core.Path.{_≡_, refl, sym, ap, _∙_}
 use mathlib.Core.Logic.{_⊎_, inl, inr}
 use Prim.Native.Nat.{ℕ, zero, suc, _+_, _-_, _≤_, _<_}
@@ -7,7 +7,9 @@ use native.Mathlib.Numerals.{add-one}
 use native.Mathlib.Decide.{decLt}
 use native.Mathlib.Omega.{arith}
 use mathlib.Core.Bool.{Bool, true, false, _||_, cond}
-use Rattle.lists.specs.Lists.{any, run}
+use mathlib.Core.List.{List}
+use lib.ListN.{length, getD}
+use Rattle.lists.specs.Lists.{keep, filter, any, run}
 use Rattle.lists.proofs.Filters.{any-append}
 use Rattle.lists.proofs.Runs.{run-snoc, order}
 use Rattle.cells.specs.Removed.{nextOf, nextPlace}
@@ -126,3 +128,38 @@ module _ (test : ℕ → Bool) where
         go : Dec (r < count) → nextPlace test count r ≡ r
         go (yes l) = next-here r l (some l)
         go (no l) = next-past r (omega arith) ∙ omega arith
+
+  -- the places from a on and below z that pass
+  module _ (z : ℕ) where
+    abbrev passing : ℕ → ℕ → List ℕ
+    passing a n = filter test (run a n)
+
+    first-passing : (a n : ℕ) → getD (passing a n) 0 z ≡ nextOf test z a n
+    unfolding filter run nextOf
+    first-passing a zero = refl
+    first-passing a (suc n) = go (test a) (first-passing (suc a) n)
+      where
+        go : (b : Bool) → getD (passing (suc a) n) 0 z ≡ nextOf test z (suc a) n → getD (keep b a (passing (suc a) n)) 0 z ≡ cond b a (nextOf test z (suc a) n)
+        go true e = refl
+        go false e = e
+
+    -- the first of them is the next place that passes
+    pub passing-first : (a n : ℕ) → a + n ≡ z → getD (passing a n) 0 z ≡ nextPlace test z a
+    unfolding nextPlace
+    passing-first a n e = let m : z - a ≡ n = omega arith in rw m (first-passing a n)
+
+    -- each is below z, and the one behind it is the next that passes from there on
+    pub passing-next : (a n k : ℕ) → a + n ≡ z → k < length (passing a n)
+        → (getD (passing a n) k z < z) × (getD (passing a n) (suc k) z ≡ nextPlace test z (suc (getD (passing a n) k z)))
+    unfolding filter run
+    passing-next a zero k e h = absurd (omega arith)
+    passing-next a (suc n) k e h = go (test a) k h (λ j l. passing-next (suc a) n j (omega arith) l)
+      where
+        R : List ℕ
+        R = passing (suc a) n
+
+        go : (b : Bool) (k : ℕ) → k < length (keep b a R) → ((j : ℕ) → j < length R → (getD R j z < z) × (getD R (suc j) z ≡ nextPlace test z (suc (getD R j z))))
+            → (getD (keep b a R) k z < z) × (getD (keep b a R) (suc k) z ≡ nextPlace test z (suc (getD (keep b a R) k z)))
+        go true zero l r = (omega arith, passing-first (suc a) n (omega arith))
+        go true (suc k) l r = r k (omega arith)
+        go false k l r = r k l

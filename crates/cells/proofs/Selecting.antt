@@ -1,7 +1,5 @@
 -- Laws of the elements that flags select.
 use mathlib.Core.Path.{_≡_, refl, ap, _∙_}
-use Prim.Native.Nat.{_≤_}
-use native.Mathlib.Omega.{arith}
 use mathlib.Core.Bool.{Bool, true, false}
 use mathlib.Core.List.{List, [], _∷_, _++_, map}
 use lib.ListN.{length, getD}
@@ -21,21 +19,11 @@ module _ {A : Type 0} where
       go true = refl
       go false = refl
 
-  -- the flags of a test select its filter, whatever flags stand behind them
-  pub selected-filter : (f : A → Bool) (l : List A) (more : List Bool) → selected (map f l ++ more) l ≡ filter f l
+  -- the flags of a test select its filter
+  pub selected-filter : (f : A → Bool) (l : List A) → selected (map f l) l ≡ filter f l
   unfolding selected filter
-  selected-filter f [] more = refl
-  selected-filter f (x ∷ xs) more = ap (keep (f x) x) (selected-filter f xs more)
-
-  pub length-selected : (flags : List Bool) (l : List A) → length (selected flags l) ≤ length l
-  unfolding selected
-  length-selected flags [] = omega arith
-  length-selected [] (x ∷ xs) = omega arith
-  length-selected (b ∷ bs) (x ∷ xs) = go b (length-selected bs xs)
-    where
-      go : (c : Bool) → length (selected bs xs) ≤ length xs → length (keep c x (selected bs xs)) ≤ length (x ∷ xs)
-      go true h = omega arith
-      go false h = omega arith
+  selected-filter f [] = refl
+  selected-filter f (x ∷ xs) = ap (keep (f x) x) (selected-filter f xs)
 
 pub map-selected : {A B : Type 0} (g : A → B) (flags : List Bool) (l : List A) → map g (selected flags l) ≡ selected flags (map g l)
 unfolding selected

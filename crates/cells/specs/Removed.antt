@@ -1,9 +1,10 @@
--- The next place that passes a test, and the places of the rows that do not stay.
+-- The next place that passes a test, the places of the rows that do not stay, and the flags that such places make.
+use mathlib.Core.Path.{_≡_}
 use Prim.Native.Nat.{ℕ, zero, suc, _-_}
 use mathlib.Core.Bool.{Bool, false, not, cond}
-use mathlib.Core.List.{List}
+use mathlib.Core.List.{List, map}
 use lib.ListN.{getD}
-use Rattle.lists.specs.Lists.{filter, run}
+use Rattle.lists.specs.Lists.{filter, run, contains}
 
 -- the first of the k places from i on that passes the test, or z where none does
 unfoldable pub nextOf : (ℕ → Bool) → ℕ → ℕ → ℕ → ℕ
@@ -21,3 +22,11 @@ nextRemoved kept count i = nextPlace (λ k. not (getD kept k false)) count i
 -- the places below count whose rows do not stay, rising
 unfoldable pub removedPlaces : List Bool → ℕ → List ℕ
 removedPlaces kept count = filter (λ i. not (getD kept i false)) (run 0 count)
+
+-- for each place below count whether its row stays: it is not among those removed
+unfoldable pub stays : List ℕ → ℕ → List Bool
+stays removed count = map (λ i. not (contains i removed)) (run 0 count)
+
+-- these are places below count, each once and rising
+pub record Listed (removed : List ℕ) (count : ℕ) : Type 0 where
+  pub listed : removed ≡ removedPlaces (stays removed count) count

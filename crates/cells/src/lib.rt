@@ -1,14 +1,15 @@
-// Cells of one lent table: the kept ones moved to the front, others put behind them, and zeros up to a place.
+// Cells of one lent table: those that are not removed moved to the front, others put behind them, and zeros up to a place.
 ghost use mathlib.Core.Path.{_≡_};
 ghost use mathlib.Core.Bool.{cond};
 ghost use Prim.Native.Nat.{_+_, _*_, _≤_, _<_, max};
 ghost use mathlib.Core.List.{[], _∷_, _++_, map};
-ghost use lib.ListN.{length, take, drop};
+ghost use lib.ListN.{length, getD, take, drop};
 ghost use lib.Seq.{paste};
 ghost use Rattle.lists.specs.Lists.{flat, padded};
 ghost use Rattle.model.specs.Rows.{renamed};
 ghost use Rattle.cells.specs.Blank.{Blank};
-ghost use Rattle.cells.specs.Selected.{selected, columnsIn, allKept, Kept, RunEnd, Gathered};
+ghost use Rattle.cells.specs.Removed.{stays, Listed};
+ghost use Rattle.cells.specs.Selected.{selected, columnsIn, Gathered};
 
 mod removing;
 
@@ -66,68 +67,34 @@ fn move_cells(cells: &mut [u32], from: usize, to: usize, n: usize)
     put(cells, to, &held[..n]);
 }
 
-// Whether the 32 flags from a place on are all set.
-fn block_kept(keep: &[bool], at: usize) -> bool
-    requires { ⌜ at + 32 ≤ length (now keep) ⌝ }
-    ensures { λ r. ⌜ r ≡ allKept (now (keep .entry)) at 32 ⌝ }
+// The end of the run of kept rows before the removed place of number k; where there is none, count.
+fn run_end(removed: &[u16], k: usize, count: usize) -> usize
+    ensures { λ r. ⌜ r ≡ getD (now (removed .entry)) k count ⌝ }
 {
-    let mut all = true;
-    let mut j = 0;
-    while j < 32 {
-        all = all & keep[at + j];
-        j += 1;
+    if k < removed.len() {
+        return removed[k] as usize;
     }
-    all
+    count
 }
 
-// Passes blocks of 32 rows that are all kept.
-fn pass_blocks(keep: &[bool], from: usize, count: usize) -> usize
-    requires { ⌜ from ≤ count ⌝ }
-    requires { ⌜ count ≤ length (now keep) ⌝ }
-    ensures { λ r. ⌜ Kept (now (keep .entry)) from count r ⌝ }
-{
-    let mut i = from;
-    while 32 <= count - i {
-        if !block_kept(keep, i) {
-            return i;
-        }
-        i += 32;
-    }
-    i
-}
-
-// The end of the run of kept rows from a place on: the first row that is not kept, or count.
-fn run_end(keep: &[bool], from: usize, count: usize) -> usize
-    requires { ⌜ from ≤ count ⌝ }
-    requires { ⌜ count ≤ length (now keep) ⌝ }
-    ensures { λ r. ⌜ RunEnd (now (keep .entry)) from count r ⌝ }
-{
-    let mut i = pass_blocks(keep, from, count);
-    while i < count {
-        if !keep[i] {
-            return i;
-        }
-        i += 1;
-    }
-    i
-}
-
-// Moves the kept ones of count rows of d cells to the front, each run of them as one piece; gives the place behind them.
-fn gather_rows(keep: &[bool], d: usize, count: usize, cells: &mut [u32]) -> usize
-    requires { ⌜ count ≤ length (now keep) ⌝ }
+// Moves the kept ones of count rows of d cells to the front, each run of them as one piece; removed has the places of the others. Gives
+// the place behind them.
+fn gather_rows(removed: &[u16], d: usize, count: usize, cells: &mut [u32]) -> usize
+    requires { ⌜ Listed (now removed) count ⌝ }
     requires { ⌜ count * d ≤ length (now cells) ⌝ }
     requires { ⌜ count * d ≤ 6144 ⌝ }
-    ensures { λ r. ⌜ Gathered r (count * d) (flat (selected (now (keep .entry)) (columnsIn d count (now (cells .entry))))) (now (cells .entry)) (now (cells .exit)) ⌝ }
+    ensures { λ r. ⌜ Gathered r (count * d) (flat (selected (stays (now (removed .entry)) count) (columnsIn d count (now (cells .entry))))) (now (cells .entry)) (now (cells .exit)) ⌝ }
 {
-    let mut at = run_end(keep, 0, count);
+    let mut at = run_end(removed, 0, count);
     let mut to = at * d;
-    while at < count {
+    let mut k = 0;
+    while k < removed.len() {
         let first = at + 1;
-        let end = run_end(keep, first, count);
-        let n = (end - first) * d;
+        k += 1;
+        at = run_end(removed, k, count);
+        let n = (at - first) * d;
         move_cells(cells, first * d, to, n);
         to += n;
-        at = end;
     }
     to
 }
@@ -148,10 +115,10 @@ fn rename(cells: &mut [u32], gone: u32, count: usize)
     }
 }
 
-// Keeps the kept ones of count rows of d cells, puts one row more behind them, and zeros the cells from there up to a place; those
-// from used on are zeros already.
+// Keeps those of count rows of d cells that are not removed, puts one row more behind them, and zeros the cells from there up to a
+// place; those from used on are zeros already.
 pub fn settle_rows(
-    keep: &[bool],
+    removed: &[u16],
     d: usize,
     count: usize,
     row: &[u32],
@@ -159,24 +126,24 @@ pub fn settle_rows(
     places: usize,
     cells: &mut [u32],
 )
-    requires { ⌜ count ≤ length (now keep) ⌝ }
+    requires { ⌜ Listed (now removed) count ⌝ }
     requires { ⌜ places ≤ length (now cells) ⌝ }
     requires { ⌜ places ≤ 6144 ⌝ }
-    requires { ⌜ length (flat (selected (now keep) (columnsIn d count (now cells)))) + length (now row) ≤ places ⌝ }
+    requires { ⌜ length (flat (selected (stays (now removed) count) (columnsIn d count (now cells)))) + length (now row) ≤ places ⌝ }
     requires { ⌜ count * d ≤ used ⌝ }
     requires { ⌜ Blank used places (now cells) ⌝ }
-    ensures { λ _. ⌜ now (cells .exit) ≡ padded places (flat (selected (now (keep .entry)) (columnsIn d count (now (cells .entry)))) ++ now (row .entry)) (now (cells .entry)) ⌝ }
+    ensures { λ _. ⌜ now (cells .exit) ≡ padded places (flat (selected (stays (now (removed .entry)) count) (columnsIn d count (now (cells .entry)))) ++ now (row .entry)) (now (cells .entry)) ⌝ }
 {
-    let at = gather_rows(keep, d, count, cells);
+    let at = gather_rows(removed, d, count, cells);
     put(cells, at, row);
     let end = at + row.len();
     clear(cells, end, larger(end, used));
 }
 
-// Keeps the kept ones of count cells, each renamed once position gone has expired, puts one cell more behind them, and
+// Keeps those of count cells that are not removed, each renamed once position gone has expired, puts one cell more behind them, and
 // zeros the cells from there up to a place; those from used on are zeros already. Gives how many are left.
 pub fn settle_cells(
-    keep: &[bool],
+    removed: &[u16],
     gone: u32,
     count: usize,
     last: u32,
@@ -184,17 +151,17 @@ pub fn settle_cells(
     places: usize,
     cells: &mut [u32],
 ) -> usize
-    requires { ⌜ count ≤ length (now keep) ⌝ }
+    requires { ⌜ Listed (now removed) count ⌝ }
     requires { ⌜ places ≤ length (now cells) ⌝ }
     requires { ⌜ places ≤ 6144 ⌝ }
-    requires { ⌜ length (selected (now keep) (take count (now cells))) < places ⌝ }
+    requires { ⌜ length (selected (stays (now removed) count) (take count (now cells))) < places ⌝ }
     requires { ⌜ count ≤ used ⌝ }
     requires { ⌜ Blank used places (now cells) ⌝ }
-    ensures { λ r. ⌜ r ≡ length (selected (now (keep .entry)) (take count (now (cells .entry)))) + 1 ⌝ }
-    ensures { λ _. ⌜ now (cells .exit) ≡ padded places (map (renamed gone) (selected (now (keep .entry)) (take count (now (cells .entry)))) ++ (last ∷ [])) (now (cells .entry)) ⌝ }
+    ensures { λ r. ⌜ r ≡ length (selected (stays (now (removed .entry)) count) (take count (now (cells .entry)))) + 1 ⌝ }
+    ensures { λ _. ⌜ now (cells .exit) ≡ padded places (map (renamed gone) (selected (stays (now (removed .entry)) count) (take count (now (cells .entry)))) ++ (last ∷ [])) (now (cells .entry)) ⌝ }
 {
     rename(cells, gone, count);
-    let at = gather_rows(keep, 1, count, cells);
+    let at = gather_rows(removed, 1, count, cells);
     cells[at] = last;
     let end = at + 1;
     clear(cells, end, larger(end, used));

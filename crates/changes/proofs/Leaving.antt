@@ -1,14 +1,14 @@
 -- A loop that writes the leaves of listed rows at given places: its invariant and its turns; and the leave of a row that stays.
 use mathlib.Core.Path.{_≡_, refl, sym, ap, _∙_}
-use Prim.Native.Nat.{ℕ, zero, suc, _+_, _-_, _≤_, _<_}
+use Prim.Native.Nat.{ℕ, _+_, _-_, _≤_, _<_}
 use native.Mathlib.Numerals.{add-one}
 use native.Mathlib.Omega.{arith}
-use mathlib.Core.Bool.{Bool, true, false, not}
+use mathlib.Core.Bool.{Bool, true, false}
 use mathlib.Core.List.{List, [], _∷_, _++_, map, append-nil}
 use lib.ListN.{length, getD, take, drop}
 use lib.Seq.{take-all, take-add, take-suc}
 use borrow.Rule.Slice.PartMut.{midOf, putMid}
-use Rattle.lists.specs.Lists.{keep, filter, flat, run, laid}
+use Rattle.lists.specs.Lists.{keep, filter, flat, laid}
 use Rattle.lists.proofs.Filters.{filter-append, map-append}
 use Rattle.lists.proofs.Laying.{grows, Laying, laying-start, laying-pass, laying-room, laying-more, laying-all}
 use Rattle.skyline.specs.Skyline.{stabbed}
@@ -16,29 +16,15 @@ use Rattle.frames.specs.declared.Message.the-variants.{Leave}
 use Rattle.frames.specs.Frames.{frame}
 use Rattle.model.specs.Changes.{frames}
 use Rattle.cells.specs.Removed.{removedPlaces}
+use Rattle.cells.proofs.Removals.{getD-any, listed-below}
 use Rattle.changes.specs.declared.Shift.{Shift}
 use Rattle.changes.specs.Flagged.{Flagged, moving, fallen}
 use Rattle.changes.specs.Sought.{listedOf, Below, Rises, Steps}
 use Rattle.changes.proofs.Framing.{leave-length, frames-append}
 use Rattle.changes.proofs.Stepping.{leaves-are}
 
--- places picked from a run stay below its end
-filtered-low : (f : ℕ → Bool) (a k j : ℕ) → j < length (filter f (run a k)) → getD (filter f (run a k)) j 0 < a + k
-unfolding filter run
-filtered-low f a zero j h = absurd (omega arith)
-filtered-low f a (suc k) j h = go (f a) j h (λ m l. filtered-low f (suc a) k m l)
-  where
-    R : List ℕ
-    R = filter f (run (suc a) k)
-
-    go : (b : Bool) (j : ℕ) → j < length (keep b a R) → ((m : ℕ) → m < length R → getD R m 0 < suc a + k) → getD (keep b a R) j 0 < a + suc k
-    go true zero l r = omega arith
-    go true (suc j) l r = omega (arith, r j (omega arith))
-    go false j l r = omega (arith, r j l)
-
 pub removed-below : (kept : List Bool) (count : ℕ) {removed : List ℕ} → removed ≡ removedPlaces kept count → Below removed count
-unfolding removedPlaces
-removed-below kept count e = rw e (record { low = λ k h. omega (arith, filtered-low (λ i. not (getD kept i false)) 0 count k h) })
+removed-below kept count {removed} e = record { low = λ k h. rw (getD-any removed k 0 count h) (listed-below kept count e h) }
 
 module _ (n start : ℕ) (positions lowers : List ℕ) where
   -- the leaves of the rows at these places

@@ -1,16 +1,16 @@
--- The tables that are settled by flags hold the rows after the quote.
+-- The tables that are settled by the removed places hold the rows after the quote.
 use mathlib.Core.Path.{_≡_, sym, ap, _∙_}
 use Prim.Native.Nat.{ℕ, _+_, _-_, _*_, _≤_, _<_}
-use native.Mathlib.Nat.{mul-le-mul-right}
 use native.Mathlib.Omega.{arith}
 use mathlib.Core.Bool.{Bool}
 use mathlib.Core.List.{List, [], _∷_, _++_, map, append-nil}
 use lib.ListN.{length, take, length-append, length-map}
 use Rattle.lists.specs.Lists.{flat, run, padded}
-use Rattle.lists.proofs.Filters.{map-append, map-map, map-id, flat-append}
+use Rattle.lists.proofs.Filters.{map-append, map-map, flat-append}
 use Rattle.head.specs.declared.Head.{Head}
 use Rattle.model.specs.Rows.{Row, Tables, rowAt, rowsIn, filled, expiring, renamed, renamedRow, lowerEndAmong, rowsAfter}
 use Rattle.model.specs.Book.{bookRows}
+use Rattle.cells.specs.Removed.{stays}
 use Rattle.cells.specs.Selected.{selected, columnsIn}
 use Rattle.cells.proofs.Renaming.{renamed-none-all}
 use Rattle.cells.proofs.Selecting.{map-selected}
@@ -38,12 +38,12 @@ module _ (h : Head) (x : List ℕ) (t : Tables) where
   unfolding rowsAfter renamedRow
   next-lower-ends = rw (map-append, map-map, map-map)
 
-module _ {h : Head} {x : List ℕ} {lower : ℕ} {flags : List Bool} {cs ps ls : List ℕ} (v : Ready h x lower flags (tables cs ps ls)) where
+module _ {h : Head} {x : List ℕ} {lower : ℕ} {removed cs ps ls : List ℕ} (v : Ready h x lower removed (tables cs ps ls)) where
+  abbrev flags : List Bool
+  flags = stays removed (h .rows)
+
   abbrev t : Tables
   t = tables cs ps ls
-
-  abbrev kept : List Row
-  kept = selected flags (bookRows h t)
 
   kept-positions : selected flags (take (h .rows) ps) ≡ map Row.position (rowsLeft h x t)
   unfolding bookRows

@@ -9,6 +9,7 @@ use Rattle.head.specs.Heads.{lastPosition}
 use Rattle.model.specs.Rows.{Row, Tables, rowsIn, expiring, remains, remaining, lowerEndAmong, rowsAfter}
 use Rattle.model.specs.Book.{bookRows}
 use Rattle.cells.specs.Blank.{Blank}
+use Rattle.cells.specs.Removed.{stays, Listed}
 use Rattle.cells.specs.Selected.{selected}
 
 -- three lent tables
@@ -38,9 +39,9 @@ rowsLeft h x t = remaining (h .dimensions) (h .directions) x (expiring (h .newes
 abbrev pub rowsNext : Head → List ℕ → Tables → List Row
 rowsNext h x t = rowsAfter (h .dimensions) (h .directions) (h .capacity) (h .newest) x (bookRows h t)
 
--- quote x may be taken: the capacity is within the limit, the tables are long enough, the flags select the rows that stay, the lower end is the quote's among
--- them, and there is room for one row more
-pub record Ready (h : Head) (x : List ℕ) (lower : ℕ) (flags : List Bool) (t : Tables) : Type 0 where
+-- quote x may be taken: the capacity is within the limit, the tables are long enough, the rows at other places than those removed are the rows that stay, the
+-- lower end is the quote's among them, and there is room for one row more
+pub record Ready (h : Head) (x : List ℕ) (lower : ℕ) (removed : List ℕ) (t : Tables) : Type 0 where
   pub few : h .capacity ≤ 1024
   pub few-columns : h .capacity * h .dimensions ≤ 6144
   pub rows-fit : h .rows ≤ h .capacity
@@ -48,9 +49,9 @@ pub record Ready (h : Head) (x : List ℕ) (lower : ℕ) (flags : List Bool) (t 
   pub columns-fit : h .capacity * h .dimensions ≤ length (t .columns)
   pub positions-fit : h .capacity ≤ length (t .positions)
   pub lower-ends-fit : h .capacity ≤ length (t .lowerEnds)
-  pub flags-fit : h .rows ≤ length flags
+  pub listed : Listed removed (h .rows)
   pub wide : length x ≡ h .dimensions
-  pub selects : selected flags (bookRows h t) ≡ rowsLeft h x t
+  pub selects : selected (stays removed (h .rows)) (bookRows h t) ≡ rowsLeft h x t
   pub lower≡ : lower ≡ lowerEndAmong (h .dimensions) (h .directions) x (rowsLeft h x t)
   pub room : length (rowsNext h x t) ≤ h .capacity
 

@@ -166,18 +166,18 @@ pub fn mark(
 }
 
 // Takes a quote into the tables: the rows that stay, the quote's row behind them, and zeros up to the capacity; from used rows on
-// zeros stand there already. Gives how many rows there are.
+// zeros stand there already, and removed has the places of the rows that do not stay. Gives how many rows there are.
 pub fn settle(
     head: Head,
     quote: &[u32],
     lower: u32,
-    keep: &[bool],
+    removed: &[u16],
     used: u32,
     columns: &mut [u32],
     positions: &mut [u32],
     lower_ends: &mut [u32],
 ) -> u32
-    requires { ⌜ Ready head (now quote) lower (now keep) (tables (now columns) (now positions) (now «lower_ends»)) ⌝ }
+    requires { ⌜ Ready head (now quote) lower (now removed) (tables (now columns) (now positions) (now «lower_ends»)) ⌝ }
     requires { ⌜ Cleared head used (tables (now columns) (now positions) (now «lower_ends»)) ⌝ }
     ensures { λ r. ⌜ r ≡ length (rowsNext head (now (quote .entry)) (tables (now (columns .entry)) (now (positions .entry)) (now («lower_ends» .entry)))) ⌝ }
     ensures { λ _. ⌜ tables (now (columns .exit)) (now (positions .exit)) (now («lower_ends» .exit)) ≡ filled (head .dimensions) (head .capacity) (rowsNext head (now (quote .entry)) (tables (now (columns .entry)) (now (positions .entry)) (now («lower_ends» .entry)))) (tables (now (columns .entry)) (now (positions .entry)) (now («lower_ends» .entry))) ⌝ }
@@ -189,8 +189,8 @@ pub fn settle(
     let gone = difference(next, head.capacity);
     let in_use = used as usize;
     let places = capacity * d;
-    settle_rows(keep, d, count, quote, in_use * d, places, columns);
-    settle_cells(keep, gone, count, lower, in_use, capacity, lower_ends);
-    let rows = settle_cells(keep, 0, count, next, in_use, capacity, positions);
+    settle_rows(removed, d, count, quote, in_use * d, places, columns);
+    settle_cells(removed, gone, count, lower, in_use, capacity, lower_ends);
+    let rows = settle_cells(removed, 0, count, next, in_use, capacity, positions);
     rows as u32
 }

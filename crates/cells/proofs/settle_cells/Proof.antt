@@ -7,6 +7,7 @@ use lib.ListN.{length, take, length-set}
 use denote.Ref.{now}
 use borrow.Author.Needs.{needs}
 use Rattle.model.specs.Rows.{renamed}
+use Rattle.cells.specs.Removed.{stays}
 use Rattle.cells.specs.Selected.{selected, Gathered}
 use Rattle.cells.proofs.Renaming.{cells-gathered}
 use Rattle.cells.proofs.Settling.{cell-settled}
@@ -16,7 +17,7 @@ use Rattle.cells.proofs.settle_cells.Tie as tie
 -- what is known once the cells are renamed and gathered
 gathered : (c : tie.After-gather-rows)
     → let entry = c .before .before .before .before .before .before .before .before in
-    let kept = selected (now (entry .args .keep)) (take (entry .args .count) (now (entry .args .cells))) in
+    let kept = selected (stays (now (entry .args .removed)) (entry .args .count)) (take (entry .args .count) (now (entry .args .cells))) in
     (c .gather-rows .result ≡ length kept) × Gathered (c .gather-rows .result) (entry .args .count) (map (renamed (entry .args .gone)) kept) (now (entry .args .cells)) (c .gather-rows .last .1 .1 .1 .0)
 gathered c =
     let pre = c .before .before .before .before .before .before .before .before .pre in
@@ -27,7 +28,7 @@ rename-requires : tie.Need-rename-requires
 rename-requires c κs = search needs
 
 gather-rows-requires : tie.Need-gather-rows-requires
-gather-rows-requires c κs = rw mul-one (omega (arith, c .before .before .before .before .before .before .before .pre, c .before .before .before .rename .kept))
+gather-rows-requires c κs = let pre = c .before .before .before .before .before .before .before .pre in (pre .0, rw mul-one (omega (arith, pre .1, c .before .before .before .rename .kept)))
 
 mul-cells : tie.Need-mul-cells
 mul-cells c = omega (arith, gathered (c .before .before) .0, c .before .before .gather-rows .kept, c .before .before .before .before .before .before .rename .kept, c .before .before .before .before .before .before .before .before .before .before .pre)

@@ -33,19 +33,19 @@ settle-rows-requires : tie.Need-settle-rows-requires
 settle-rows-requires c κs =
     let pre = c .before .before .before .before .before .before .before .before .before .before .before .pre in
     let v = pre .0 in
-    (v .flags-fit, (v .columns-fit, (v .few-columns, (columns-room v, (mul-le-mul-right _ (pre .1 .rows-below (v .rows-fit)), pre .1 .columns)))))
+    (v .listed, (v .columns-fit, (v .few-columns, (columns-room v, (mul-le-mul-right _ (pre .1 .rows-below (v .rows-fit)), pre .1 .columns)))))
 
 settle-cells-requires : tie.Need-settle-cells-requires
 settle-cells-requires c κs =
     let pre = c .before .before .before .before .before .before .before .before .before .before .before .before .before .before .before .pre in
     let v = pre .0 in
-    (v .flags-fit, (v .lower-ends-fit, (omega (arith, v .few), (lower-ends-room v, (pre .1 .rows-below (v .rows-fit), pre .1 .lowerEnds)))))
+    (v .listed, (v .lower-ends-fit, (omega (arith, v .few), (lower-ends-room v, (pre .1 .rows-below (v .rows-fit), pre .1 .lowerEnds)))))
 
 settle-cells-requires-2 : tie.Need-settle-cells-requires-2
 settle-cells-requires-2 c κs =
     let pre = c .before .before .before .before .before .before .before .before .before .before .before .before .before .before .before .before .before .before .before .pre in
     let v = pre .0 in
-    (v .flags-fit, (v .positions-fit, (omega (arith, v .few), (positions-room v, (pre .1 .rows-below (v .rows-fit), pre .1 .positions)))))
+    (v .listed, (v .positions-fit, (omega (arith, v .few), (positions-room v, (pre .1 .rows-below (v .rows-fit), pre .1 .positions)))))
 
 cast-result : tie.Need-cast-result
 cast-result c = omega (arith, c .before .before .settle-cells2 .ensures .0, positions-room (c .before .before .before .before .before .before .before .before .before .before .before .before .before .before .before .before .before .before .before .before .before .before .pre .0), c .before .before .before .before .before .before .before .before .before .before .before .before .before .before .before .struct-known2 .given)

@@ -1,7 +1,8 @@
 -- `accept_with` meets its contract: what is marked tells the changes and the rows that stay; nothing is written before the room is known.
-use mathlib.Core.Path.{sym, ap, _∙_}
+use mathlib.Core.Path.{_≡_, sym, ap, _∙_}
+use Prim.Native.Nat.{_≤_}
 use native.Mathlib.Omega.{arith}
-use lib.ListN.{length}
+use lib.ListN.{length, take}
 use denote.Ref.{now}
 use borrow.Author.Needs.{needs}
 use Rattle.calls.specs.Left.{tables}
@@ -10,14 +11,16 @@ use Rattle.calls.proofs.Reaching.{used-cleared, reached-named}
 use Rattle.calls.proofs.quoting.accept_with.Statement.{statement}
 use Rattle.calls.proofs.quoting.accept_with.Tie as tie
 
+-- where the call began, from where the rows were marked
+abbrev start : tie.After-mark → tie.Start
+start c = c .before .before .before .before .before .before .before .before .before .before .before .before .before .before .before
+
 -- what is known once the rows are marked
 known : (c : tie.After-mark)
-    → let entry = c .before .before .before .before .before .before .before .before .before .before .before .before .before .before .before in
-    Marked (entry .args .head) (now (entry .args .quote)) (tables (now (entry .args .columns)) (now (entry .args .positions)) (now (entry .args .lower-ends))) (entry .args .watches)
+    → Marked (start c .args .head) (now (start c .args .quote)) (tables (now (start c .args .columns)) (now (start c .args .positions)) (now (start c .args .lower-ends))) (start c .args .watches)
     (c .mark .last .1 .1 .1 .1 .1 .1 .1 .0) (c .before .before .before .before .before .before .difference .result) (c .mark .result)
 known c =
-    let entry = c .before .before .before .before .before .before .before .before .before .before .before .before .before .before .before in
-    marked _ _ _ _ (entry .pre .1 .1 .0) (omega (arith, entry .good)) (c .before .before .before .before .before .before .difference .ensures) _ (c .mark .ensures .0) (c .mark .ensures .1)
+    marked _ _ _ _ (start c .pre .1 .1 .0) (omega (arith, start c .good)) (c .before .before .before .before .before .before .difference .ensures) _ (c .mark .ensures .0) (c .mark .ensures .1)
 
 add-difference : tie.Need-add-difference
 add-difference c = let below = admitted _ _ _ _ (c .before .before .before .before .before .before .before .before .pre .1 .1 .0) .below in omega (arith, below)
@@ -32,7 +35,9 @@ cast-mark : tie.Need-cast-mark
 cast-mark c = search needs
 
 mark-requires : tie.Need-mark-requires
-mark-requires c κs = let pre = c .before .before .before .before .before .before .before .before .before .before .before .before .before .before .pre in mark-asks _ _ _ _ _ (pre .1 .1 .0) (pre .0)
+mark-requires c κs =
+    let pre = c .before .before .before .before .before .before .before .before .before .before .before .before .before .before .pre in
+    mark-asks _ _ _ _ _ (pre .1 .1 .0) (pre .0)
 
 overflows-requires : tie.Need-overflows-requires
 overflows-requires c κs = count-asks (known (c .before .before .before .before .before))
@@ -53,9 +58,11 @@ returns : tie.Need-returns
 returns c = quote-full (known (c .before .before .before .before .before .before .before)) _ (c .before .overflows .ensures) (c .if1 .taken)
 
 list-removed-requires : tie.Need-list-removed-requires
-list-removed-requires c κs = let marked = c .before .before .before .before .before .before .before .before .before in list-asks (known marked) (marked .before .before .before .before .before .before .before .before .before .before .before .before .before .before .before .pre .1 .0)
+list-removed-requires c κs =
+    let marks = c .before .before .before .before .before .before .before .before .before in
+    list-asks (known marks) (start marks .pre .1 .0)
 
--- what is known once the rows that do not stay are listed: what stood where the room was tested, and where they were marked
+-- where the room was tested, the rows were marked and the call began, from where the rows that do not stay are listed
 abbrev tested : tie.After-list-removed → tie.Else1
 tested c = c .before .before .before
 
@@ -63,13 +70,21 @@ abbrev marks : tie.After-list-removed → tie.After-mark
 marks c = tested c .before .before .before .before .before .before .before
 
 abbrev entry : tie.After-list-removed → tie.Start
-entry c = marks c .before .before .before .before .before .before .before .before .before .before .before .before .before .before .before
+entry c = start (marks c)
+
+-- the list is no longer than the places
+fits : (c : tie.After-list-removed) → c .list-removed .result ≤ length (now (entry c .args .places))
+fits c = listed-few (known (marks c)) (entry c .pre .1 .0) (c .list-removed .ensures .0)
+
+-- and is as long as was counted
+long : (c : tie.After-list-removed) → c .list-removed .result ≡ length (take (c .list-removed .result) (c .list-removed .last .1 .1 .0))
+long c = c .list-removed .ensures .0 ∙ sym (ap length (c .list-removed .ensures .1))
 
 slice-reshare-prefix-write-all-changes : tie.Need-slice-reshare-prefix-write-all-changes
-slice-reshare-prefix-write-all-changes c = let listed = c .before .before .before in omega (arith, listed-few (known (marks listed)) (entry listed .pre .1 .0) (listed .list-removed .ensures .0))
+slice-reshare-prefix-write-all-changes c = omega (arith, fits (c .before .before .before))
 
 slice-aggregate-write-all-changes : tie.Need-slice-aggregate-write-all-changes
-slice-aggregate-write-all-changes c = let r = c .before .before .before .before .list-removed .ensures in r .0 ∙ sym (ap length (r .1))
+slice-aggregate-write-all-changes c = long (c .before .before .before .before)
 
 write-all-changes-requires : tie.Need-write-all-changes-requires
 write-all-changes-requires c κs =
@@ -80,10 +95,17 @@ write-all-changes-requires c κs =
 used-rows-requires : tie.Need-used-rows-requires
 used-rows-requires c κs = search needs
 
+slice-reshare-prefix-settle : tie.Need-slice-reshare-prefix-settle
+slice-reshare-prefix-settle c = omega (arith, fits (c .before .before .before .before .before .before .before .before .before .before .before))
+
+slice-aggregate-settle : tie.Need-slice-aggregate-settle
+slice-aggregate-settle c = long (c .before .before .before .before .before .before .before .before .before .before .before .before)
+
 settle-requires : tie.Need-settle-requires
 settle-requires c κs =
-    let listed = c .before .before .before .before .before .before .before .before .before .before .before .before .before .before .before in
-    (ready (known (marks listed)), used-cleared _ _ _ _ (entry listed .pre .1 .1 .1) (c .before .before .before .before .used-rows .ensures))
+    let counted = c .before .before .before .before in
+    let listed = counted .before .before .before .before .before .before .before .before .before .before .before in
+    (ready (known (marks listed)) (listed .list-removed .ensures .1), used-cleared _ _ _ _ (entry listed .pre .1 .1 .1) (counted .used-rows .ensures))
 
 after-quote-requires : tie.Need-after-quote-requires
 after-quote-requires c κs = search needs
@@ -134,6 +156,8 @@ accept-with-spec =
     slice-aggregate-write-all-changes
     write-all-changes-requires
     used-rows-requires
+    slice-reshare-prefix-settle
+    slice-aggregate-settle
     settle-requires
     after-quote-requires
     same-length-5
