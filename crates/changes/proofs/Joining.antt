@@ -1,21 +1,23 @@
 -- A loop that writes the joins of rows, from one lower end at the window's old start to the next: its invariant and its turns.
 use mathlib.Core.Path.{_≡_}
 use Prim.Native.Nat.{ℕ, _+_, _-_, _≤_, _<_}
+use native.Mathlib.Decide.{decLt}
 use native.Mathlib.Omega.{arith}
 use mathlib.Core.Bool.{Bool, true, false, _&&_, not}
 use mathlib.Core.List.{List, map}
 use lib.ListN.{length, getD}
+use borrow.Author.Tests.{lt-ltb, le-ltb}
 use borrow.Rule.Slice.PartMut.{midOf, putMid}
 use Rattle.lists.specs.Lists.{laid}
 use Rattle.frames.specs.declared.Message.the-variants.{Join}
 use Rattle.model.specs.Changes.{frames}
 use Rattle.changes.specs.declared.Shift.{Shift}
 use Rattle.changes.specs.Flagged.{Flagged, wasListed, nowListed, moves, moving}
-use Rattle.changes.specs.Sought.{nextEqual, firstFrom, Steps}
+use Rattle.changes.specs.Sought.{nextEqual, placeOf, soughtFrom, Rises, Steps}
 use Rattle.changes.proofs.Writing.{Writing, writing-start, writing-pass, writing-skip, writing-all}
 use Rattle.changes.proofs.Framing.{framing, frames-cells, join-length, frame-fits, frame-laid}
 use Rattle.changes.proofs.Places.{equal-from, equal-within}
-use Rattle.changes.proofs.Firsts.{first-within}
+use Rattle.changes.proofs.Starts.{place-found}
 use Rattle.changes.proofs.Stepping.{picked-skip, joins-none, joins-late}
 
 -- the joins of the rows below place i stand at the front of the output
@@ -34,14 +36,20 @@ module _ {n : ℕ} {s : Flagged} {w : Shift} (v : Steps w) where
             (picked-skip (moves s w true) (s .positions) i j (omega arith) (λ q a b. joins-none s w v i q a (omega arith) (omega arith)));
       }
 
-  pub joining-start : (entry : List ℕ) {f i : ℕ} → length (frames (map (Join n) (moving s w true))) ≤ length entry → f ≡ firstFrom (s .positions) (w .before) (s .count)
-      → i ≡ nextEqual (s .lowerEnds) (w .before) (s .count) f → Joining n s w entry entry 0 i
-  unfolding moving
-  joining-start entry {f} h e q =
-      let within = first-within (s .positions) (w .before) (s .count) in
-      let start = writing-start (framing (Join n)) (moves s w true) (s .positions) (s .count) entry (rw (← frames-cells) h) in
-      let none = picked-skip (moves s w true) (s .positions) 0 f (omega arith) (λ k a b. joins-late s w v k (omega arith) (omega arith)) in
-      onward (record { writing = writing-skip start f (omega arith) none }) (omega arith) q
+  pub joining-start : Rises (s .positions) (s .count) → (entry : List ℕ) {f i : ℕ} → length (frames (map (Join n) (moving s w true))) ≤ length entry
+      → f ≡ placeOf (s .positions) (w .before) (s .count) → i ≡ nextEqual (s .lowerEnds) (w .before) (s .count) (soughtFrom f (s .count)) → Joining n s w entry entry 0 i
+  unfolding moving soughtFrom
+  joining-start u entry {f} {i} h e q = go (decLt f (s .count))
+    where
+      start : Writing (framing (Join n)) (moves s w true) (s .positions) (s .count) entry entry 0 0
+      start = writing-start (framing (Join n)) (moves s w true) (s .positions) (s .count) entry (rw (← frames-cells) h)
+
+      go : Dec (f < s .count) → Joining n s w entry entry 0 i
+      go (yes l) =
+          let there = place-found (s .positions) (w .before) (s .count) (omega arith) in
+          let none = picked-skip (moves s w true) (s .positions) 0 f (omega arith) (λ k _ b. joins-late s w v k (omega (arith, u .rise k f b l, rw (← e) at there))) in
+          onward (record { writing = writing-skip start f (omega arith) none }) (omega arith) (rw (lt-ltb f (s .count) l) at q)
+      go (no l) = onward (record { writing = start }) (omega arith) (rw (le-ltb f (s .count) (omega arith)) at q)
 
   module _ {entry out : List ℕ} {at i j : ℕ} {b : Bool} (u : Joining n s w entry out at i) (h : i < s .count) (e : j ≡ nextEqual (s .lowerEnds) (w .before) (s .count) (i + 1))
       (q : b ≡ moves s w true i) where

@@ -16,13 +16,13 @@ use Rattle.lists.proofs.Runs.{filter-upto}
 use Rattle.skyline.specs.Skyline.{stabbed}
 use Rattle.model.specs.Rows.{renamed}
 use Rattle.cells.specs.Removed.{removedPlaces}
-use Rattle.cells.proofs.Places.{next-gap, next-is}
+use Rattle.cells.proofs.Places.{next-gap}
 use Rattle.changes.specs.declared.Shift.{Shift}
 use Rattle.changes.specs.Picked.{picked}
 use Rattle.changes.specs.Flagged.{Flagged, wasListed, nowListed, moves, moving, fallsOut, fallen}
-use Rattle.changes.specs.Sought.{nextEqual, firstFrom, listedOf, Rises, Steps}
+use Rattle.changes.specs.Sought.{nextEqual, placeOf, listedOf, Rises, Steps}
 use Rattle.changes.proofs.Picking.{picked-none, picked-more}
-use Rattle.changes.proofs.Firsts.{before-first}
+use Rattle.changes.proofs.Starts.{place-is}
 
 -- places that do not pass pick nothing
 pub picked-skip : (test : ℕ → Bool) (positions : List ℕ) (i j : ℕ) → i ≤ j → ((q : ℕ) → i ≤ q → q < j → test q ≡ false) → picked test positions j ≡ picked test positions i
@@ -114,9 +114,9 @@ module _ (s : Flagged) (w : Shift) (v : Steps w) where
       go (inl g) low over = omega (arith, v .expires)
       go (inr g) low over = omega (arith, v .by-one)
 
-  -- the first place of the window as it was
+  -- the place of the window's old start
   abbrev pub first : ℕ
-  first = firstFrom (s .positions) (w .before) (s .count)
+  first = placeOf (s .positions) (w .before) (s .count)
 
   -- no row joins before the next lower end that is the window's old start
   pub joins-none : (i q : ℕ) → i ≤ q → q < s .count → q < nextEqual (s .lowerEnds) (w .before) (s .count) i → moves s w true q ≡ false
@@ -125,29 +125,25 @@ module _ (s : Flagged) (w : Shift) (v : Steps w) where
       refute (moves s w true q)
       (λ e. eqb-false (lowerEnd q) (w .before) (next-gap (λ k. eqb (lowerEnd k) (w .before)) (s .count) i q u l h) (joins-at q e .0))
 
-  -- nor before the window's first place
-  pub joins-late : (q : ℕ) → q < s .count → q < first → moves s w true q ≡ false
-  joins-late q u h = refute (moves s w true q) (λ e. omega (arith, before-first (s .positions) (w .before) (s .count) q u h, joins-at q e .1))
+  -- nor does one behind the window
+  pub joins-late : (q : ℕ) → position q < w .before → moves s w true q ≡ false
+  joins-late q h = refute (moves s w true q) (λ e. omega (arith, joins-at q e .1))
 
   module _ (u : Rises (s .positions) (s .count)) where
-    -- a row that stays and leaves stands at the window's first place
+    -- so it stands at the place of that
     falls-first : (i : ℕ) → i < s .count → fallsOut s w i ≡ true → first ≡ i
-    unfolding firstFrom
-    falls-first i h e =
-        next-is (λ k. leb (w .before) (position k)) (s .count) i (omega arith)
-        (λ q l. lt-leb (w .before) (position q) (omega (arith, u .rise q i l h, falls-at i e)))
-        (λ l. le-leb (w .before) (position i) (omega (arith, falls-at i e)))
+    falls-first i h e = place-is (s .positions) (w .before) (s .count) i (omega arith) (λ q l f. omega (arith, u .rise q i l h, falls-at i e)) (λ _. falls-at i e)
 
     falls-not : (i : ℕ) → i < s .count → (first ≡ i → ⊥) → fallsOut s w i ≡ false
     falls-not i h n = refute (fallsOut s w i) (λ e. n (falls-first i h e))
 
-    -- no row falls out where no place of the window is below count
+    -- no row falls out where none stands at the old start
     pub fallen-none : {f : ℕ} → f ≡ first → s .count ≤ f → fallen s w ≡ []
     unfolding fallen
     fallen-none e h =
         picked-skip (fallsOut s w) (s .positions) 0 (s .count) (omega arith) (λ q _ l. falls-not q l (λ g. omega arith)) ∙ picked-none (fallsOut s w) (s .positions)
 
-    -- else only the row at the first place may
+    -- else only the row there may
     fallen-one : first < s .count → fallen s w ≡ keep (fallsOut s w first) (position first) []
     unfolding fallen
     fallen-one h =
@@ -166,11 +162,11 @@ module _ (s : Flagged) (w : Shift) (v : Steps w) where
     abbrev goes : ℕ → Bool
     goes i = not (getD (s .kept) i false) && wasListed s w i
 
-    -- before the window's first place none was listed
-    goes-none : (i : ℕ) → i ≤ s .count → i ≤ first → picked goes (s .positions) i ≡ []
+    -- before the old start none was listed
+    goes-none : (i : ℕ) → i < s .count → position i ≡ w .before → picked goes (s .positions) i ≡ []
     goes-none i h f =
         picked-skip goes (s .positions) 0 i (omega arith)
-        (λ q _ l. refute (goes q) (λ e. omega (arith, before-first (s .positions) (w .before) (s .count) q (omega arith) (omega arith), listed-late q (and-right (not (getD (s .kept) q false)) (wasListed s w q) e))))
+        (λ q _ l. refute (goes q) (λ e. omega (arith, u .rise q i l h, listed-late q (and-right (not (getD (s .kept) q false)) (wasListed s w q) e))))
         ∙ picked-none goes (s .positions)
 
     -- the rows that leave below place i: one that stays comes first
@@ -179,7 +175,7 @@ module _ (s : Flagged) (w : Shift) (v : Steps w) where
     leaves-split zero h = rw (picked-none (moves s w false), picked-none (fallsOut s w), picked-none goes)
     leaves-split (suc i) h =
         rw (← add-one, picked-more (moves s w false), picked-more (fallsOut s w), picked-more goes, leaves-split i (omega arith))
-        (go (getD (s .kept) i false) (wasListed s w i) (stabbed (w .after) (renamed (w .gone) (lowerEnd i)) (position i)) (λ e. let at = falls-first i h e in goes-none i (omega arith) (omega arith)))
+        (go (getD (s .kept) i false) (wasListed s w i) (stabbed (w .after) (renamed (w .gone) (lowerEnd i)) (position i)) (λ e. goes-none i h (falls-at i e)))
       where
         A : List ℕ
         A = picked (fallsOut s w) (s .positions) i

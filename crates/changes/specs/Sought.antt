@@ -1,9 +1,10 @@
--- Places sought in the tables: the next cell of a value and the first row of a window; and what the tables and a window have to be.
+-- Places sought in the tables: the next cell of a value and the place of a position; and what the tables and a window have to be.
 use mathlib.Core.Path.{_≡_}
 use mathlib.Core.Logic.{_⊎_}
 use Prim.Native.Nat.{ℕ, _+_, _≤_, _<_}
+use mathlib.Core.Bool.{cond}
 use mathlib.Core.List.{List, map}
-use lib.Dec.{leb, eqb}
+use lib.Dec.{ltb, eqb}
 use lib.ListN.{length, getD}
 use Rattle.lists.specs.Lists.{filter}
 use Rattle.skyline.specs.Skyline.{stabbed}
@@ -14,9 +15,13 @@ use Rattle.changes.specs.declared.Shift.{Shift}
 unfoldable pub nextEqual : List ℕ → ℕ → ℕ → ℕ → ℕ
 nextEqual cells x count i = nextPlace (λ k. eqb (getD cells k 0) x) count i
 
--- the first place below count whose position is at least start, or count where none is
-unfoldable pub firstFrom : List ℕ → ℕ → ℕ → ℕ
-firstFrom positions start count = nextPlace (λ k. leb start (getD positions k 0)) count 0
+-- the place below count whose position is x, or count where none is
+unfoldable pub placeOf : List ℕ → ℕ → ℕ → ℕ
+placeOf positions x count = nextEqual positions x count 0
+
+-- where lower ends in a window are sought from: the place of its start, or the front where no row stands there
+unfoldable pub soughtFrom : ℕ → ℕ → ℕ
+soughtFrom place count = cond (ltb place count) place 0
 
 -- of the rows at these places, the positions of those on the list of the window that starts at start
 unfoldable pub listedOf : ℕ → List ℕ → List ℕ → List ℕ → List ℕ

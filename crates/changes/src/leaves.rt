@@ -10,21 +10,21 @@ ghost use Rattle.frames.specs.declared.Message.the-variants.{Leave};
 ghost use Rattle.model.specs.Changes.{frames};
 ghost use Rattle.cells.specs.Removed.{removedPlaces};
 ghost use Rattle.changes.specs.Flagged.{flagged, fallen, moving};
-ghost use Rattle.changes.specs.Sought.{firstFrom, listedOf, Below, Rises, Steps};
+ghost use Rattle.changes.specs.Sought.{placeOf, listedOf, Below, Rises, Steps};
 use crate::Shift;
 use crate::listing::is_listed;
 use crate::moves::stays_listed;
 use octets::lay_change;
 
-// Writes the leave of the row that stays and leaves the list of n, if there is one: it stands at the window's first place. Returns how
-// many bytes.
+// Writes the leave of the row that stays and leaves the list of n, if there is one: it stands at place, that of the window's old
+// start. Returns how many bytes.
 fn write_fallen(
     n: u16,
     keep: &[bool],
     positions: &[u32],
     lower_ends: &[u32],
     count: usize,
-    first: usize,
+    place: usize,
     shift: Shift,
     out: &mut [u8],
 ) -> usize
@@ -33,17 +33,17 @@ fn write_fallen(
     requires { ⌜ count ≤ length (now «lower_ends») ⌝ }
     requires { ⌜ Rises (now positions) count ⌝ }
     requires { ⌜ Steps shift ⌝ }
-    requires { ⌜ first ≡ firstFrom (now positions) (shift .before) count ⌝ }
+    requires { ⌜ place ≡ placeOf (now positions) (shift .before) count ⌝ }
     requires { ⌜ length (frames (map (Leave n) (fallen (flagged (now keep) (now positions) (now «lower_ends») count) shift))) ≤ length (now out) ⌝ }
     ensures { λ r. ⌜ r ≡ length (frames (map (Leave n) (fallen (flagged (now (keep .entry)) (now (positions .entry)) (now («lower_ends» .entry)) count) shift))) ⌝ }
     ensures { λ r. ⌜ now (out .exit) ≡ laid (frames (map (Leave n) (fallen (flagged (now (keep .entry)) (now (positions .entry)) (now («lower_ends» .entry)) count) shift))) (now (out .entry)) ⌝ }
 {
-    if count <= first {
+    if count <= place {
         return 0;
     }
-    let position = positions[first];
-    let lower_end = lower_ends[first];
-    let stays = keep[first];
+    let position = positions[place];
+    let lower_end = lower_ends[place];
+    let stays = keep[place];
     let was = is_listed(shift.before, lower_end, position);
     let is = stays_listed(stays, shift.gone, shift.after, lower_end, position);
     if stays & (was & !is) {
@@ -95,7 +95,7 @@ pub fn write_leaves(
     positions: &[u32],
     lower_ends: &[u32],
     count: usize,
-    first: usize,
+    place: usize,
     shift: Shift,
     out: &mut [u8],
 ) -> usize
@@ -105,12 +105,12 @@ pub fn write_leaves(
     requires { ⌜ now removed ≡ removedPlaces (now keep) count ⌝ }
     requires { ⌜ Rises (now positions) count ⌝ }
     requires { ⌜ Steps shift ⌝ }
-    requires { ⌜ first ≡ firstFrom (now positions) (shift .before) count ⌝ }
+    requires { ⌜ place ≡ placeOf (now positions) (shift .before) count ⌝ }
     requires { ⌜ length (frames (map (Leave n) (moving (flagged (now keep) (now positions) (now «lower_ends») count) shift false))) ≤ length (now out) ⌝ }
     ensures { λ r. ⌜ r ≡ length (frames (map (Leave n) (moving (flagged (now (keep .entry)) (now (positions .entry)) (now («lower_ends» .entry)) count) shift false))) ⌝ }
     ensures { λ r. ⌜ now (out .exit) ≡ laid (frames (map (Leave n) (moving (flagged (now (keep .entry)) (now (positions .entry)) (now («lower_ends» .entry)) count) shift false))) (now (out .entry)) ⌝ }
 {
-    let at = write_fallen(n, keep, positions, lower_ends, count, first, shift, out);
+    let at = write_fallen(n, keep, positions, lower_ends, count, place, shift, out);
     let used = write_removed(
         n,
         removed,

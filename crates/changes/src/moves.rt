@@ -11,13 +11,13 @@ ghost use Rattle.model.specs.Rows.{renamed};
 ghost use Rattle.model.specs.Changes.{frames};
 ghost use Rattle.cells.specs.Removed.{removedPlaces};
 ghost use Rattle.changes.specs.Flagged.{flagged, moving, joining, changed};
-ghost use Rattle.changes.specs.Sought.{firstFrom, Rises, Named, Steps};
+ghost use Rattle.changes.specs.Sought.{placeOf, Rises, Named, Steps};
 use crate::Shift;
 use crate::leaves::write_leaves;
 use crate::listing::is_listed;
-use crate::seeking::first_from;
 use crate::seeking::first_lower_end;
 use crate::seeking::next_equal;
+use crate::seeking::place_of;
 use octets::lay_change;
 
 // A lower end once position gone has expired: 0 if it named that position.
@@ -65,15 +65,15 @@ pub fn count_changes(
     n + (lower < shift.after) as usize
 }
 
-// Writes a join of the watch of n for each row that joins its list at a quote: its lower end is the window's old start, and it stands
-// at first, the window's first place, or behind it; named says that each lower end is 0 or names a row. Returns how many bytes.
+// Writes a join of the watch of n for each row that joins its list at a quote: its lower end is the window's old start, and a row that
+// stands at that start, if there is one, stands at place; named says that each lower end is 0 or names a row. Returns how many bytes.
 fn write_row_joins(
     n: u16,
     keep: &[bool],
     positions: &[u32],
     lower_ends: &[u32],
     count: usize,
-    first: usize,
+    place: usize,
     shift: Shift,
     named: bool,
     out: &mut [u8],
@@ -84,13 +84,13 @@ fn write_row_joins(
     requires { ⌜ Rises (now positions) count ⌝ }
     requires { ⌜ (named ≡ true → Named (now positions) (now «lower_ends») count) ⌝ }
     requires { ⌜ Steps shift ⌝ }
-    requires { ⌜ first ≡ firstFrom (now positions) (shift .before) count ⌝ }
+    requires { ⌜ place ≡ placeOf (now positions) (shift .before) count ⌝ }
     requires { ⌜ length (frames (map (Join n) (moving (flagged (now keep) (now positions) (now «lower_ends») count) shift true))) ≤ length (now out) ⌝ }
     ensures { λ r. ⌜ r ≡ length (frames (map (Join n) (moving (flagged (now (keep .entry)) (now (positions .entry)) (now («lower_ends» .entry)) count) shift true))) ⌝ }
     ensures { λ r. ⌜ now (out .exit) ≡ laid (frames (map (Join n) (moving (flagged (now (keep .entry)) (now (positions .entry)) (now («lower_ends» .entry)) count) shift true))) (now (out .entry)) ⌝ }
 {
     let mut at: usize = 0;
-    let mut i = first_lower_end(positions, lower_ends, count, first, shift.before, named);
+    let mut i = first_lower_end(positions, lower_ends, count, place, shift.before, named);
     while i < count {
         let position = positions[i];
         let lower_end = lower_ends[i];
@@ -131,7 +131,7 @@ pub fn write_changes(
     ensures { λ r. ⌜ r ≡ length (frames (changed (flagged (now (keep .entry)) (now (positions .entry)) (now («lower_ends» .entry)) count) shift newest lower n)) ⌝ }
     ensures { λ r. ⌜ now (out .exit) ≡ laid (frames (changed (flagged (now (keep .entry)) (now (positions .entry)) (now («lower_ends» .entry)) count) shift newest lower n)) (now (out .entry)) ⌝ }
 {
-    let first = first_from(positions, count, shift.before);
+    let place = place_of(positions, count, shift.before);
     let leaves = write_leaves(
         n,
         keep,
@@ -139,7 +139,7 @@ pub fn write_changes(
         positions,
         lower_ends,
         count,
-        first,
+        place,
         shift,
         out,
     );
@@ -149,7 +149,7 @@ pub fn write_changes(
         positions,
         lower_ends,
         count,
-        first,
+        place,
         shift,
         named,
         &mut out[leaves..],

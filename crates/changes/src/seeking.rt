@@ -1,12 +1,12 @@
-// Places sought in the tables: the next cell of a value, by blocks of 16; a window's first row, by halving and counting; the first lower
-// end at its start.
+// Places sought in the tables: the next cell of a value, by blocks of 16; the row at a position, by halving; the first lower end at a
+// window's start.
 ghost use mathlib.Core.Path.{_≡_};
 ghost use Prim.Native.Nat.{_+_, _≤_};
 ghost use mathlib.Core.Bool.{true};
-ghost use lib.Dec.{ltb, eqb};
+ghost use lib.Dec.{eqb};
 ghost use lib.ListN.{length, getD};
-ghost use Rattle.lists.specs.Lists.{filter, any, run};
-ghost use Rattle.changes.specs.Sought.{nextEqual, firstFrom, Rises, Named};
+ghost use Rattle.lists.specs.Lists.{any, run};
+ghost use Rattle.changes.specs.Sought.{nextEqual, placeOf, soughtFrom, Rises, Named};
 
 // Whether one of the 16 cells from a place on is x.
 fn any_equal(cells: &[u32], from: usize, x: u32) -> bool
@@ -55,27 +55,12 @@ pub fn next_equal(cells: &[u32], from: usize, count: usize, x: u32) -> usize
     count
 }
 
-// How many of the size positions from a place on are below start.
-fn count_below(positions: &[u32], from: usize, size: usize, start: u32) -> u32
-    requires { ⌜ from + size ≤ length (now positions) ⌝ }
-    requires { ⌜ size ≤ 32 ⌝ }
-    ensures { λ r. ⌜ r ≡ length (filter (λ i. ltb (getD (now (positions .entry)) (from + i) 0) start) (run 0 size)) ⌝ }
-{
-    let mut n: u32 = 0;
-    let mut i = 0;
-    while i < size {
-        n += (positions[from + i] < start) as u32;
-        i += 1;
-    }
-    n
-}
-
-// The first place below count whose position is at least start, or count where none is; positions that rise are halved down to 32, and
-// of these the ones below start are counted.
-pub fn first_from(positions: &[u32], count: usize, start: u32) -> usize
+// The place of x among the first count positions, or count where it is none of them; positions that rise are halved down to 32 places,
+// which are searched.
+pub fn place_of(positions: &[u32], count: usize, x: u32) -> usize
     requires { ⌜ count ≤ length (now positions) ⌝ }
     requires { ⌜ Rises (now positions) count ⌝ }
-    ensures { λ r. ⌜ r ≡ firstFrom (now (positions .entry)) start count ⌝ }
+    ensures { λ r. ⌜ r ≡ placeOf (now (positions .entry)) x count ⌝ }
 {
     let mut low: usize = 0;
     let mut size = count;
@@ -83,36 +68,36 @@ pub fn first_from(positions: &[u32], count: usize, start: u32) -> usize
         let half = size / 2;
         let middle = low + half;
         size -= half;
-        if positions[middle - 1] < start {
+        if positions[middle - 1] < x {
             low = middle;
         }
     }
-    low + count_below(positions, low, size, start) as usize
+    let end = low + size;
+    let place = next_equal(positions, low, end, x);
+    if place < end { place } else { count }
 }
 
-// The first place from first on and below count whose lower end is start, or count where none is; first is the first place of the window
-// that starts there. Where each lower end is 0 or names a row, as named says, none is start unless a row stands there.
+// The first place below count whose lower end is start, or count where none is. Rows before place, where a row stands at start, are
+// passed over; where none does and each lower end is 0 or names a row, as named says, all are.
 pub fn first_lower_end(
     positions: &[u32],
     lower_ends: &[u32],
     count: usize,
-    first: usize,
+    place: usize,
     start: u32,
     named: bool,
 ) -> usize
-    requires { ⌜ count ≤ length (now positions) ⌝ }
     requires { ⌜ count ≤ length (now «lower_ends») ⌝ }
-    requires { ⌜ Rises (now positions) count ⌝ }
     requires { ⌜ (named ≡ true → Named (now positions) (now «lower_ends») count) ⌝ }
     requires { ⌜ 1 ≤ start ⌝ }
-    requires { ⌜ first ≡ firstFrom (now positions) start count ⌝ }
-    ensures { λ r. ⌜ r ≡ nextEqual (now («lower_ends» .entry)) start count first ⌝ }
+    requires { ⌜ place ≡ placeOf (now positions) start count ⌝ }
+    ensures { λ r. ⌜ r ≡ nextEqual (now («lower_ends» .entry)) start count (soughtFrom place count) ⌝ }
 {
-    if count <= first {
+    if place < count {
+        return next_equal(lower_ends, place, count, start);
+    }
+    if named {
         return count;
     }
-    if named & (positions[first] != start) {
-        return count;
-    }
-    next_equal(lower_ends, first, count, start)
+    next_equal(lower_ends, 0, count, start)
 }

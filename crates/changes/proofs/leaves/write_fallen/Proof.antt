@@ -1,4 +1,4 @@
--- `write_fallen` meets its contract: of the rows that stay only the one at the window's first place may leave.
+-- `write_fallen` meets its contract: of the rows that stay only the one at the window's old start may leave.
 use mathlib.Core.Path.{_≡_, refl, sym}
 use mathlib.Core.Bool.{Bool, true, false, _&&_, not}
 use mathlib.Core.List.{[], map}
@@ -24,20 +24,20 @@ rows c = flagged (now (c .args .keep)) (now (c .args .positions)) (now (c .args 
 abbrev start : tie.After-stays-listed → tie.Start
 start c = c .before .before .before .before .before .before .before .before .before .before
 
--- the row at the window's first place stays and leaves
+-- the row at the window's old start stays and leaves
 abbrev falls : tie.After-stays-listed → Bool
 falls c =
-    let stays = getD (now (start c .args .keep)) (start c .args .first) false in
+    let stays = getD (now (start c .args .keep)) (start c .args .place) false in
     stays && (c .before .is-listed .result && not (c .stays-listed .result))
 
 -- it is the one that may fall out of the window
-fell : (c : tie.After-stays-listed) → fallen (rows (start c)) (start c .args .shift) ≡ keep (falls c) (getD (now (start c .args .positions)) (start c .args .first) 0) []
+fell : (c : tie.After-stays-listed) → fallen (rows (start c)) (start c .args .shift) ≡ keep (falls c) (getD (now (start c .args .positions)) (start c .args .place) 0) []
 unfolding wasListed nowListed
 fell c =
     fallen-at (rows (start c)) (start c .args .shift) (start c .pre .1 .1 .1 .1 .0) (start c .pre .1 .1 .1 .0) (start c .pre .1 .1 .1 .1 .1 .0) (c .before .before .before .before .before .if1 .left) refl (c .before .is-listed .ensures) (c .stays-listed .ensures)
 
 -- where it leaves, its leave is all that is written
-framed : (c : tie.After-stays-listed) → falls c ≡ true → frames (map (Leave (start c .args .n)) (fallen (rows (start c)) (start c .args .shift))) ≡ frame (Leave (start c .args .n) (getD (now (start c .args .positions)) (start c .args .first) 0)) []
+framed : (c : tie.After-stays-listed) → falls c ≡ true → frames (map (Leave (start c .args .n)) (fallen (rows (start c)) (start c .args .shift))) ≡ frame (Leave (start c .args .n) (getD (now (start c .args .positions)) (start c .args .place) 0)) []
 framed c t = fallen-frame (start c .args .n) _ (fell c) t
 
 returns : tie.Need-returns

@@ -84,14 +84,14 @@ all-room c = rw (listed-frames (start2 (both c)) (c .if1 .left)) at (start2 (bot
 fits : (c : tie.Else1) → both c .before .before .before .before .write-leaves .result + both c .write-row-joins .result + 7 ≤ length (out2 (both c))
 fits c = rw join-length at (front-room (second (both c)) (N (start2 (both c))) (all-room c))
 
-first-from-requires : tie.Need-first-from-requires
-first-from-requires c κs = let p = c .before .before .before .before .before .pre in (p .1 .0, p .1 .1 .1 .1 .0)
+place-of-requires : tie.Need-place-of-requires
+place-of-requires c κs = let p = c .before .before .before .before .before .pre in (p .1 .0, p .1 .1 .1 .1 .0)
 
 write-leaves-requires : tie.Need-write-leaves-requires
 write-leaves-requires c κs =
     let b = c .before .before .before .before .before .before .before in
     let p = b .pre in
-    (p .0, (p .1 .0, (p .1 .1 .0, (p .1 .1 .1 .0, (p .1 .1 .1 .1 .0, (p .1 .1 .1 .1 .1 .1 .0, (c .before .first-from .ensures, leaves-room b)))))))
+    (p .0, (p .1 .0, (p .1 .1 .0, (p .1 .1 .1 .0, (p .1 .1 .1 .1 .0, (p .1 .1 .1 .1 .1 .1 .0, (c .before .place-of .ensures, leaves-room b)))))))
 
 sub-write-row-joins : tie.Need-sub-write-row-joins
 sub-write-row-joins c = omega (arith, joins-room (c .before .before))
@@ -107,7 +107,7 @@ write-row-joins-requires c κs =
     let b = c .before .before .before in
     let s = start b in
     let p = s .pre in
-    (p .0, (p .1 .0, (p .1 .1 .0, (p .1 .1 .1 .1 .0, (p .1 .1 .1 .1 .1 .0, (p .1 .1 .1 .1 .1 .1 .0, (b .before .before .first-from .ensures, front-rest (first b) (J s) (rows-room s))))))))
+    (p .0, (p .1 .0, (p .1 .1 .0, (p .1 .1 .1 .1 .0, (p .1 .1 .1 .1 .1 .0, (p .1 .1 .1 .1 .1 .1 .0, (b .before .before .place-of .ensures, front-rest (first b) (J s) (rows-room s))))))))
 
 add-at : tie.Need-add-at
 add-at c =
@@ -151,7 +151,7 @@ pub write-changes-spec : {M : Type 1} → statement M
 write-changes-spec =
     tie.close
     (tie.spec
-    first-from-requires
+    place-of-requires
     write-leaves-requires
     sub-write-row-joins
     part-write-row-joins-start

@@ -13,20 +13,20 @@ use Rattle.changes.proofs.moves.write_row_joins.Statement.{statement}
 use Rattle.changes.proofs.moves.write_row_joins.Tie as tie
 
 abbrev Inv-loop : tie.InvT-loop
-Inv-loop n keep positions lower-ends count first shift named out₀ at₀ i₀ out at i = Joining n (flagged keep positions lower-ends count) shift out₀ out at i
+Inv-loop n keep positions lower-ends count place shift named out₀ at₀ i₀ out at i = Joining n (flagged keep positions lower-ends count) shift out₀ out at i
 
 abbrev μ-loop : tie.MeasureT-loop
-μ-loop n keep positions lower-ends count first shift named out₀ at₀ i₀ out at i = count - i
+μ-loop n keep positions lower-ends count place shift named out₀ at₀ i₀ out at i = count - i
 
 first-lower-end-requires : tie.Need-first-lower-end-requires Inv-loop μ-loop
 first-lower-end-requires c κs =
     let p = c .before .before .before .before .pre in
-    (p .1 .0, (p .1 .1 .0, (p .1 .1 .1 .0, (p .1 .1 .1 .1 .0, (p .1 .1 .1 .1 .1 .0 .starts, p .1 .1 .1 .1 .1 .1 .0)))))
+    (p .1 .1 .0, (p .1 .1 .1 .1 .0, (p .1 .1 .1 .1 .1 .0 .starts, p .1 .1 .1 .1 .1 .1 .0)))
 
 loop-holds : tie.Need-loop-holds Inv-loop μ-loop
 loop-holds c =
     let p = c .before .before .before .before .before .pre .1 .1 .1 .1 .1 in
-    joining-start (p .0) _ (p .1 .1) (p .1 .0) (c .first-lower-end .ensures)
+    joining-start (p .0) (c .before .before .before .before .before .pre .1 .1 .1 .0) _ (p .1 .1) (p .1 .0) (c .first-lower-end .ensures)
 
 mul-position : tie.Need-mul-position Inv-loop μ-loop
 mul-position c = search needs

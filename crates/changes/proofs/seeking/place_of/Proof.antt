@@ -1,10 +1,9 @@
--- `first_from` meets its contract: what is sought lies among the size places from low on, or behind them.
+-- `place_of` meets its contract: what is sought lies among the size places from low on, or nowhere.
 use native.Mathlib.Omega.{arith}
-use denote.Ref.{now}
-use Rattle.changes.proofs.Firsts.{first-within, Halved, halved-start, halved-low, halved-high, halved-all}
+use Rattle.changes.proofs.Starts.{Halved, halved-start, halved-low, halved-high, halved-found, halved-none}
 use borrow.Author.Needs.{needs}
-use Rattle.changes.proofs.seeking.first_from.Statement.{statement}
-use Rattle.changes.proofs.seeking.first_from.Tie as tie
+use Rattle.changes.proofs.seeking.place_of.Statement.{statement}
+use Rattle.changes.proofs.seeking.place_of.Tie as tie
 
 abbrev Inv-loop : tie.InvT-loop
 Inv-loop positions count start low₀ size₀ low size = Halved positions start count low size
@@ -42,23 +41,20 @@ loop-less-2 c = search needs
 loop-again-2 : tie.Need-loop-again-2 Inv-loop μ-loop
 loop-again-2 c = halved-high (c .before .before .before .loop .inv) (c .before .before .before .before .before .pre .1) (omega arith) (omega arith) (c .if1 .left)
 
-count-below-requires : tie.Need-count-below-requires Inv-loop μ-loop
-count-below-requires c κs = search needs
+add-end : tie.Need-add-end Inv-loop μ-loop
+add-end c = search needs
 
-cast-result : tie.Need-cast-result Inv-loop μ-loop
-cast-result c = search needs
-
-add-result : tie.Need-add-result Inv-loop μ-loop
-add-result c =
-    let b = c .before .before in
-    let a = b .before .before .args in
-    omega (arith, halved-all (b .loop .inv) (b .before .before .pre .1) (c .count-below .ensures), first-within (now (a .positions)) (a .start) (a .count))
+next-equal-requires : tie.Need-next-equal-requires Inv-loop μ-loop
+next-equal-requires c κs = search needs
 
 returns : tie.Need-returns Inv-loop μ-loop
-returns c = halved-all (c .before .before .loop .inv) (c .before .before .before .before .pre .1) (c .count-below .ensures)
+returns c = halved-found (c .before .before .before .loop .inv) (c .before .next-equal .ensures) (c .if2 .taken)
 
-pub first-from-spec : {M : Type 1} → statement M
-first-from-spec =
+returns-2 : tie.Need-returns-2 Inv-loop μ-loop
+returns-2 c = halved-none (c .before .before .before .loop .inv) (c .before .next-equal .ensures) (c .if2 .left)
+
+pub place-of-spec : {M : Type 1} → statement M
+place-of-spec =
     tie.close
     (tie.spec
     Inv-loop
@@ -73,7 +69,7 @@ first-from-spec =
     loop-again
     loop-less-2
     loop-again-2
-    count-below-requires
-    cast-result
-    add-result
-    returns)
+    add-end
+    next-equal-requires
+    returns
+    returns-2)
