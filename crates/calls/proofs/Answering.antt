@@ -29,19 +29,30 @@ unfolding first
 begun = refl
 
 module _ (cs : List (Bool × Refusal)) where
-  -- an answer with one more test behind it is that of the longer list
+  -- an answer with more tests behind it is that of the longer list
+  pub tested-more : (more : List (Bool × Refusal)) {a r : Answer} → a ≡ first cs → r ≡ settled a (first more) a → r ≡ first (cs ++ more)
+  unfolding settled
+  tested-more more {a} e f = f ∙ go a e
+    where
+      go : (a : Answer) → a ≡ first cs → settled a (first more) a ≡ first (cs ++ more)
+      go Accepted e = sym (first-more cs more (sym e))
+      go (Refused j) e = sym (first-refused cs more j (sym e))
+
+  -- so is one with one more
   pub tested : (b : Bool) (k : Refusal) {a r : Answer} {test : Bool} → a ≡ first cs → test ≡ b → r ≡ settled a (first ((test, k) ∷ [])) a
       → r ≡ first (cs ++ ((b, k) ∷ []))
-  unfolding settled
-  tested b k {a} e t f = f ∙ rw t (go a e)
-    where
-      go : (a : Answer) → a ≡ first cs → settled a (first ((b, k) ∷ [])) a ≡ first (cs ++ ((b, k) ∷ []))
-      go Accepted e = sym (first-more cs ((b, k) ∷ []) (sym e))
-      go (Refused j) e = sym (first-refused cs ((b, k) ∷ []) j (sym e))
+  tested b k e t f = tested-more ((b, k) ∷ []) e (rw t at f)
 
   -- a refusal is the answer, whatever tests are added
   pub stays : (more : List (Bool × Refusal)) {a : Answer} {k : Refusal} → a ≡ first cs → a ≡ Refused k → a ≡ first (cs ++ more)
   stays more {a} {k} e f = f ∙ sym (first-refused cs more k (sym e ∙ f))
+
+-- two tests, one behind the other, are a list of two
+pub tested-twice : (a : Answer) (p q : Bool × Refusal) {b r : Answer} → b ≡ settled a (first (p ∷ [])) a → r ≡ settled b (first (q ∷ [])) b
+    → r ≡ settled a (first (p ∷ q ∷ [])) a
+unfolding settled
+tested-twice Accepted p q e f = tested-more (p ∷ []) (q ∷ []) e f
+tested-twice (Refused k) p q e f = f ∙ rw e
 
 -- ---- the tests on the tables
 module _ (h : Head) (t : Tables) where

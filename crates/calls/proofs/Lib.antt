@@ -4,6 +4,5 @@ pub mod Listing
 pub mod Watches
 pub mod Openings
 pub mod Quotes
-pub mod Clears
 pub mod Reaching
 pub mod Made

@@ -1,6 +1,6 @@
 -- From the contracts of the calls to the reference model: whatever the calls' own code shows over a list of calls is what the reference
 -- model shows.
-use mathlib.Core.Path.{_≡_, refl, sym, ap, ap₂, _∙_}
+use mathlib.Core.Path.{_≡_, refl, ap, ap₂, _∙_}
 use Prim.Native.Nat.{ℕ}
 use mathlib.Core.List.{List, [], _∷_}
 use Rattle.head.specs.declared.Head.{Head}

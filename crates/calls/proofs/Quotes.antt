@@ -30,12 +30,14 @@ use Rattle.model.specs.Rows.{Row, Tables, rowAt, rowsIn, filled, expiring, rema
 use Rattle.model.specs.Book.{tornWatches, bookRows, watchfulAnswer, quoteRows, quoteHead, quoteBytes, quoteAnswer, quoteReply, quoteTables, quoteOut}
 use Rattle.model.proofs.ChangesFit.{changes-fit}
 use Rattle.cells.specs.Selected.{selected}
+use Rattle.cells.specs.Removed.{removedPlaces}
 use Rattle.cells.proofs.Selecting.{selected-filter}
+use Rattle.cells.proofs.Removals.{removed-few}
 use Rattle.rows.specs.Lent.{rowsLeft, rowsNext, Ready}
 use Rattle.rows.proofs.Reading.{length-rows}
 use Rattle.changes.specs.Flagged.{flagged}
 use Rattle.changes.specs.Watches.{allFrames}
-use Rattle.changes.specs.Sought.{Rises}
+use Rattle.changes.specs.Sought.{Rises, Named}
 use Rattle.changes.proofs.Quoting.{Found, untorn-rows, quote-frames}
 use Rattle.calls.specs.Left.{rowAnswer, Quoted}
 use Rattle.calls.proofs.Answering.{Passed, begun, stays, watchful-passed, refused-reply, refused-left, accepted-reply, accepted-left}
@@ -52,13 +54,12 @@ pub record Admitted (h : Head) (x : List ℕ) (t : Tables) (ws : List ℕ) : Typ
   pub wide : length x ≡ h .dimensions
   pub below : h .newest < lastPosition
 
--- whatever is tested behind them
-pub admitted-before : (h : Head) (x : List ℕ) (t : Tables) (ws : List ℕ) (more : List (Bool × Refusal))
-    → watchfulAnswer h t ws ((not (eqb (length x) (h .dimensions)), ColumnCount) ∷ (leb lastPosition (h .newest), TapeFull) ∷ more) ≡ Accepted → Admitted h x t ws
-admitted-before h x t ws more e =
+pub admitted : (h : Head) (x : List ℕ) (t : Tables) (ws : List ℕ) → rowAnswer h x t ws ≡ Accepted → Admitted h x t ws
+unfolding rowAnswer
+admitted h x t ws e =
     let p = watchful-passed h t ws _ e in
     let c = accepted-passed (not (eqb (length x) (h .dimensions))) ColumnCount _ (p .2) in
-    let f = accepted-passed (leb lastPosition (h .newest)) TapeFull more (c .1) in
+    let f = accepted-passed (leb lastPosition (h .newest)) TapeFull [] (c .1) in
     record {
       passed = p .0;
       untorn = p .1;
@@ -66,19 +67,18 @@ admitted-before h x t ws more e =
       below = leb-false lastPosition (h .newest) (f .0);
     }
 
-pub admitted : (h : Head) (x : List ℕ) (t : Tables) (ws : List ℕ) → rowAnswer h x t ws ≡ Accepted → Admitted h x t ws
-unfolding rowAnswer
-admitted h x t ws e = admitted-before h x t ws [] e
+-- the rows are few
+pub few-rows : {h : Head} {x : List ℕ} {t : Tables} {ws : List ℕ} → Admitted h x t ws → h .rows ≤ 1024
+few-rows a = omega (arith, a .passed .whole, a .passed .settings)
 
--- what is asked before the rows are marked on 1,024 flags
-pub mark-asks : (h : Head) (x : List ℕ) (t : Tables) (ws : List ℕ) → rowAnswer h x t ws ≡ Accepted
-    → (h .dimensions ≤ length x) × ((h .rows * h .dimensions ≤ length (t .columns)) × ((h .rows ≤ length (t .positions)) × ((h .rows ≤ 1024) × (h .rows ≤ 1024))))
-mark-asks h x t ws e =
+-- what is asked before the rows are marked on this many flags
+pub mark-asks : (h : Head) (x : List ℕ) (t : Tables) (ws : List ℕ) (flags : ℕ) → rowAnswer h x t ws ≡ Accepted → h .rows ≤ flags
+    → (h .dimensions ≤ length x) × ((h .rows * h .dimensions ≤ length (t .columns)) × ((h .rows ≤ length (t .positions)) × ((h .rows ≤ flags) × (h .rows ≤ 1024))))
+mark-asks h x t ws flags e fits =
     let a = admitted h x t ws e in
     let p = a .passed in
     let w = a .wide in
-    let few : h .rows ≤ 1024 = omega (arith, p .whole, p .settings) in
-    (omega arith, (le-trans (mul-le-mul-right (h .dimensions) (p .whole .few-rows)) (p .long .columns), (omega (arith, p .long, p .whole), (few, few))))
+    (omega arith, (le-trans (mul-le-mul-right (h .dimensions) (p .whole .few-rows)) (p .long .columns), (omega (arith, p .long, p .whole), (fits, few-rows a))))
 
 -- ---- room for one row more
 module _ (h : Head) (x : List ℕ) (t : Tables) (p : Passed h t) where
@@ -188,6 +188,14 @@ module _ {h : Head} {x : List ℕ} {t : Tables} {ws : List ℕ} {kept : List Boo
       let stand = rows-stand h t p in
       (v .admitted .below, (v .fits, (stand .0, (stand .1, rw bytes-are (changes-fit h x t ws (p .held) (p .untorn) .bytes-most)))))
 
+  -- what is asked before the rows that do not stay are listed on this many places
+  pub list-asks : {places : ℕ} → h .rows ≤ places → (h .rows ≤ length kept) × ((h .rows ≤ places) × (h .rows ≤ 1024))
+  list-asks fits = (v .fits, (fits, few-rows (v .admitted)))
+
+  -- they are no more than the places
+  pub listed-few : {n places : ℕ} → h .rows ≤ places → n ≡ length (removedPlaces kept (h .rows)) → n ≤ places
+  listed-few fits e = omega (arith, removed-few kept (h .rows))
+
   -- what is asked before the tables are settled
   pub ready : Ready h x lower kept t
   unfolding expiring
@@ -223,12 +231,14 @@ module _ {h : Head} {x : List ℕ} {t : Tables} {ws : List ℕ} {kept : List Boo
 
     module _ (f : over ≡ false) where
       -- what is asked before the changes are written
-      pub write-asks : (h .capacity < 65536) × ((tornWatches (h .capacity) ws ≡ false)
+      pub write-asks : {removed : List ℕ} {named : Bool} → removed ≡ removedPlaces kept (h .rows) → (named ≡ true → Named (t .positions) (t .lowerEnds) (h .rows))
+          → (h .capacity < 65536) × ((tornWatches (h .capacity) ws ≡ false)
           × ((h .newest < lastPosition)
-          × ((h .rows ≤ length kept) × ((h .rows ≤ length (t .positions)) × ((h .rows ≤ length (t .lowerEnds)) × ((h .rows ≤ 1024)
-          × (Rises (t .positions) (h .rows) × ((gone ≤ windowStart (h .newest) (h .capacity)) × (length bytes ≤ length out)))))))))
+          × ((h .rows ≤ length kept) × ((h .rows ≤ length (t .positions)) × ((h .rows ≤ length (t .lowerEnds)) × ((removed ≡ removedPlaces kept (h .rows))
+          × (Rises (t .positions) (h .rows)
+          × ((named ≡ true → Named (t .positions) (t .lowerEnds) (h .rows)) × ((gone ≤ windowStart (h .newest) (h .capacity)) × (length bytes ≤ length out))))))))))
       unfolding expiring windowStart
-      write-asks =
+      write-asks r n =
           let p = v .admitted .passed in
           let asks = count-asks in
           let gone-is = v .found .expired in (
@@ -244,8 +254,8 @@ module _ {h : Head} {x : List ℕ} {t : Tables} {ws : List ℕ} {kept : List Boo
                     (
                       asks .1 .1 .1 .0,
                       (
-                        omega (arith, p .whole, p .settings),
-                        (untorn-rows h t (p .untorn) .rises, (omega arith, ltb-false (length out) (length bytes) (sym o ∙ f))),
+                        r,
+                        (untorn-rows h t (p .untorn) .rises, (n, (omega arith, ltb-false (length out) (length bytes) (sym o ∙ f)))),
                       ),
                     ),
                   ),

@@ -1,13 +1,14 @@
 -- What each call leaves: its reply and the final contents of everything lent, as the book model says.
 use mathlib.Core.Path.{_≡_}
 use Prim.Native.Nat.{ℕ}
-use mathlib.Core.Bool.{not}
+use mathlib.Core.Bool.{Bool, not, cond}
 use mathlib.Core.List.{List, [], _∷_}
 use lib.Dec.{leb, eqb}
 use lib.ListN.{length}
 use Rattle.lists.specs.Lists.{contains}
 use Rattle.head.specs.declared.Answer.{Answer}
 use Rattle.head.specs.declared.Head.{Head}
+use Rattle.head.specs.declared.Refusal.{Refusal}
 use Rattle.head.specs.declared.Refusal.the-variants.{Settings, ColumnCount, WindowSize, TapeFull, AlreadyWatched, NoFreeRecord, ShortLoan}
 use Rattle.head.specs.declared.Reply.{Reply}
 use Rattle.head.specs.Heads.{settingsHold, lastPosition}
@@ -15,7 +16,6 @@ use Rattle.head.specs.Refusals.{first}
 use Rattle.model.specs.Rows.{Tables}
 use Rattle.model.specs.Book
 use Rattle.model.specs.Calls.{World}
-use Rattle.rows.specs.Lent.{Cleared}
 
 -- the three lent tables
 abbrev pub tables : List ℕ → List ℕ → List ℕ → Tables
@@ -36,9 +36,21 @@ pub record Opened (d N directions : ℕ) (t : Tables) (ws : List ℕ) (r : Reply
   pub lent : t' ≡ Book.openTables d N directions t ws
   pub watches : ws' ≡ Book.openWatches d N directions t ws
 
+-- the tests of quote x itself: 4, 6
+abbrev pub quoteTests : Head → List ℕ → List (Bool × Refusal)
+quoteTests h x = (not (eqb (length x) (h .dimensions)), ColumnCount) ∷ (leb lastPosition (h .newest), TapeFull) ∷ []
+
 -- the answer of quote x but for the output: 3, 11, 12, 4, 6
 unfoldable pub rowAnswer : Head → List ℕ → Tables → List ℕ → Answer
-rowAnswer h x t ws = Book.watchfulAnswer h t ws ((not (eqb (length x) (h .dimensions)), ColumnCount) ∷ (leb lastPosition (h .newest), TapeFull) ∷ [])
+rowAnswer h x t ws = Book.watchfulAnswer h t ws (quoteTests h x)
+
+-- the same of a book of which neither 11 nor 12 is said: 3, 4, 6
+unfoldable pub reachedAnswer : Head → List ℕ → Answer
+reachedAnswer h x = first ((not (settingsHold (h .dimensions) (h .capacity) (h .directions)), Settings) ∷ quoteTests h x)
+
+-- below which number of rows the places of the tables may be in use: all of them, or in a book that calls left those of its rows
+unfoldable pub usedRows : Head → Bool → ℕ
+usedRows h reached = cond reached (h .rows) (h .capacity)
 
 -- what quote x leaves of tables t and output
 pub record Quoted (h : Head) (x : List ℕ) (t : Tables) (ws before : List ℕ) (r : Reply) (t' : Tables) (after : List ℕ) : Type 0 where
@@ -66,8 +78,3 @@ pub record Watched (h : Head) (n : ℕ) (t : Tables) (ws before : List ℕ) (r :
 pub record Ended (h : Head) (n : ℕ) (t : Tables) (ws : List ℕ) (r : Reply) (ws' : List ℕ) : Type 0 where
   pub reply : r ≡ Book.endReply h n t ws
   pub watches : ws' ≡ Book.endWatches h n t ws
-
--- which places of the tables are in use after a call: those of its head's rows, or head and tables are as they were
-pub data Clears (h h' : Head) (t t' : Tables) : Type 0 where
-  cleared : Cleared h' (h' .rows) t' → Clears h h' t t'
-  unchanged : h' ≡ h → t' ≡ t → Clears h h' t t'

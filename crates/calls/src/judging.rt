@@ -1,6 +1,9 @@
 // The judgements that the calls begin with: settings, lengths, torn.
 ghost use mathlib.Core.Path.{_≡_};
+ghost use mathlib.Core.Bool.{not};
 ghost use mathlib.Core.List.{[], _∷_};
+ghost use Rattle.head.specs.declared.Refusal.the-variants.{Settings};
+ghost use Rattle.head.specs.Heads.{settingsHold};
 ghost use Rattle.head.specs.Refusals.{first, settled};
 ghost use Rattle.model.specs.Book.{shortTables, answerOf, watchfulAnswer, outOfRange};
 ghost use Rattle.calls.specs.Left.{tables, loanAnswer};
@@ -48,11 +51,18 @@ pub fn with_test(answer: Answer, test: bool, refusal: Refusal) -> Answer
     answer
 }
 
+// The answer of a call by its head's settings: 3.
+pub fn judge_settings(head: Head) -> Answer
+    ensures { λ r. ⌜ r ≡ first ((not (settingsHold (head .dimensions) (head .capacity) (head .directions)), Settings) ∷ []) ⌝ }
+{
+    with_test(Answer::Accepted, !head.settings_hold(), Refusal::Settings)
+}
+
 // The answer of a call that is lent the tables, before it reads them: 3, 11.
 pub fn judge_loan(head: Head, columns: &[u32], positions: &[u32], lower_ends: &[u32]) -> Answer
     ensures { λ r. ⌜ r ≡ loanAnswer head (tables (now (columns .entry)) (now (positions .entry)) (now («lower_ends» .entry))) ⌝ }
 {
-    let settings = with_test(Answer::Accepted, !head.settings_hold(), Refusal::Settings);
+    let settings = judge_settings(head);
     let short = short_tables(
         head.dimensions,
         head.capacity,

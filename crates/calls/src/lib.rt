@@ -9,7 +9,6 @@ use head::Reply;
 pub use looking::look;
 pub use opening::open;
 pub use quoting::quote;
-pub use quoting::quote_cleared;
 pub use quoting::quote_reached;
 pub use watching::end;
 pub use watching::watch;

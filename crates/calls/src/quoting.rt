@@ -1,17 +1,20 @@
 // The quote: judged, its changes written for each watch, and its row taken into the tables.
 ghost use mathlib.Core.Path.{_≡_};
 ghost use Prim.Native.Nat.{_≤_, _<_};
+ghost use mathlib.Core.Bool.{true};
 ghost use lib.Dec.{ltb};
 ghost use lib.ListN.{length};
 ghost use Rattle.head.specs.declared.Answer.the-variants.{Accepted};
 ghost use Rattle.head.specs.Heads.{lastPosition};
+ghost use Rattle.head.specs.Refusals.{first, settled};
 ghost use Rattle.model.specs.Calls.{Reached};
-ghost use Rattle.rows.specs.Lent.{Cleared};
 ghost use Rattle.changes.specs.Flagged.{flagged};
 ghost use Rattle.changes.specs.Watches.{allFrames};
-ghost use Rattle.calls.specs.Left.{tables, world, rowAnswer, Quoted};
+ghost use Rattle.calls.specs.Left.{tables, world, quoteTests, rowAnswer, reachedAnswer, usedRows, Quoted};
+use crate::judging::judge_settings;
 use crate::judging::judge_watchful;
 use crate::judging::with_test;
+use cells::list_removed;
 use changes::count_all_changes;
 use changes::write_all_changes;
 use head::Answer;
@@ -21,6 +24,15 @@ use head::Reply;
 use rows::difference;
 use rows::mark;
 use rows::settle;
+
+// An answer with the tests of the quote itself behind it: 4, 6.
+fn with_quote(answer: Answer, head: Head, quote: &[u32]) -> Answer
+    ensures { λ r. ⌜ r ≡ settled answer (first (quoteTests head (now (quote .entry)))) answer ⌝ }
+{
+    let d = head.dimensions as usize;
+    let wide = with_test(answer, quote.len() != d, Refusal::ColumnCount);
+    with_test(wide, Head::MAX_POSITION <= head.newest, Refusal::TapeFull)
+}
 
 // The answer of a quote but for the output: 3, 11, 12, 4, 6.
 fn judge_row(
@@ -34,9 +46,14 @@ fn judge_row(
     ensures { λ r. ⌜ r ≡ rowAnswer head (now (quote .entry)) (tables (now (columns .entry)) (now (positions .entry)) (now («lower_ends» .entry))) watches ⌝ }
 {
     let judged = judge_watchful(head, columns, positions, lower_ends, watches);
-    let d = head.dimensions as usize;
-    let wide = with_test(judged, quote.len() != d, Refusal::ColumnCount);
-    with_test(wide, Head::MAX_POSITION <= head.newest, Refusal::TapeFull)
+    with_quote(judged, head, quote)
+}
+
+// The answer of a quote on a book that calls left, but for the output: 3, 4, 6.
+fn judge_reached(head: Head, quote: &[u32]) -> Answer
+    ensures { λ r. ⌜ r ≡ reachedAnswer head (now (quote .entry)) ⌝ }
+{
+    with_quote(judge_settings(head), head, quote)
 }
 
 // Whether the changes of a quote are longer than the room for them; where 57,400 bytes are lent, none are, and none is counted.
@@ -63,37 +80,52 @@ fn overflows(
     room < count_all_changes(watches, head, keep, positions, lower_ends, gone, lower)
 }
 
-// Takes a quote that passed every test but the last: its changes are written and its row is put into the tables, if the changes fit.
-fn accept(
+// Below which number of rows the places of the tables may be in use.
+fn used_rows(head: Head, reached: bool) -> u32
+    ensures { λ r. ⌜ r ≡ usedRows head reached ⌝ }
+{
+    if reached {
+        return head.rows;
+    }
+    head.capacity
+}
+
+// Takes a quote that passed every test but the last, with a flag and a place for each row: its changes are written and its row is put
+// into the tables, if the changes fit.
+fn accept_with(
+    keep: &mut [bool],
+    places: &mut [u16],
     head: Head,
     quote: &[u32],
-    used: u32,
+    reached: bool,
     columns: &mut [u32],
     positions: &mut [u32],
     lower_ends: &mut [u32],
     watches: [u32; 8],
     out: &mut [u8],
 ) -> Reply
+    requires { ⌜ head .rows ≤ length (now keep) ⌝ }
+    requires { ⌜ head .rows ≤ length (now places) ⌝ }
     requires { ⌜ rowAnswer head (now quote) (tables (now columns) (now positions) (now «lower_ends»)) watches ≡ Accepted ⌝ }
-    requires { ⌜ Cleared head used (tables (now columns) (now positions) (now «lower_ends»)) ⌝ }
+    requires { ⌜ (reached ≡ true → Reached (world head (tables (now columns) (now positions) (now «lower_ends»)) watches)) ⌝ }
     ensures { λ r. ⌜ Quoted head (now (quote .entry)) (tables (now (columns .entry)) (now (positions .entry)) (now («lower_ends» .entry))) watches (now (out .entry)) r (tables (now (columns .exit)) (now (positions .exit)) (now («lower_ends» .exit))) (now (out .exit)) ⌝ }
 {
-    let mut keep = [false; 1024];
     let gone = difference(head.newest + 1, head.capacity);
+    let rows = head.rows as usize;
     let lower = mark(
         head.directions,
         head.dimensions as usize,
         columns,
         positions,
-        head.rows as usize,
+        rows,
         quote,
         gone,
-        &mut keep,
+        keep,
     );
     if overflows(
         watches,
         head,
-        &keep,
+        keep,
         positions,
         lower_ends,
         gone,
@@ -106,21 +138,25 @@ fn accept(
             count: 0,
         };
     }
+    let length = list_removed(keep, rows, places);
     let count = write_all_changes(
         watches,
         head,
-        &keep,
+        keep,
+        &places[..length],
         positions,
         lower_ends,
         gone,
         lower,
+        reached,
         out,
     );
-    let rows = settle(
+    let used = used_rows(head, reached);
+    let left = settle(
         head,
         quote,
         lower,
-        &keep,
+        keep,
         used,
         columns,
         positions,
@@ -128,27 +164,70 @@ fn accept(
     );
     Reply {
         answer: Answer::Accepted,
-        head: head.after_quote(rows),
+        head: head.after_quote(left),
         count,
     }
 }
 
-// Takes a quote on tables of which only the places below used rows are in use: writes the changes of every watch, puts the quote's
-// row into the tables, and hands back the next head and how many bytes were written.
-pub fn quote_cleared(
+// Takes a quote that passed every test but the last, with flags and places of its own: few for few rows, since each is zeroed.
+fn accept(
     head: Head,
     quote: &[u32],
-    used: u32,
+    reached: bool,
     columns: &mut [u32],
     positions: &mut [u32],
     lower_ends: &mut [u32],
     watches: [u32; 8],
     out: &mut [u8],
 ) -> Reply
-    requires { ⌜ Cleared head used (tables (now columns) (now positions) (now «lower_ends»)) ⌝ }
+    requires { ⌜ rowAnswer head (now quote) (tables (now columns) (now positions) (now «lower_ends»)) watches ≡ Accepted ⌝ }
+    requires { ⌜ (reached ≡ true → Reached (world head (tables (now columns) (now positions) (now «lower_ends»)) watches)) ⌝ }
     ensures { λ r. ⌜ Quoted head (now (quote .entry)) (tables (now (columns .entry)) (now (positions .entry)) (now («lower_ends» .entry))) watches (now (out .entry)) r (tables (now (columns .exit)) (now (positions .exit)) (now («lower_ends» .exit))) (now (out .exit)) ⌝ }
 {
-    let answer = judge_row(head, quote, columns, positions, lower_ends, watches);
+    if head.rows <= 128 {
+        return accept_with(
+            &mut [false; 128],
+            &mut [0u16; 128],
+            head,
+            quote,
+            reached,
+            columns,
+            positions,
+            lower_ends,
+            watches,
+            out,
+        );
+    }
+    accept_with(
+        &mut [false; 1024],
+        &mut [0u16; 1024],
+        head,
+        quote,
+        reached,
+        columns,
+        positions,
+        lower_ends,
+        watches,
+        out,
+    )
+}
+
+// Takes a quote that has this answer but for the output: where it is refused everything lent stays as it was.
+fn take(
+    answer: Answer,
+    head: Head,
+    quote: &[u32],
+    reached: bool,
+    columns: &mut [u32],
+    positions: &mut [u32],
+    lower_ends: &mut [u32],
+    watches: [u32; 8],
+    out: &mut [u8],
+) -> Reply
+    requires { ⌜ answer ≡ rowAnswer head (now quote) (tables (now columns) (now positions) (now «lower_ends»)) watches ⌝ }
+    requires { ⌜ (reached ≡ true → Reached (world head (tables (now columns) (now positions) (now «lower_ends»)) watches)) ⌝ }
+    ensures { λ r. ⌜ Quoted head (now (quote .entry)) (tables (now (columns .entry)) (now (positions .entry)) (now («lower_ends» .entry))) watches (now (out .entry)) r (tables (now (columns .exit)) (now (positions .exit)) (now («lower_ends» .exit))) (now (out .exit)) ⌝ }
+{
     match answer {
         Answer::Accepted => {}
         Answer::Refused(_) => {
@@ -162,7 +241,7 @@ pub fn quote_cleared(
     accept(
         head,
         quote,
-        used,
+        reached,
         columns,
         positions,
         lower_ends,
@@ -171,7 +250,7 @@ pub fn quote_cleared(
     )
 }
 
-// Takes a quote on any tables: every place may be in use.
+// Takes a quote on any tables: they are judged, and every place may be in use.
 pub fn quote(
     head: Head,
     quote: &[u32],
@@ -183,10 +262,12 @@ pub fn quote(
 ) -> Reply
     ensures { λ r. ⌜ Quoted head (now (quote .entry)) (tables (now (columns .entry)) (now (positions .entry)) (now («lower_ends» .entry))) watches (now (out .entry)) r (tables (now (columns .exit)) (now (positions .exit)) (now («lower_ends» .exit))) (now (out .exit)) ⌝ }
 {
-    quote_cleared(
+    let answer = judge_row(head, quote, columns, positions, lower_ends, watches);
+    take(
+        answer,
         head,
         quote,
-        head.capacity,
+        false,
         columns,
         positions,
         lower_ends,
@@ -195,7 +276,7 @@ pub fn quote(
     )
 }
 
-// Takes a quote on a book that calls left: only the places of its rows are in use.
+// Takes a quote on a book that calls left: neither tables nor watches are judged, and only the places of the rows are in use.
 pub fn quote_reached(
     head: Head,
     quote: &[u32],
@@ -208,10 +289,12 @@ pub fn quote_reached(
     requires { ⌜ Reached (world head (tables (now columns) (now positions) (now «lower_ends»)) watches) ⌝ }
     ensures { λ r. ⌜ Quoted head (now (quote .entry)) (tables (now (columns .entry)) (now (positions .entry)) (now («lower_ends» .entry))) watches (now (out .entry)) r (tables (now (columns .exit)) (now (positions .exit)) (now («lower_ends» .exit))) (now (out .exit)) ⌝ }
 {
-    quote_cleared(
+    let answer = judge_reached(head, quote);
+    take(
+        answer,
         head,
         quote,
-        head.rows,
+        true,
         columns,
         positions,
         lower_ends,

@@ -7,3 +7,5 @@ pub mod Gathering
 pub mod Renaming
 pub mod Blanks
 pub mod Settling
+pub mod Places
+pub mod Removals

@@ -10,6 +10,10 @@ ghost use Rattle.model.specs.Rows.{renamed};
 ghost use Rattle.cells.specs.Blank.{Blank};
 ghost use Rattle.cells.specs.Selected.{selected, columnsIn, allKept, Kept, RunEnd, Gathered};
 
+mod removing;
+
+pub use removing::list_removed;
+
 // x if the test passed, else y.
 pub fn chosen(test: bool, x: u32, y: u32) -> u32
     ensures { λ r. ⌜ r ≡ cond test x y ⌝ }

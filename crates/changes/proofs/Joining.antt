@@ -15,7 +15,8 @@ use Rattle.changes.specs.Sought.{nextEqual, firstFrom, Steps}
 use Rattle.changes.proofs.Writing.{Writing, writing-start, writing-pass, writing-skip, writing-all}
 use Rattle.changes.proofs.Framing.{framing, frames-cells, join-length, frame-fits, frame-laid}
 use Rattle.changes.proofs.Places.{equal-from, equal-within}
-use Rattle.changes.proofs.Stepping.{picked-skip, first-within, joins-none, joins-late}
+use Rattle.changes.proofs.Firsts.{first-within}
+use Rattle.changes.proofs.Stepping.{picked-skip, joins-none, joins-late}
 
 -- the joins of the rows below place i stand at the front of the output
 pub record Joining (n : ℕ) (s : Flagged) (w : Shift) (entry out : List ℕ) (at i : ℕ) : Type 0 where
@@ -37,7 +38,7 @@ module _ {n : ℕ} {s : Flagged} {w : Shift} (v : Steps w) where
       → i ≡ nextEqual (s .lowerEnds) (w .before) (s .count) f → Joining n s w entry entry 0 i
   unfolding moving
   joining-start entry {f} h e q =
-      let within = first-within s w v in
+      let within = first-within (s .positions) (w .before) (s .count) in
       let start = writing-start (framing (Join n)) (moves s w true) (s .positions) (s .count) entry (rw (← frames-cells) h) in
       let none = picked-skip (moves s w true) (s .positions) 0 f (omega arith) (λ k a b. joins-late s w v k (omega arith) (omega arith)) in
       onward (record { writing = writing-skip start f (omega arith) none }) (omega arith) q

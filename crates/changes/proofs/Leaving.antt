@@ -15,9 +15,10 @@ use Rattle.skyline.specs.Skyline.{stabbed}
 use Rattle.frames.specs.declared.Message.the-variants.{Leave}
 use Rattle.frames.specs.Frames.{frame}
 use Rattle.model.specs.Changes.{frames}
+use Rattle.cells.specs.Removed.{removedPlaces}
 use Rattle.changes.specs.declared.Shift.{Shift}
 use Rattle.changes.specs.Flagged.{Flagged, moving, fallen}
-use Rattle.changes.specs.Sought.{removedPlaces, listedOf, Below, Rises, Steps}
+use Rattle.changes.specs.Sought.{listedOf, Below, Rises, Steps}
 use Rattle.changes.proofs.Framing.{leave-length, frames-append}
 use Rattle.changes.proofs.Stepping.{leaves-are}
 

@@ -8,6 +8,7 @@ pub mod Watching
 pub mod Distinct
 pub mod Quoting
 pub mod Places
+pub mod Firsts
 pub mod Stepping
 pub mod Leaving
 pub mod Joining

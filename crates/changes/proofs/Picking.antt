@@ -38,6 +38,11 @@ module _ (test : ℕ → Bool) (positions : List ℕ) where
   pub picked-passed : (i : ℕ) → test i ≡ false → picked test positions (i + 1) ≡ picked test positions i
   picked-passed i e = rw (picked-more, e, append-nil)
 
+  -- as many as pass
+  pub picked-length : (count : ℕ) → length (picked test positions count) ≡ length (filter test (run 0 count))
+  unfolding picked
+  picked-length count = length-map (filter test (run 0 count)) (λ i. getD positions i 0)
+
   pub picked-few : (count : ℕ) → length (picked test positions count) ≤ count
   unfolding picked
   picked-few count = simp length-map (omega (arith, length-filter test (run 0 count), length-run 0 count))

@@ -1,136 +1,18 @@
--- Laws of the next place that passes a test: of cells and flags tested by blocks, of a table halved, and of the rows removed, listed.
-use mathlib.Core.Path.{_≡_, refl, sym, ap, _∙_}
-use mathlib.Core.Logic.{_⊎_, inl, inr}
-use Prim.Native.Nat.{ℕ, zero, suc, _+_, _-_, _≤_, _<_}
-use native.Mathlib.Nat.{zero-add}
-use native.Mathlib.Numerals.{add-one}
-use native.Mathlib.Decide.{decLt}
+-- Laws of the next cell of a value.
+use mathlib.Core.Path.{_≡_, sym, ap, _∙_}
+use Prim.Native.Nat.{ℕ, _+_, _-_, _≤_, _<_}
+use native.Mathlib.Nat.{le-refl}
 use native.Mathlib.Omega.{arith}
-use mathlib.Core.Bool.{Bool, true, false, _||_, not, cond}
-use mathlib.Core.List.{List, [], _∷_, _++_}
-use lib.Dec.{leb, eqb}
-use lib.ListN.{length, getD, set, take, length-append, length-set}
-use lib.Seq.{take-suc-set}
-use borrow.Author.Tests.{lt-leb, le-leb, eq-eqb, ne-eqb, not-true}
-use Rattle.lists.specs.Lists.{keep, filter, any, run}
-use Rattle.lists.proofs.Filters.{any-append, filter-append, length-filter}
-use Rattle.lists.proofs.Runs.{length-run, run-snoc, none-any, filter-upto, order}
-use Rattle.changes.specs.Sought.{nextOf, nextPlace, nextEqual, firstFrom, nextRemoved, removedPlaces, Rises}
-
--- i of the 16 places from `from` on are tested
-pub record Tested (test : ℕ → Bool) (from : ℕ) (found : Bool) (i : ℕ) : Type 0 where
-  pub within : i ≤ 16
-  pub some : found ≡ any test (run from i)
-
-pub tested-start : (test : ℕ → Bool) (from : ℕ) → Tested test from false 0
-unfolding any run
-tested-start test from = record { within = omega arith; some = refl }
-
-pub tested-more : {test : ℕ → Bool} {from i : ℕ} {found b : Bool} → Tested test from found i → i < 16 → b ≡ test (from + i) → Tested test from (found || b) (i + 1)
-unfolding any
-tested-more {test} {from} {i} {found} {b} v h q =
-    record { within = omega arith; some = rw (add-one, run-snoc, any-append, ← v .some, ← q) (ends found b) }
-  where
-    ends : (a b : Bool) → a || b ≡ a || (b || false)
-    ends true b = refl
-    ends false true = refl
-    ends false false = refl
-
-pub tested-all : {test : ℕ → Bool} {from i : ℕ} {found : Bool} → Tested test from found i → 16 ≤ i → found ≡ any test (run from 16)
-tested-all {i = i} v h = let e : 16 ≡ i = omega (arith, v .within) in rw e (v .some)
-
-module _ (test : ℕ → Bool) where
-  module _ (z : ℕ) where
-    low : (i k : ℕ) → i + k ≤ z → i ≤ nextOf test z i k
-    unfolding nextOf
-    low i zero h = omega arith
-    low i (suc k) h = go (test i) (low (suc i) k (omega arith))
-      where
-        go : (b : Bool) → suc i ≤ nextOf test z (suc i) k → i ≤ cond b i (nextOf test z (suc i) k)
-        go true l = omega arith
-        go false l = omega arith
-
-    high : (i k : ℕ) → i + k ≤ z → nextOf test z i k ≤ z
-    unfolding nextOf
-    high i zero h = omega arith
-    high i (suc k) h = go (test i) (high (suc i) k (omega arith))
-      where
-        go : (b : Bool) → nextOf test z (suc i) k ≤ z → cond b i (nextOf test z (suc i) k) ≤ z
-        go true l = omega arith
-        go false l = l
-
-    gap : (i k q : ℕ) → i ≤ q → q < i + k → q < nextOf test z i k → test q ≡ false
-    unfolding nextOf
-    gap i zero q u v w = absurd (omega arith)
-    gap i (suc k) q u v w = go (test i) refl w (order i q) (λ h l. gap (suc i) k q h (omega arith) l)
-      where
-        go : (b : Bool) → test i ≡ b → q < cond b i (nextOf test z (suc i) k) → (i < q) ⊎ ((i ≡ q) ⊎ (q < i)) → (suc i ≤ q → q < nextOf test z (suc i) k → test q ≡ false) → test q ≡ false
-        go true e l o later = absurd (omega arith)
-        go false e l (inl h) later = later h l
-        go false e l (inr (inl h)) later = rw (← h) e
-        go false e l (inr (inr h)) later = absurd (omega arith)
-
-    found : (i k : ℕ) → i + k ≡ z → nextOf test z i k < z → test (nextOf test z i k) ≡ true
-    unfolding nextOf
-    found i zero e h = absurd (omega arith)
-    found i (suc k) e h = go (test i) refl h (λ l. found (suc i) k (omega arith) l)
-      where
-        go : (b : Bool) → test i ≡ b → cond b i (nextOf test z (suc i) k) < z → (nextOf test z (suc i) k < z → test (nextOf test z (suc i) k) ≡ true)
-            → test (cond b i (nextOf test z (suc i) k)) ≡ true
-        go true t l later = t
-        go false t l later = later l
-
-  module _ (count : ℕ) where
-    -- the next place from i on, where i is not past count
-    next-from : (i : ℕ) → i ≤ count → i ≤ nextPlace test count i
-    unfolding nextPlace
-    next-from i h = low count i (count - i) (omega arith)
-
-    pub next-within : (i : ℕ) → i ≤ count → nextPlace test count i ≤ count
-    unfolding nextPlace
-    next-within i h = high count i (count - i) (omega arith)
-
-    -- no place before it passes
-    pub next-gap : (i q : ℕ) → i ≤ q → q < count → q < nextPlace test count i → test q ≡ false
-    unfolding nextPlace
-    next-gap i q u v w = gap count i (count - i) q u (omega arith) w
-
-    -- it passes, if it is below count
-    next-found : (i : ℕ) → i ≤ count → nextPlace test count i < count → test (nextPlace test count i) ≡ true
-    unfolding nextPlace
-    next-found i h l = found count i (count - i) (omega arith) l
-
-    pub next-past : (i : ℕ) → count ≤ i → nextPlace test count i ≡ count
-    unfolding nextPlace nextOf
-    next-past i h = let e : count - i ≡ 0 = omega arith in rw e refl
-
-    pub next-here : (i : ℕ) → i < count → test i ≡ true → nextPlace test count i ≡ i
-    unfolding nextPlace nextOf
-    next-here i h t = let e : count - i ≡ suc (count - suc i) = omega arith in rw (e, t) refl
-
-    -- a place that does not pass is passed over
-    pub next-pass : (i : ℕ) → test i ≡ false → nextPlace test count i ≡ nextPlace test count (i + 1)
-    unfolding nextPlace nextOf
-    next-pass i t = go (decLt i count)
-      where
-        go : Dec (i < count) → nextPlace test count i ≡ nextPlace test count (i + 1)
-        go (yes h) = let e : count - i ≡ suc (count - suc i) = omega arith in rw (e, t, add-one) refl
-        go (no h) = next-past i (omega arith) ∙ sym (next-past (i + 1) (omega arith))
-
-    -- so are places none of which passes
-    pub next-skip : (i m : ℕ) → ((q : ℕ) → i ≤ q → q < i + m → test q ≡ false) → nextPlace test count i ≡ nextPlace test count (i + m)
-    next-skip i zero h = let e : i ≡ i + 0 = omega arith in ap (nextPlace test count) e
-    next-skip i (suc m) h =
-        let e : i + m + 1 ≡ i + suc m = omega arith in
-        next-skip i m (λ q u v. h q u (omega arith)) ∙ next-pass (i + m) (h (i + m) (omega arith) (omega arith)) ∙ ap (nextPlace test count) e
-
-    -- the place before which none passes, and which passes if it is below count
-    pub next-is : (r : ℕ) → r ≤ count → ((q : ℕ) → q < r → test q ≡ false) → (r < count → test r ≡ true) → nextPlace test count 0 ≡ r
-    next-is r h none some = rw zero-add at (next-skip 0 r (λ q u v. none q (rw zero-add at v))) ∙ go (decLt r count)
-      where
-        go : Dec (r < count) → nextPlace test count r ≡ r
-        go (yes l) = next-here r l (some l)
-        go (no l) = next-past r (omega arith) ∙ omega arith
+use mathlib.Core.Bool.{Bool, false}
+use mathlib.Core.List.{List}
+use lib.Dec.{eqb}
+use lib.ListN.{getD}
+use borrow.Author.Tests.{eq-eqb, ne-eqb}
+use Rattle.lists.specs.Lists.{any, run}
+use Rattle.lists.proofs.Runs.{none-any}
+use Rattle.cells.specs.Removed.{nextPlace}
+use Rattle.cells.proofs.Places.{next-from, next-within, next-past, next-here, next-pass, next-skip}
+use Rattle.changes.specs.Sought.{nextEqual}
 
 -- the next cell that is x
 module _ (cells : List ℕ) (x count i : ℕ) where
@@ -158,110 +40,9 @@ module _ (cells : List ℕ) (x count i : ℕ) where
   unfolding nextEqual
   equal-skip e f = sym (next-skip (λ k. eqb (getD cells k 0) x) count i 16 (none-any (λ k. eqb (getD cells k 0) x) i 16 (sym e ∙ f)))
 
--- below low the positions are below start, and from high on they are not
-pub record Halved (positions : List ℕ) (start count low high : ℕ) : Type 0 where
-  pub ordered : low ≤ high
-  pub within : high ≤ count
-  pub below : (q : ℕ) → q < low → getD positions q 0 < start
-  pub above : (q : ℕ) → high ≤ q → q < count → start ≤ getD positions q 0
-
-pub halved-start : (positions : List ℕ) (start count : ℕ) → Halved positions start count 0 count
-halved-start positions start count = record { ordered = omega arith; within = omega arith; below = λ q h. absurd (omega arith); above = λ q u v. absurd (omega arith) }
-
-module _ {positions : List ℕ} {start count low high middle : ℕ} (v : Halved positions start count low high) (r : Rises positions count) (l : low ≤ middle) (h : middle < high) where
-  pub halved-low : getD positions middle 0 < start → Halved positions start count (middle + 1) high
-  halved-low b = record { ordered = omega arith; within = v .within; below = λ q u. at q u (order q middle); above = v .above }
-    where
-      at : (q : ℕ) → q < middle + 1 → (q < middle) ⊎ ((q ≡ middle) ⊎ (middle < q)) → getD positions q 0 < start
-      at q u (inl o) = omega (arith, r .rise q middle o (omega (arith, v .within)))
-      at q u (inr (inl o)) = rw o b
-      at q u (inr (inr o)) = absurd (omega arith)
-
-  pub halved-high : start ≤ getD positions middle 0 → Halved positions start count low middle
-  halved-high b = record { ordered = l; within = omega (arith, v .within); below = v .below; above = λ q u w. at q u w (order q middle) }
-    where
-      at : (q : ℕ) → middle ≤ q → q < count → (q < middle) ⊎ ((q ≡ middle) ⊎ (middle < q)) → start ≤ getD positions q 0
-      at q u w (inl o) = absurd (omega arith)
-      at q u w (inr (inl o)) = rw o b
-      at q u w (inr (inr o)) = omega (arith, r .rise middle q o w)
-
-pub halved-all : {positions : List ℕ} {start count low high : ℕ} → Halved positions start count low high → high ≤ low → low ≡ firstFrom positions start count
-unfolding firstFrom
-halved-all {positions} {start} {count} {low} {high} v h =
-    sym
-    (next-is (λ k. leb start (getD positions k 0)) count low (omega (arith, v .ordered, v .within)) (λ q u. lt-leb start (getD positions q 0) (v .below q u))
-    (λ u. le-leb start (getD positions low 0) (v .above low h u)))
-
--- one more place, listed if its row does not stay
-removed-more : (kept : List Bool) (i : ℕ) → removedPlaces kept (i + 1) ≡ removedPlaces kept i ++ keep (not (getD kept i false)) i []
-unfolding removedPlaces filter
-removed-more kept i = rw (add-one, run-snoc, zero-add, filter-append)
-
--- rows that stay are not listed
-removed-skip : (kept : List Bool) (i j : ℕ) → i ≤ j → ((q : ℕ) → i ≤ q → q < j → not (getD kept q false) ≡ false) → removedPlaces kept j ≡ removedPlaces kept i
-unfolding removedPlaces
-removed-skip kept i j h none =
-    let e : i + (j - i) ≡ j = omega arith in
-    rw e at (filter-upto (λ k. not (getD kept k false)) 0 i (j - i) (λ q u v. none q (omega arith) (omega arith)))
-
-pub removed-few : (kept : List Bool) (count : ℕ) → length (removedPlaces kept count) ≤ count
-unfolding removedPlaces
-removed-few kept count = omega (arith, length-filter (λ i. not (getD kept i false)) (run 0 count), length-run 0 count)
-
--- the places below i whose rows do not stay are listed at the front
-pub record Removing (kept : List Bool) (count : ℕ) (entry removed : List ℕ) (n i : ℕ) : Type 0 where
-  pub within : i ≤ count
-  pub few : n ≤ i
-  pub long : length removed ≡ length entry
-  pub sum : n ≡ length (removedPlaces kept i)
-  pub front : take n removed ≡ removedPlaces kept i
-
-removing-start : (kept : List Bool) (count : ℕ) (removed : List ℕ) → Removing kept count removed removed 0 0
-unfolding removedPlaces filter run
-removing-start kept count removed = record { within = omega arith; few = omega arith; long = refl; sum = refl; front = refl }
-
--- the list as it stands at a place whose row does not stay, or at the end
-pub record Removed (kept : List Bool) (count : ℕ) (entry removed : List ℕ) (n i : ℕ) : Type 0 where
-  pub removing : Removing kept count entry removed n i
-  pub there : i < count → getD kept i false ≡ false
-
--- on to the next place whose row does not stay
-removed-on : {kept : List Bool} {count : ℕ} {entry removed : List ℕ} {n i j : ℕ} → Removing kept count entry removed n i → j ≡ nextRemoved kept count i
-    → Removed kept count entry removed n j
-unfolding nextRemoved
-removed-on {kept} {count} {i = i} {j} v e =
-    let goes : ℕ → Bool = λ k. not (getD kept k false) in
-    let low = next-from goes count i (v .within) in
-    let high = next-within goes count i (v .within) in
-    let same = removed-skip kept i j (omega arith) (λ q a b. next-gap goes count i q a (omega arith) (omega arith)) in
-    record {
-      removing = record { within = omega arith; few = omega (arith, v .few); long = v .long; sum = rw same (v .sum); front = rw same (v .front) };
-      there = λ l. not-true (getD kept j false) (rw e (next-found goes count i (v .within) (rw e at l)));
-    }
-
-pub removed-start : (kept : List Bool) (count : ℕ) (entry : List ℕ) {j : ℕ} → j ≡ nextRemoved kept count 0 → Removed kept count entry entry 0 j
-removed-start kept count entry e = removed-on (removing-start kept count entry) e
-
-pub removed-turn : {kept : List Bool} {count : ℕ} {entry removed : List ℕ} {n i j : ℕ} → Removed kept count entry removed n i → i < count → count ≤ length entry
-    → j ≡ nextRemoved kept count (i + 1) → Removed kept count entry (set removed n i) (n + 1) j
-removed-turn {kept} {count} {entry} {removed} {n} {i} u h k e =
-    let v = u .removing in
-    let more : removedPlaces kept (i + 1) ≡ removedPlaces kept i ++ (i ∷ []) = rw (removed-more kept i, u .there h) in
-    removed-on
-    (record {
-      within = omega arith;
-      few = omega (arith, v .few);
-      long = rw length-set (v .long);
-      sum = rw (more, length-append, ← v .sum);
-      front = rw (more, add-one, ← v .front) (take-suc-set removed n i (omega (arith, v .few, v .long)));
-    })
-    e
-
--- the next place is behind this one
-pub removed-later : (kept : List Bool) {count i j : ℕ} → i < count → j ≡ nextRemoved kept count (i + 1) → i < j
-unfolding nextRemoved
-removed-later kept {count} {i} h e = omega (arith, next-from (λ k. not (getD kept k false)) count (i + 1) (omega arith))
-
-pub removing-all : {kept : List Bool} {count : ℕ} {entry removed : List ℕ} {n i : ℕ} → Removing kept count entry removed n i → count ≤ i
-    → (n ≡ length (removedPlaces kept count)) × (take n removed ≡ removedPlaces kept count)
-removing-all {count = count} {i = i} v h = let e : count ≡ i = omega (arith, v .within) in rw e (v .sum, v .front)
+  pub equal-none : i ≤ count → ((q : ℕ) → q < count → getD cells q 0 ≡ x → ⊥) → count ≡ nextEqual cells x count i
+  unfolding nextEqual
+  equal-none h none =
+      let is : ℕ → Bool = λ k. eqb (getD cells k 0) x in
+      let e : i + (count - i) ≡ count = omega arith in
+      sym (next-skip is count i (count - i) (λ q u v. ne-eqb (getD cells q 0) x (none q (omega arith))) ∙ ap (nextPlace is count) e ∙ next-past is count count (le-refl count))

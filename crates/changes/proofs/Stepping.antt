@@ -15,12 +15,14 @@ use Rattle.lists.proofs.Filters.{filter-filter}
 use Rattle.lists.proofs.Runs.{filter-upto}
 use Rattle.skyline.specs.Skyline.{stabbed}
 use Rattle.model.specs.Rows.{renamed}
+use Rattle.cells.specs.Removed.{removedPlaces}
+use Rattle.cells.proofs.Places.{next-gap, next-is}
 use Rattle.changes.specs.declared.Shift.{Shift}
 use Rattle.changes.specs.Picked.{picked}
 use Rattle.changes.specs.Flagged.{Flagged, wasListed, nowListed, moves, moving, fallsOut, fallen}
-use Rattle.changes.specs.Sought.{nextEqual, firstFrom, removedPlaces, listedOf, Rises, Steps}
+use Rattle.changes.specs.Sought.{nextEqual, firstFrom, listedOf, Rises, Steps}
 use Rattle.changes.proofs.Picking.{picked-none, picked-more}
-use Rattle.changes.proofs.Places.{next-within, next-gap, next-is}
+use Rattle.changes.proofs.Firsts.{before-first}
 
 -- places that do not pass pick nothing
 pub picked-skip : (test : ℕ → Bool) (positions : List ℕ) (i j : ℕ) → i ≤ j → ((q : ℕ) → i ≤ q → q < j → test q ≡ false) → picked test positions j ≡ picked test positions i
@@ -116,14 +118,6 @@ module _ (s : Flagged) (w : Shift) (v : Steps w) where
   abbrev pub first : ℕ
   first = firstFrom (s .positions) (w .before) (s .count)
 
-  pub first-within : first ≤ s .count
-  unfolding firstFrom
-  first-within = next-within (λ k. leb (w .before) (position k)) (s .count) 0 (omega arith)
-
-  before-first : (q : ℕ) → q < s .count → q < first → position q < w .before
-  unfolding firstFrom
-  before-first q u h = leb-false (w .before) (position q) (next-gap (λ k. leb (w .before) (position k)) (s .count) 0 q (omega arith) u h)
-
   -- no row joins before the next lower end that is the window's old start
   pub joins-none : (i q : ℕ) → i ≤ q → q < s .count → q < nextEqual (s .lowerEnds) (w .before) (s .count) i → moves s w true q ≡ false
   unfolding nextEqual
@@ -133,7 +127,7 @@ module _ (s : Flagged) (w : Shift) (v : Steps w) where
 
   -- nor before the window's first place
   pub joins-late : (q : ℕ) → q < s .count → q < first → moves s w true q ≡ false
-  joins-late q u h = refute (moves s w true q) (λ e. omega (arith, before-first q u h, joins-at q e .1))
+  joins-late q u h = refute (moves s w true q) (λ e. omega (arith, before-first (s .positions) (w .before) (s .count) q u h, joins-at q e .1))
 
   module _ (u : Rises (s .positions) (s .count)) where
     -- a row that stays and leaves stands at the window's first place
@@ -176,7 +170,7 @@ module _ (s : Flagged) (w : Shift) (v : Steps w) where
     goes-none : (i : ℕ) → i ≤ s .count → i ≤ first → picked goes (s .positions) i ≡ []
     goes-none i h f =
         picked-skip goes (s .positions) 0 i (omega arith)
-        (λ q _ l. refute (goes q) (λ e. omega (arith, before-first q (omega arith) (omega arith), listed-late q (and-right (not (getD (s .kept) q false)) (wasListed s w q) e))))
+        (λ q _ l. refute (goes q) (λ e. omega (arith, before-first (s .positions) (w .before) (s .count) q (omega arith) (omega arith), listed-late q (and-right (not (getD (s .kept) q false)) (wasListed s w q) e))))
         ∙ picked-none goes (s .positions)
 
     -- the rows that leave below place i: one that stays comes first

@@ -35,7 +35,7 @@ start-below newest gone N n h k = omega arith
 -- the window of n moves by one position or not at all
 pub steps-of : (gone newest n : ℕ) {w : Shift} → w ≡ shiftOf gone newest n → gone ≤ windowStart newest n → Steps w
 unfolding shiftOf windowStart
-steps-of gone newest n e h = rw e (record { forth = omega arith; by-one = omega arith; expires = h })
+steps-of gone newest n e h = rw e (record { starts = omega arith; forth = omega arith; by-one = omega arith; expires = h })
 
 module _ (gone newest : ℕ) (s : Flagged) (lower n : ℕ) where
   pub watch-none : n ≡ 0 → watchFrames gone newest s lower n ≡ []

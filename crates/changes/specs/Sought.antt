@@ -1,23 +1,14 @@
--- Places sought in the tables: the next that passes a test, and those of the rows that do not stay.
+-- Places sought in the tables: the next cell of a value and the first row of a window; and what the tables and a window have to be.
 use mathlib.Core.Path.{_≡_}
 use mathlib.Core.Logic.{_⊎_}
-use Prim.Native.Nat.{ℕ, zero, suc, _+_, _-_, _≤_, _<_}
-use mathlib.Core.Bool.{Bool, false, not, cond}
+use Prim.Native.Nat.{ℕ, _+_, _≤_, _<_}
 use mathlib.Core.List.{List, map}
 use lib.Dec.{leb, eqb}
 use lib.ListN.{length, getD}
-use Rattle.lists.specs.Lists.{filter, run}
+use Rattle.lists.specs.Lists.{filter}
 use Rattle.skyline.specs.Skyline.{stabbed}
+use Rattle.cells.specs.Removed.{nextPlace}
 use Rattle.changes.specs.declared.Shift.{Shift}
-
--- the first of the k places from i on that passes the test, or z where none does
-unfoldable pub nextOf : (ℕ → Bool) → ℕ → ℕ → ℕ → ℕ
-nextOf test z i zero = z
-nextOf test z i (suc k) = cond (test i) i (nextOf test z (suc i) k)
-
--- the first place from i on and below count that passes the test, or count where none does
-unfoldable pub nextPlace : (ℕ → Bool) → ℕ → ℕ → ℕ
-nextPlace test count i = nextOf test count i (count - i)
 
 -- the first place from i on and below count whose cell is x, or count where none is
 unfoldable pub nextEqual : List ℕ → ℕ → ℕ → ℕ → ℕ
@@ -26,14 +17,6 @@ nextEqual cells x count i = nextPlace (λ k. eqb (getD cells k 0) x) count i
 -- the first place below count whose position is at least start, or count where none is
 unfoldable pub firstFrom : List ℕ → ℕ → ℕ → ℕ
 firstFrom positions start count = nextPlace (λ k. leb start (getD positions k 0)) count 0
-
--- the first place from i on and below count whose row does not stay, or count where each stays
-unfoldable pub nextRemoved : List Bool → ℕ → ℕ → ℕ
-nextRemoved kept count i = nextPlace (λ k. not (getD kept k false)) count i
-
--- the places below count whose rows do not stay, rising
-unfoldable pub removedPlaces : List Bool → ℕ → List ℕ
-removedPlaces kept count = filter (λ i. not (getD kept i false)) (run 0 count)
 
 -- of the rows at these places, the positions of those on the list of the window that starts at start
 unfoldable pub listedOf : ℕ → List ℕ → List ℕ → List ℕ → List ℕ
@@ -51,8 +34,9 @@ pub record Rises (positions : List ℕ) (count : ℕ) : Type 0 where
 pub record Named (positions lowers : List ℕ) (count : ℕ) : Type 0 where
   pub names : (i : ℕ) → i < count → (getD lowers i 0 ≡ 0) ⊎ ((j : ℕ) × (j < count) × (getD positions j 0 ≡ getD lowers i 0))
 
--- a window that moves by one position or not at all, where what expires is not behind its start
+-- a window that starts at 1 or later and moves by one position or not at all, where what expires is not behind its start
 pub record Steps (w : Shift) : Type 0 where
+  pub starts : 1 ≤ w .before
   pub forth : w .before ≤ w .after
   pub by-one : w .after ≤ w .before + 1
   pub expires : w .gone ≤ w .before

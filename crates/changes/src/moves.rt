@@ -9,12 +9,14 @@ ghost use Rattle.skyline.specs.Skyline.{stabbed};
 ghost use Rattle.frames.specs.declared.Message.the-variants.{Join};
 ghost use Rattle.model.specs.Rows.{renamed};
 ghost use Rattle.model.specs.Changes.{frames};
+ghost use Rattle.cells.specs.Removed.{removedPlaces};
 ghost use Rattle.changes.specs.Flagged.{flagged, moving, joining, changed};
-ghost use Rattle.changes.specs.Sought.{firstFrom, removedPlaces, Rises, Steps};
+ghost use Rattle.changes.specs.Sought.{firstFrom, Rises, Named, Steps};
 use crate::Shift;
 use crate::leaves::write_leaves;
 use crate::listing::is_listed;
 use crate::seeking::first_from;
+use crate::seeking::first_lower_end;
 use crate::seeking::next_equal;
 use octets::lay_change;
 
@@ -64,7 +66,7 @@ pub fn count_changes(
 }
 
 // Writes a join of the watch of n for each row that joins its list at a quote: its lower end is the window's old start, and it stands
-// at first, the window's first place, or behind it. Returns how many bytes.
+// at first, the window's first place, or behind it; named says that each lower end is 0 or names a row. Returns how many bytes.
 fn write_row_joins(
     n: u16,
     keep: &[bool],
@@ -73,11 +75,14 @@ fn write_row_joins(
     count: usize,
     first: usize,
     shift: Shift,
+    named: bool,
     out: &mut [u8],
 ) -> usize
     requires { ⌜ count ≤ length (now keep) ⌝ }
     requires { ⌜ count ≤ length (now positions) ⌝ }
     requires { ⌜ count ≤ length (now «lower_ends») ⌝ }
+    requires { ⌜ Rises (now positions) count ⌝ }
+    requires { ⌜ (named ≡ true → Named (now positions) (now «lower_ends») count) ⌝ }
     requires { ⌜ Steps shift ⌝ }
     requires { ⌜ first ≡ firstFrom (now positions) (shift .before) count ⌝ }
     requires { ⌜ length (frames (map (Join n) (moving (flagged (now keep) (now positions) (now «lower_ends») count) shift true))) ≤ length (now out) ⌝ }
@@ -85,7 +90,7 @@ fn write_row_joins(
     ensures { λ r. ⌜ now (out .exit) ≡ laid (frames (map (Join n) (moving (flagged (now (keep .entry)) (now (positions .entry)) (now («lower_ends» .entry)) count) shift true))) (now (out .entry)) ⌝ }
 {
     let mut at: usize = 0;
-    let mut i = next_equal(lower_ends, first, count, shift.before);
+    let mut i = first_lower_end(positions, lower_ends, count, first, shift.before, named);
     while i < count {
         let position = positions[i];
         let lower_end = lower_ends[i];
@@ -100,8 +105,8 @@ fn write_row_joins(
     at
 }
 
-// Writes the changes of the watch of n at a quote: the leaves, then the joins; removed has the places of the rows that do not stay.
-// Returns how many bytes.
+// Writes the changes of the watch of n at a quote: the leaves, then the joins; removed has the places of the rows that do not stay, and
+// named says that each lower end is 0 or names a row. Returns how many bytes.
 pub fn write_changes(
     n: u16,
     keep: &[bool],
@@ -112,6 +117,7 @@ pub fn write_changes(
     shift: Shift,
     newest: u32,
     lower: u32,
+    named: bool,
     out: &mut [u8],
 ) -> usize
     requires { ⌜ count ≤ length (now keep) ⌝ }
@@ -119,6 +125,7 @@ pub fn write_changes(
     requires { ⌜ count ≤ length (now «lower_ends») ⌝ }
     requires { ⌜ now removed ≡ removedPlaces (now keep) count ⌝ }
     requires { ⌜ Rises (now positions) count ⌝ }
+    requires { ⌜ (named ≡ true → Named (now positions) (now «lower_ends») count) ⌝ }
     requires { ⌜ Steps shift ⌝ }
     requires { ⌜ length (frames (changed (flagged (now keep) (now positions) (now «lower_ends») count) shift newest lower n)) ≤ length (now out) ⌝ }
     ensures { λ r. ⌜ r ≡ length (frames (changed (flagged (now (keep .entry)) (now (positions .entry)) (now («lower_ends» .entry)) count) shift newest lower n)) ⌝ }
@@ -144,6 +151,7 @@ pub fn write_changes(
         count,
         first,
         shift,
+        named,
         &mut out[leaves..],
     );
     let at = leaves + joins;

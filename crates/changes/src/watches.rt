@@ -1,19 +1,19 @@
 // The changes that a quote makes to the lists of the eight watches: counted, and written as frames.
 ghost use mathlib.Core.Path.{_≡_};
 ghost use Prim.Native.Nat.{_≤_, _<_};
-ghost use mathlib.Core.Bool.{false};
+ghost use mathlib.Core.Bool.{true, false};
 ghost use lib.ListN.{length};
 ghost use Rattle.lists.specs.Lists.{laid};
 ghost use Rattle.skyline.specs.Skyline.{windowStart};
 ghost use Rattle.head.specs.Heads.{lastPosition};
 ghost use Rattle.model.specs.Book.{tornWatches};
+ghost use Rattle.cells.specs.Removed.{removedPlaces};
 ghost use Rattle.changes.specs.Flagged.{flagged};
 ghost use Rattle.changes.specs.Watches.{shiftOf, watchFrames, allFrames};
-ghost use Rattle.changes.specs.Sought.{removedPlaces, Rises};
+ghost use Rattle.changes.specs.Sought.{Rises, Named};
 use crate::Shift;
 use crate::moves::count_changes;
 use crate::moves::write_changes;
-use crate::seeking::list_removed;
 use head::Head;
 
 // The first position of the window of n, as a cell; below the last position it fits.
@@ -72,6 +72,7 @@ fn write_watch(
     lower_ends: &[u32],
     gone: u32,
     lower: u32,
+    named: bool,
     out: &mut [u8],
 ) -> usize
     requires { ⌜ n < 65536 ⌝ }
@@ -81,6 +82,7 @@ fn write_watch(
     requires { ⌜ head .rows ≤ length (now «lower_ends») ⌝ }
     requires { ⌜ now removed ≡ removedPlaces (now keep) (head .rows) ⌝ }
     requires { ⌜ Rises (now positions) (head .rows) ⌝ }
+    requires { ⌜ (named ≡ true → Named (now positions) (now «lower_ends») (head .rows)) ⌝ }
     requires { ⌜ gone ≤ windowStart (head .newest) n ⌝ }
     requires { ⌜ length (watchFrames gone (head .newest) (flagged (now keep) (now positions) (now «lower_ends») (head .rows)) lower n) ≤ length (now out) ⌝ }
     ensures { λ r. ⌜ r ≡ length (watchFrames gone (head .newest) (flagged (now (keep .entry)) (now (positions .entry)) (now («lower_ends» .entry)) (head .rows)) lower n) ⌝ }
@@ -102,6 +104,7 @@ fn write_watch(
         shift,
         newest,
         lower,
+        named,
         out,
     )
 }
@@ -132,8 +135,8 @@ pub fn count_all_changes(
 }
 
 // Writes the changes of all watches at a quote, each watch's behind the frames already written; removed has the places of the rows that
-// do not stay. Returns how many bytes.
-fn write_watches(
+// do not stay, and named says that each lower end is 0 or names a row. Returns how many bytes.
+pub fn write_all_changes(
     watches: [u32; 8],
     head: Head,
     keep: &[bool],
@@ -142,6 +145,7 @@ fn write_watches(
     lower_ends: &[u32],
     gone: u32,
     lower: u32,
+    named: bool,
     out: &mut [u8],
 ) -> usize
     requires { ⌜ head .capacity < 65536 ⌝ }
@@ -152,6 +156,7 @@ fn write_watches(
     requires { ⌜ head .rows ≤ length (now «lower_ends») ⌝ }
     requires { ⌜ now removed ≡ removedPlaces (now keep) (head .rows) ⌝ }
     requires { ⌜ Rises (now positions) (head .rows) ⌝ }
+    requires { ⌜ (named ≡ true → Named (now positions) (now «lower_ends») (head .rows)) ⌝ }
     requires { ⌜ gone ≤ windowStart (head .newest) (head .capacity) ⌝ }
     requires { ⌜ length (allFrames gone (head .newest) (flagged (now keep) (now positions) (now «lower_ends») (head .rows)) lower watches) ≤ length (now out) ⌝ }
     ensures { λ r. ⌜ r ≡ length (allFrames gone (head .newest) (flagged (now (keep .entry)) (now (positions .entry)) (now («lower_ends» .entry)) (head .rows)) lower watches) ⌝ }
@@ -169,49 +174,11 @@ fn write_watches(
             lower_ends,
             gone,
             lower,
+            named,
             &mut out[at..],
         );
         at += used;
         i += 1;
     }
     at
-}
-
-// Writes the changes of all watches at a quote, in the order of the watches. Returns how many bytes.
-pub fn write_all_changes(
-    watches: [u32; 8],
-    head: Head,
-    keep: &[bool],
-    positions: &[u32],
-    lower_ends: &[u32],
-    gone: u32,
-    lower: u32,
-    out: &mut [u8],
-) -> usize
-    requires { ⌜ head .capacity < 65536 ⌝ }
-    requires { ⌜ tornWatches (head .capacity) watches ≡ false ⌝ }
-    requires { ⌜ head .newest < lastPosition ⌝ }
-    requires { ⌜ head .rows ≤ length (now keep) ⌝ }
-    requires { ⌜ head .rows ≤ length (now positions) ⌝ }
-    requires { ⌜ head .rows ≤ length (now «lower_ends») ⌝ }
-    requires { ⌜ head .rows ≤ 1024 ⌝ }
-    requires { ⌜ Rises (now positions) (head .rows) ⌝ }
-    requires { ⌜ gone ≤ windowStart (head .newest) (head .capacity) ⌝ }
-    requires { ⌜ length (allFrames gone (head .newest) (flagged (now keep) (now positions) (now «lower_ends») (head .rows)) lower watches) ≤ length (now out) ⌝ }
-    ensures { λ r. ⌜ r ≡ length (allFrames gone (head .newest) (flagged (now (keep .entry)) (now (positions .entry)) (now («lower_ends» .entry)) (head .rows)) lower watches) ⌝ }
-    ensures { λ r. ⌜ now (out .exit) ≡ laid (allFrames gone (head .newest) (flagged (now (keep .entry)) (now (positions .entry)) (now («lower_ends» .entry)) (head .rows)) lower watches) (now (out .entry)) ⌝ }
-{
-    let mut places = [0u16; 1024];
-    let length = list_removed(keep, head.rows as usize, &mut places);
-    write_watches(
-        watches,
-        head,
-        keep,
-        &places[..length],
-        positions,
-        lower_ends,
-        gone,
-        lower,
-        out,
-    )
 }

@@ -1,5 +1,5 @@
 -- How the two models stand between two calls of a list, and what the book model then reads and judges.
-use mathlib.Core.Path.{_≡_, refl, sym, ap, _∙_}
+use mathlib.Core.Path.{_≡_, refl, sym, ap, ap₂, _∙_}
 use mathlib.Core.Logic.{_⊎_, inl, inr}
 use Prim.Native.Nat.{ℕ, _≤_}
 use mathlib.Core.Bool.{Bool, true, false, _&&_, not}
@@ -9,6 +9,7 @@ use lib.ListN.{length}
 use borrow.Author.Tests.{ltb-false, leb-true, not-false}
 use Rattle.lists.specs.Lists.{run, rising, padded}
 use Rattle.lists.proofs.Booleans.{and-left, and-right, none-left, none-right}
+use Rattle.head.specs.declared.Head.{Head}
 use Rattle.head.specs.declared.Refusal.{Refusal}
 use Rattle.head.specs.declared.Refusal.the-variants.{Settings}
 use Rattle.head.specs.Refusals.{first}
@@ -125,11 +126,19 @@ module _ (s : Reference) (l : Lent) (f : Faithful s l) where
   unfolding watchfulAnswer first headOf opened
   judged-watchful more more' e = rw (f .settings, f .long, rows-read, rows-whole, watches-whole) e
 
+-- what holds before any opening and of what is faithful holds wherever the two models stand joined
+pub joined-by : (P : Expected → World → Type 0) → ((l : Lent) → P (referenceWith unopened l) (bookWith unopened l))
+    → ((s : Reference) (l : Lent) → Faithful s l → P (referenceWith s l) (bookWith s l)) → (k : Expected) (w : World) → Joined k w → P k w
+joined-by P before after k w j = rw same (go (k .reference) (j .since))
+  where
+    same : w ≡ bookWith (k .reference) (k .lent)
+    same = ap₂ (λ (h : Head) (l : Lent). let v : World = record { head = h; lent = l } in v) (j .head) (j .lent)
+
+    go : (s : Reference) → (s ≡ unopened) ⊎ Faithful s (k .lent) → P (referenceWith s (k .lent)) (bookWith s (k .lent))
+    go s (inl e) = rw e (before (k .lent))
+    go s (inr f) = after s (k .lent) f
+
 -- the book model reads the reference model's rows, opened or not
 pub joined-rows : (k : Expected) (w : World) → Joined k w → bookRows (w .head) (w .lent .tables) ≡ rowsOf (k .reference)
 unfolding bookRows headOf rowsIn run
-joined-rows k w j = rw (j .head, j .lent) (go (k .reference) (j .since))
-  where
-    go : (s : Reference) → (s ≡ unopened) ⊎ Faithful s (k .lent) → bookRows (headOf s) (k .lent .tables) ≡ rowsOf s
-    go s (inl e) = rw (e, rows-none unopened refl)
-    go s (inr f) = rows-read s (k .lent) f
+joined-rows = joined-by (λ k w. bookRows (w .head) (w .lent .tables) ≡ rowsOf (k .reference)) (λ l. rw (rows-none unopened refl)) rows-read

@@ -1,17 +1,16 @@
 -- The one theorem on a list of calls: from a head of zeros and anything lent, what is seen after every call is what the reference
 -- model says: answers, counts, heads, outputs past the count too, tables, records, and all else lent.
 use mathlib.Core.Path.{_≡_, refl, ap₂}
-use mathlib.Core.Logic.{_⊎_, inl, inr}
+use mathlib.Core.Logic.{inl, inr}
 use mathlib.Core.List.{List, [], _∷_}
 use Rattle.lists.specs.Lists.{laid}
-use Rattle.head.specs.declared.Head.{Head}
 use Rattle.head.specs.Refusals.{first, settled}
 use Rattle.head.specs.Heads.{freshHead, settingsHold}
 use Rattle.model.specs.Reference.{Reference, unopened, headOf, opened, tells, referenceStep}
 use Rattle.model.specs.Book.{answerOf, watchfulAnswer, replyOf, quoteAnswer, quoteReply, quoteTables, quoteOut, lookAnswer, lookReply, lookOut, watchAnswer, watchReply, watchWatches, watchOut, endAnswer, endReply, endWatches}
 use Rattle.model.specs.Calls.{Call, Open, Quote, Look, Watch, End, Lent, Seen, World, bookStep, fed, outputOf, shown, Expected, expectedStep, runs}
 use Rattle.model.proofs.Sound.{rows-none}
-use Rattle.model.proofs.Joined.{Faithful, Joined, Agree, referenceWith, bookWith}
+use Rattle.model.proofs.Joined.{Faithful, Joined, Agree, referenceWith, bookWith, joined-by}
 use Rattle.model.proofs.Opening.{opens}
 use Rattle.model.proofs.Quoting.{quotes}
 use Rattle.model.proofs.Watching.{looks, watches, ends}
@@ -34,14 +33,7 @@ faithful-agrees (End n) s l f = ends s l f n
 
 -- every call is seen alike in joined models, and leaves them joined
 pub call-agrees : (c : Call) (k : Expected) (w : World) → Joined k w → Agree c k w
-call-agrees c k w j = rw same (go (k .reference) (j .since))
-  where
-    same : w ≡ bookWith (k .reference) (k .lent)
-    same = ap₂ (λ (h : Head) (l : Lent). let v : World = record { head = h; lent = l } in v) (j .head) (j .lent)
-
-    go : (s : Reference) → (s ≡ unopened) ⊎ Faithful s (k .lent) → Agree c (referenceWith s (k .lent)) (bookWith s (k .lent))
-    go s (inl e) = rw e (unopened-agrees c (k .lent))
-    go s (inr f) = faithful-agrees c s (k .lent) f
+call-agrees c = joined-by (Agree c) (unopened-agrees c) (faithful-agrees c)
 
 -- so is a list of calls
 pub run-agrees : (cs : List Call) (k : Expected) (w : World) → Joined k w → (runs bookStep cs w .0 ≡ runs expectedStep cs k .0) × Joined (runs expectedStep cs k .1) (runs bookStep cs w .1)

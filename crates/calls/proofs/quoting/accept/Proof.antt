@@ -1,44 +1,18 @@
--- `accept` meets its contract: what is marked tells the changes and the rows that stay; nothing is written before the room is known.
+-- `accept` meets its contract: 128 flags and places do for as many rows, and 1,024 for any book's.
 use native.Mathlib.Omega.{arith}
-use denote.Ref.{now}
 use borrow.Author.Needs.{needs}
-use Rattle.calls.specs.Left.{tables}
-use Rattle.calls.proofs.Quotes.{Marked, admitted, mark-asks, marked, count-asks, write-asks, ready, quote-full, quote-done}
+use Rattle.calls.proofs.Quotes.{admitted, few-rows}
 use Rattle.calls.proofs.quoting.accept.Statement.{statement}
 use Rattle.calls.proofs.quoting.accept.Tie as tie
 
--- what is known once the rows are marked
-known : (c : tie.After-mark)
-    → let entry = c .before .before .before .before .before .before .before .before .before .before .before .before .before in
-    Marked (entry .args .head) (now (entry .args .quote)) (tables (now (entry .args .columns)) (now (entry .args .positions)) (now (entry .args .lower-ends))) (entry .args .watches)
-    (c .mark .last .1 .1 .1 .1 .1 .1 .1 .0) (c .before .before .before .before .before .before .difference .result) (c .mark .result)
-known c =
-    let entry = c .before .before .before .before .before .before .before .before .before .before .before .before .before in
-    marked _ _ _ _ (entry .pre .0) (omega (arith, entry .good)) (c .before .before .before .before .before .before .difference .ensures) _ (c .mark .ensures .0) (c .mark .ensures .1)
+slice-aggregate-accept-with : tie.Need-slice-aggregate-accept-with
+slice-aggregate-accept-with c = search needs
 
-add-difference : tie.Need-add-difference
-add-difference c = let below = admitted _ _ _ _ (c .before .before .before .before .before .before .pre .0) .below in omega (arith, below)
+slice-aggregate-accept-with-2 : tie.Need-slice-aggregate-accept-with-2
+slice-aggregate-accept-with-2 c = search needs
 
-difference-requires : tie.Need-difference-requires
-difference-requires c κs = search needs
-
-cast-mark : tie.Need-cast-mark
-cast-mark c = search needs
-
-cast-mark-2 : tie.Need-cast-mark-2
-cast-mark-2 c = search needs
-
-slice-aggregate-mark : tie.Need-slice-aggregate-mark
-slice-aggregate-mark c = search needs
-
-mark-requires : tie.Need-mark-requires
-mark-requires c κs = mark-asks _ _ _ _ (c .before .before .before .before .before .before .before .before .before .before .before .before .pre .0)
-
-slice-aggregate-overflows : tie.Need-slice-aggregate-overflows
-slice-aggregate-overflows c = search needs
-
-overflows-requires : tie.Need-overflows-requires
-overflows-requires c κs = count-asks (known (c .before .before .before .before))
+accept-with-requires : tie.Need-accept-with-requires
+accept-with-requires c κs = let few = c .before .before .before .before .before .before .if1 .taken in (omega arith, (omega arith, c .before .before .before .before .before .before .before .before .before .before .before .before .before .pre))
 
 same-length : tie.Need-same-length
 same-length c = search needs
@@ -49,31 +23,23 @@ same-length-2 c = search needs
 same-length-3 : tie.Need-same-length-3
 same-length-3 c = search needs
 
-returns : tie.Need-returns
-returns c = quote-full (known (c .before .before .before .before .before .before)) _ (c .before .overflows .ensures) (c .if1 .taken)
-
-slice-aggregate-write-all-changes : tie.Need-slice-aggregate-write-all-changes
-slice-aggregate-write-all-changes c = search needs
-
-write-all-changes-requires : tie.Need-write-all-changes-requires
-write-all-changes-requires c κs =
-    let tested = c .before .before .before .before in
-    let marks = tested .before .before .before .before .before .before in
-    write-asks (known marks) (now (marks .before .before .before .before .before .before .before .before .before .before .before .before .before .args .out)) (tested .before .overflows .ensures) (tested .if1 .left)
-
-slice-aggregate-settle : tie.Need-slice-aggregate-settle
-slice-aggregate-settle c = search needs
-
-settle-requires : tie.Need-settle-requires
-settle-requires c κs =
-    let marks = c .before .before .before .before .before .before .before .before .before .before .before .before .before .before .before .before .before in
-    (ready (known marks), marks .before .before .before .before .before .before .before .before .before .before .before .before .before .pre .1)
-
-after-quote-requires : tie.Need-after-quote-requires
-after-quote-requires c κs = search needs
-
 same-length-4 : tie.Need-same-length-4
 same-length-4 c = search needs
+
+returns : tie.Need-returns
+returns c = search needs
+
+slice-aggregate-accept-with-3 : tie.Need-slice-aggregate-accept-with-3
+slice-aggregate-accept-with-3 c = search needs
+
+slice-aggregate-accept-with-4 : tie.Need-slice-aggregate-accept-with-4
+slice-aggregate-accept-with-4 c = search needs
+
+accept-with-requires-2 : tie.Need-accept-with-requires-2
+accept-with-requires-2 c κs =
+    let pre = c .before .before .before .before .before .before .before .before .before .before .before .before .before .pre in
+    let few = few-rows (admitted _ _ _ _ (pre .0)) in
+    (omega (arith, few), (omega (arith, few), pre))
 
 same-length-5 : tie.Need-same-length-5
 same-length-5 c = search needs
@@ -84,37 +50,29 @@ same-length-6 c = search needs
 same-length-7 : tie.Need-same-length-7
 same-length-7 c = search needs
 
+same-length-8 : tie.Need-same-length-8
+same-length-8 c = search needs
+
 returns-2 : tie.Need-returns-2
-returns-2 c =
-    let settled = c .before .before .before .before .before .before .before in
-    let wrote = settled .before .before .before .before .before .before .before in
-    let tested = wrote .before .before .before .before .before in
-    quote-done (known (tested .before .before .before .before .before .before)) _ (tested .before .overflows .ensures) (tested .if1 .left) (wrote .write-all-changes .ensures .0) (wrote .write-all-changes .ensures .1)
-    (settled .settle .ensures .0) (settled .settle .ensures .1) (c .after-quote .ensures)
+returns-2 c = search needs
 
 pub accept-spec : {M : Type 1} → statement M
 accept-spec =
     tie.close
     (tie.spec
-    add-difference
-    difference-requires
-    cast-mark
-    cast-mark-2
-    slice-aggregate-mark
-    mark-requires
-    slice-aggregate-overflows
-    overflows-requires
+    slice-aggregate-accept-with
+    slice-aggregate-accept-with-2
+    accept-with-requires
     same-length
     same-length-2
     same-length-3
-    returns
-    slice-aggregate-write-all-changes
-    write-all-changes-requires
-    slice-aggregate-settle
-    settle-requires
-    after-quote-requires
     same-length-4
+    returns
+    slice-aggregate-accept-with-3
+    slice-aggregate-accept-with-4
+    accept-with-requires-2
     same-length-5
     same-length-6
     same-length-7
+    same-length-8
     returns-2)

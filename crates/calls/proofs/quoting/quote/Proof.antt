@@ -1,11 +1,16 @@
--- `quote` meets its contract: it is a quote on tables whose every place may be in use.
+-- `quote` meets its contract: it is judged, and takes the tables for any.
+use mathlib.Core.Path.{refl}
+use mathlib.Core.Bool.{false}
 use borrow.Author.Needs.{needs}
-use Rattle.rows.proofs.Clears.{cleared-all}
+use Rattle.lists.proofs.Booleans.{clash}
 use Rattle.calls.proofs.quoting.quote.Statement.{statement}
 use Rattle.calls.proofs.quoting.quote.Tie as tie
 
-quote-cleared-requires : tie.Need-quote-cleared-requires
-quote-cleared-requires c κs = cleared-all _ _
+judge-row-requires : tie.Need-judge-row-requires
+judge-row-requires c κs = search needs
+
+take-requires : tie.Need-take-requires
+take-requires c κs = (c .before .before .before .before .judge-row .ensures, λ e. absurd (clash false e refl))
 
 same-length : tie.Need-same-length
 same-length c = search needs
@@ -25,4 +30,11 @@ returns c = search needs
 pub quote-spec : {M : Type 1} → statement M
 quote-spec =
     tie.close
-    (tie.spec quote-cleared-requires same-length same-length-2 same-length-3 same-length-4 returns)
+    (tie.spec
+    judge-row-requires
+    take-requires
+    same-length
+    same-length-2
+    same-length-3
+    same-length-4
+    returns)

@@ -1,11 +1,17 @@
--- `quote_reached` meets its contract: a book that calls left has only its rows' places in use.
+-- `quote_reached` meets its contract: a book that calls left is answered by the settings and the quote.
 use borrow.Author.Needs.{needs}
-use Rattle.calls.proofs.Reaching.{reached-cleared}
+use Rattle.calls.proofs.Reaching.{reached-answers}
 use Rattle.calls.proofs.quoting.quote_reached.Statement.{statement}
 use Rattle.calls.proofs.quoting.quote_reached.Tie as tie
 
-quote-cleared-requires : tie.Need-quote-cleared-requires
-quote-cleared-requires c κs = reached-cleared (c .before .before .before .before .before .before .before .before .before .pre)
+judge-reached-requires : tie.Need-judge-reached-requires
+judge-reached-requires c κs = search needs
+
+take-requires : tie.Need-take-requires
+take-requires c κs =
+    let judged = c .before .before .before .before in
+    let entry = judged .before .before .before .before .before .before in
+    (reached-answers _ (entry .pre) (judged .judge-reached .ensures), λ _. entry .pre)
 
 same-length : tie.Need-same-length
 same-length c = search needs
@@ -25,4 +31,11 @@ returns c = search needs
 pub quote-reached-spec : {M : Type 1} → statement M
 quote-reached-spec =
     tie.close
-    (tie.spec quote-cleared-requires same-length same-length-2 same-length-3 same-length-4 returns)
+    (tie.spec
+    judge-reached-requires
+    take-requires
+    same-length
+    same-length-2
+    same-length-3
+    same-length-4
+    returns)

@@ -28,7 +28,7 @@ abbrev J : tie.Start → List ℕ
 J c = joinFrames (rows c) (c .args .shift) (c .args .newest) (c .args .lower) (c .args .n)
 
 rows-room : (c : tie.Start) → length (L c ++ J c) ≤ length (now (c .args .out))
-rows-room c = rows-fit (rows c) _ (c .args .newest) (c .args .lower) _ _ (c .pre .1 .1 .1 .1 .1 .1)
+rows-room c = rows-fit (rows c) _ (c .args .newest) (c .args .lower) _ _ (c .pre .1 .1 .1 .1 .1 .1 .1)
 
 leaves-room : (c : tie.Start) → length (L c) ≤ length (now (c .args .out))
 leaves-room c = omega (arith, rows-room c, length-append (L c) (J c))
@@ -47,7 +47,7 @@ out1 c = c .write-leaves .last .1 .1 .1 .1 .1 .1 .1 .1 .0
 abbrev out2 : tie.After-write-row-joins → List ℕ
 out2 c =
     let b = c .before .before .before .before in
-    putMid (b .write-leaves .result) (length (out1 b) - b .write-leaves .result) (out1 b) (c .write-row-joins .last .1 .1 .1 .1 .1 .1 .1 .0)
+    putMid (b .write-leaves .result) (length (out1 b) - b .write-leaves .result) (out1 b) (c .write-row-joins .last .1 .1 .1 .1 .1 .1 .1 .1 .0)
 
 -- the leaves stand at the front
 first : (c : tie.After-write-leaves) → Front (L (start c)) (now (start c .args .out)) (out1 c) (c .write-leaves .result)
@@ -78,7 +78,7 @@ abbrev both : tie.Else1 → tie.After-write-row-joins
 both c = c .before .before .before .before
 
 all-room : (c : tie.Else1) → length ((L (start2 (both c)) ++ J (start2 (both c))) ++ N (start2 (both c))) ≤ length (now (start2 (both c) .args .out))
-all-room c = rw (listed-frames (start2 (both c)) (c .if1 .left)) at (start2 (both c) .pre .1 .1 .1 .1 .1 .1)
+all-room c = rw (listed-frames (start2 (both c)) (c .if1 .left)) at (start2 (both c) .pre .1 .1 .1 .1 .1 .1 .1)
 
 -- a new row that is listed has room for its join
 fits : (c : tie.Else1) → both c .before .before .before .before .write-leaves .result + both c .write-row-joins .result + 7 ≤ length (out2 (both c))
@@ -91,7 +91,7 @@ write-leaves-requires : tie.Need-write-leaves-requires
 write-leaves-requires c κs =
     let b = c .before .before .before .before .before .before .before in
     let p = b .pre in
-    (p .0, (p .1 .0, (p .1 .1 .0, (p .1 .1 .1 .0, (p .1 .1 .1 .1 .0, (p .1 .1 .1 .1 .1 .0, (c .before .first-from .ensures, leaves-room b)))))))
+    (p .0, (p .1 .0, (p .1 .1 .0, (p .1 .1 .1 .0, (p .1 .1 .1 .1 .0, (p .1 .1 .1 .1 .1 .1 .0, (c .before .first-from .ensures, leaves-room b)))))))
 
 sub-write-row-joins : tie.Need-sub-write-row-joins
 sub-write-row-joins c = omega (arith, joins-room (c .before .before))
@@ -107,7 +107,7 @@ write-row-joins-requires c κs =
     let b = c .before .before .before in
     let s = start b in
     let p = s .pre in
-    (p .0, (p .1 .0, (p .1 .1 .0, (p .1 .1 .1 .1 .1 .0, (b .before .before .first-from .ensures, front-rest (first b) (J s) (rows-room s))))))
+    (p .0, (p .1 .0, (p .1 .1 .0, (p .1 .1 .1 .1 .0, (p .1 .1 .1 .1 .1 .0, (p .1 .1 .1 .1 .1 .1 .0, (b .before .before .first-from .ensures, front-rest (first b) (J s) (rows-room s))))))))
 
 add-at : tie.Need-add-at
 add-at c =

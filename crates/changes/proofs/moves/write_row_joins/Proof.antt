@@ -13,16 +13,20 @@ use Rattle.changes.proofs.moves.write_row_joins.Statement.{statement}
 use Rattle.changes.proofs.moves.write_row_joins.Tie as tie
 
 abbrev Inv-loop : tie.InvT-loop
-Inv-loop n keep positions lower-ends count first shift out₀ at₀ i₀ out at i = Joining n (flagged keep positions lower-ends count) shift out₀ out at i
+Inv-loop n keep positions lower-ends count first shift named out₀ at₀ i₀ out at i = Joining n (flagged keep positions lower-ends count) shift out₀ out at i
 
 abbrev μ-loop : tie.MeasureT-loop
-μ-loop n keep positions lower-ends count first shift out₀ at₀ i₀ out at i = count - i
+μ-loop n keep positions lower-ends count first shift named out₀ at₀ i₀ out at i = count - i
 
-next-equal-requires : tie.Need-next-equal-requires Inv-loop μ-loop
-next-equal-requires c κs = search needs
+first-lower-end-requires : tie.Need-first-lower-end-requires Inv-loop μ-loop
+first-lower-end-requires c κs =
+    let p = c .before .before .before .before .pre in
+    (p .1 .0, (p .1 .1 .0, (p .1 .1 .1 .0, (p .1 .1 .1 .1 .0, (p .1 .1 .1 .1 .1 .0 .starts, p .1 .1 .1 .1 .1 .1 .0)))))
 
 loop-holds : tie.Need-loop-holds Inv-loop μ-loop
-loop-holds c = joining-start (c .before .before .before .before .before .pre .1 .1 .1 .0) _ (c .before .before .before .before .before .pre .1 .1 .1 .1 .1) (c .before .before .before .before .before .pre .1 .1 .1 .1 .0) (c .next-equal .ensures)
+loop-holds c =
+    let p = c .before .before .before .before .before .pre .1 .1 .1 .1 .1 in
+    joining-start (p .0) _ (p .1 .1) (p .1 .0) (c .first-lower-end .ensures)
 
 mul-position : tie.Need-mul-position Inv-loop μ-loop
 mul-position c = search needs
@@ -48,8 +52,8 @@ stays-listed-requires c κs = search needs
 add-next-equal : tie.Need-add-next-equal Inv-loop μ-loop
 add-next-equal c = search needs
 
-next-equal-requires-2 : tie.Need-next-equal-requires-2 Inv-loop μ-loop
-next-equal-requires-2 c κs = search needs
+next-equal-requires : tie.Need-next-equal-requires Inv-loop μ-loop
+next-equal-requires c κs = search needs
 
 -- the function's start, from a turn's tests
 abbrev start : tie.After-stays-listed Inv-loop μ-loop → tie.Start Inv-loop μ-loop
@@ -65,7 +69,7 @@ tested c = joins-test _ _ _ (c .before .before .is-listed .ensures) (c .stays-li
 
 -- a row that joins has room for its join
 fits : (c : tie.Then1 Inv-loop μ-loop) → c .before .before .before .before .before .before .before .before .loop .at + 7 ≤ length (c .before .before .before .before .before .before .before .before .loop .out)
-fits c = joining-fits (c .before .before .before .before .before .before .before .before .before .before .before .before .before .before .pre .1 .1 .1 .0) (c .before .before .before .before .before .before .before .before .loop .inv) (c .before .before .before .before .before .before .before .loop-test .taken) (c .before .next-equal2 .ensures) (tested (c .before .before)) (c .if1 .taken)
+fits c = joining-fits (c .before .before .before .before .before .before .before .before .before .before .before .before .before .before .pre .1 .1 .1 .1 .1 .0) (c .before .before .before .before .before .before .before .before .loop .inv) (c .before .before .before .before .before .before .before .loop-test .taken) (c .before .next-equal .ensures) (tested (c .before .before)) (c .if1 .taken)
 
 sub-lay-change : tie.Need-sub-lay-change Inv-loop μ-loop
 sub-lay-change c = omega (arith, fits c)
@@ -80,20 +84,23 @@ lay-change-requires : tie.Need-lay-change-requires Inv-loop μ-loop
 lay-change-requires c κs = simp (length-take, length-drop) (omega (arith, fits (c .before)))
 
 add-at : tie.Need-add-at Inv-loop μ-loop
-add-at c = omega (arith, fits (c .before .before .before .before))
+add-at c =
+    let b = c .before .before .before .before in
+    let l = b .before .before .before .before .before .before .before .before in
+    omega (arith, fits b, l .loop .inv .writing .laying .front .long, l .before .before .before .before .before .before .good)
 
 loop-less : tie.Need-loop-less Inv-loop μ-loop
-loop-less c = omega (arith, joining-on (rows (c .before .before .before .before .before .before .before .before .before .before .before .before .before .before .before .before .before .before)) (c .before .before .before .before .before .before .before .before .before .before .before .before .before .before .before .before .before .before .args .shift) (c .before .before .before .before .before .before .before .before .before .before .before .loop-test .taken) (c .before .before .before .before .before .next-equal2 .ensures))
+loop-less c = omega (arith, joining-on (rows (c .before .before .before .before .before .before .before .before .before .before .before .before .before .before .before .before .before .before)) (c .before .before .before .before .before .before .before .before .before .before .before .before .before .before .before .before .before .before .args .shift) (c .before .before .before .before .before .before .before .before .before .before .before .loop-test .taken) (c .before .before .before .before .before .next-equal .ensures))
 
 loop-again : tie.Need-loop-again Inv-loop μ-loop
 unfolding frame
-loop-again c = joining-more (c .before .before .before .before .before .before .before .before .before .before .before .before .before .before .before .before .before .before .pre .1 .1 .1 .0) (c .before .before .before .before .before .before .before .before .before .before .before .before .loop .inv) (c .before .before .before .before .before .before .before .before .before .before .before .loop-test .taken) (c .before .before .before .before .before .next-equal2 .ensures) (tested (c .before .before .before .before .before .before)) (c .before .before .lay-change .ensures) (c .before .before .before .before .if1 .taken)
+loop-again c = joining-more (c .before .before .before .before .before .before .before .before .before .before .before .before .before .before .before .before .before .before .pre .1 .1 .1 .1 .1 .0) (c .before .before .before .before .before .before .before .before .before .before .before .before .loop .inv) (c .before .before .before .before .before .before .before .before .before .before .before .loop-test .taken) (c .before .before .before .before .before .next-equal .ensures) (tested (c .before .before .before .before .before .before)) (c .before .before .lay-change .ensures) (c .before .before .before .before .if1 .taken)
 
 loop-less-2 : tie.Need-loop-less-2 Inv-loop μ-loop
-loop-less-2 c = omega (arith, joining-on (rows (c .before .before .before .before .before .before .before .before .before .before .before .before .before .before)) (c .before .before .before .before .before .before .before .before .before .before .before .before .before .before .args .shift) (c .before .before .before .before .before .before .before .loop-test .taken) (c .before .next-equal2 .ensures))
+loop-less-2 c = omega (arith, joining-on (rows (c .before .before .before .before .before .before .before .before .before .before .before .before .before .before)) (c .before .before .before .before .before .before .before .before .before .before .before .before .before .before .args .shift) (c .before .before .before .before .before .before .before .loop-test .taken) (c .before .next-equal .ensures))
 
 loop-again-2 : tie.Need-loop-again-2 Inv-loop μ-loop
-loop-again-2 c = joining-pass (c .before .before .before .before .before .before .before .before .before .before .before .before .before .before .pre .1 .1 .1 .0) (c .before .before .before .before .before .before .before .before .loop .inv) (c .before .before .before .before .before .before .before .loop-test .taken) (c .before .next-equal2 .ensures) (tested (c .before .before)) (c .if1 .left)
+loop-again-2 c = joining-pass (c .before .before .before .before .before .before .before .before .before .before .before .before .before .before .pre .1 .1 .1 .1 .1 .0) (c .before .before .before .before .before .before .before .before .loop .inv) (c .before .before .before .before .before .before .before .loop-test .taken) (c .before .next-equal .ensures) (tested (c .before .before)) (c .if1 .left)
 
 same-length : tie.Need-same-length Inv-loop μ-loop
 same-length c = c .before .loop .inv .writing .laying .front .long
@@ -107,7 +114,7 @@ write-row-joins-spec =
     (tie.spec
     Inv-loop
     μ-loop
-    next-equal-requires
+    first-lower-end-requires
     loop-holds
     mul-position
     shared-slice-read-position
@@ -117,7 +124,7 @@ write-row-joins-spec =
     shared-slice-read-stays-listed
     stays-listed-requires
     add-next-equal
-    next-equal-requires-2
+    next-equal-requires
     sub-lay-change
     part-lay-change-start
     part-lay-change-end

@@ -4,7 +4,7 @@ use Prim.Native.Nat.{_-_}
 use lib.Dec.{eqb}
 use lib.ListN.{getD}
 use borrow.Author.Needs.{needs}
-use Rattle.changes.proofs.Places.{Tested, tested-start, tested-more, tested-all}
+use Rattle.cells.proofs.Places.{Tested, tested-start, tested-more, tested-all}
 use Rattle.changes.proofs.seeking.any_equal.Statement.{statement}
 use Rattle.changes.proofs.seeking.any_equal.Tie as tie
 

@@ -1,56 +1,77 @@
--- `write_all_changes` meets its contract: the rows that do not stay are listed once for all watches.
-use mathlib.Core.Path.{sym, ap, _∙_}
-use Prim.Native.Nat.{_≤_}
+-- `write_all_changes` meets its contract: after i turns the frames of the first i watch records stand at the front of the output.
+use Prim.Native.Nat.{_-_}
 use native.Mathlib.Omega.{arith}
-use lib.ListN.{length}
-use denote.Ref.{now}
-use Rattle.changes.proofs.Places.{removed-few}
 use borrow.Author.Needs.{needs}
+use Rattle.changes.specs.Flagged.{flagged}
+use Rattle.changes.proofs.Records.{watch-below}
+use Rattle.changes.proofs.Watching.{start-below, Written, written-start, written-fits, written-rest, written-more, written-all}
 use Rattle.changes.proofs.watches.write_all_changes.Statement.{statement}
 use Rattle.changes.proofs.watches.write_all_changes.Tie as tie
 
-cast-list-removed : tie.Need-cast-list-removed
-cast-list-removed c = search needs
+abbrev Inv-loop : tie.InvT-loop
+Inv-loop head keep removed positions lower-ends gone lower named out₀ watches at₀ i₀ out at i = Written gone (head .newest) (flagged keep positions lower-ends (head .rows)) lower watches out₀ out at i
 
-slice-aggregate-list-removed : tie.Need-slice-aggregate-list-removed
-slice-aggregate-list-removed c = search needs
+abbrev μ-loop : tie.MeasureT-loop
+μ-loop head keep removed positions lower-ends gone lower named out₀ watches at₀ i₀ out at i = 8 - i
 
-list-removed-requires : tie.Need-list-removed-requires
-list-removed-requires c κs = search needs
+loop-holds : tie.Need-loop-holds Inv-loop μ-loop
+loop-holds c = written-start _ _ _ _ _ _ (search needs) (c .before .before .before .before .before .pre .1 .1 .1 .1 .1 .1 .1 .1 .1 .1)
 
--- no more rows are removed than the list has room for
-short : (c : tie.After-list-removed) → c .list-removed .result ≤ 1024
-short c =
-    let b = c .before .before .before .before .before .before .before in
-    omega (arith, c .list-removed .ensures .0, removed-few (now (b .args .keep)) (b .args .head .rows), b .pre .1 .1 .1 .1 .1 .1 .0)
+mul-write-watch : tie.Need-mul-write-watch Inv-loop μ-loop
+mul-write-watch c = search needs
 
-array-share-prefix-places : tie.Need-array-share-prefix-places
-array-share-prefix-places c = omega (arith, short (c .before))
+array-read-write-watch : tie.Need-array-read-write-watch Inv-loop μ-loop
+array-read-write-watch c = search needs
 
-slice-aggregate-write-watches : tie.Need-slice-aggregate-write-watches
-slice-aggregate-write-watches c = let r = c .before .before .list-removed .ensures in r .0 ∙ sym (ap length (r .1))
+sub-write-watch : tie.Need-sub-write-watch Inv-loop μ-loop
+sub-write-watch c = omega (arith, written-fits (c .before .loop .inv) (c .loop-test .taken))
 
-write-watches-requires : tie.Need-write-watches-requires
-write-watches-requires c κs =
-    let p = c .before .before .before .before .before .before .before .before .before .before .pre in
-    let removed = c .before .before .before .list-removed .ensures .1 in
-    (p .0, (p .1 .0, (p .1 .1 .0, (p .1 .1 .1 .0, (p .1 .1 .1 .1 .0, (p .1 .1 .1 .1 .1 .0, (removed, p .1 .1 .1 .1 .1 .1 .1)))))))
+part-write-watch-start : tie.Need-part-write-watch-start Inv-loop μ-loop
+part-write-watch-start c = omega (arith, written-fits (c .before .loop .inv) (c .loop-test .taken))
 
-same-length : tie.Need-same-length
-same-length c = search needs
+part-write-watch-end : tie.Need-part-write-watch-end Inv-loop μ-loop
+part-write-watch-end c = search needs
 
-returns : tie.Need-returns
-returns c = c .before .before .write-watches .ensures
+write-watch-requires : tie.Need-write-watch-requires Inv-loop μ-loop
+write-watch-requires c κs =
+    let p = c .before .before .before .before .before .before .before .before .pre in
+    let n = watch-below _ _ (c .before .before .loop .i) (p .1 .0) (c .before .loop-test .taken) in
+    (omega arith, (p .1 .1 .0, (p .1 .1 .1 .0, (p .1 .1 .1 .1 .0, (p .1 .1 .1 .1 .1 .0, (p .1 .1 .1 .1 .1 .1 .0, (p .1 .1 .1 .1 .1 .1 .1 .0, (p .1 .1 .1 .1 .1 .1 .1 .1 .0, (start-below _ _ _ _ n (p .1 .1 .1 .1 .1 .1 .1 .1 .1 .0), written-rest (c .before .before .loop .inv) (c .before .loop-test .taken))))))))))
+
+add-at : tie.Need-add-at Inv-loop μ-loop
+add-at c = omega (arith, written-fits (c .before .before .before .before .before .loop .inv) (c .before .before .before .before .loop-test .taken), c .before .before .write-watch .ensures .0)
+
+add-i : tie.Need-add-i Inv-loop μ-loop
+add-i c = search needs
+
+loop-less : tie.Need-loop-less Inv-loop μ-loop
+loop-less c = search needs
+
+loop-again : tie.Need-loop-again Inv-loop μ-loop
+loop-again c = written-more (c .before .before .before .before .before .loop .inv) (c .before .before .before .before .loop-test .taken) (c .before .before .write-watch .ensures .0) (c .before .before .write-watch .ensures .1)
+
+same-length : tie.Need-same-length Inv-loop μ-loop
+same-length c = c .before .loop .inv .laying .front .long
+
+returns : tie.Need-returns Inv-loop μ-loop
+returns c = written-all (c .before .loop .inv) (c .loop-test .left) (search needs)
 
 pub write-all-changes-spec : {M : Type 1} → statement M
 write-all-changes-spec =
     tie.close
     (tie.spec
-    cast-list-removed
-    slice-aggregate-list-removed
-    list-removed-requires
-    array-share-prefix-places
-    slice-aggregate-write-watches
-    write-watches-requires
+    Inv-loop
+    μ-loop
+    loop-holds
+    mul-write-watch
+    array-read-write-watch
+    sub-write-watch
+    part-write-watch-start
+    part-write-watch-end
+    write-watch-requires
+    add-at
+    add-i
+    loop-less
+    loop-again
     same-length
     returns)

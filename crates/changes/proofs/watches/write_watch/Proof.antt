@@ -26,7 +26,7 @@ write-changes-requires : tie.Need-write-changes-requires
 write-changes-requires c κs =
     let p = c .before .before .before .before .before .before .before .before .before .before .pre in
     let moves = c .before .shift-of .ensures in
-    (p .1 .1 .0, (p .1 .1 .1 .0, (p .1 .1 .1 .1 .0, (p .1 .1 .1 .1 .1 .0, (p .1 .1 .1 .1 .1 .1 .0, (steps-of _ _ _ moves (p .1 .1 .1 .1 .1 .1 .1 .0), rw (watch-some _ _ _ _ _ (c .before .before .before .before .if1 .left) _ moves) at (p .1 .1 .1 .1 .1 .1 .1 .1)))))))
+    (p .1 .1 .0, (p .1 .1 .1 .0, (p .1 .1 .1 .1 .0, (p .1 .1 .1 .1 .1 .0, (p .1 .1 .1 .1 .1 .1 .0, (p .1 .1 .1 .1 .1 .1 .1 .0, (steps-of _ _ _ moves (p .1 .1 .1 .1 .1 .1 .1 .1 .0), rw (watch-some _ _ _ _ _ (c .before .before .before .before .if1 .left) _ moves) at (p .1 .1 .1 .1 .1 .1 .1 .1 .1))))))))
 
 same-length : tie.Need-same-length
 same-length c = search needs

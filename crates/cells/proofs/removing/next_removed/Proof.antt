@@ -1,11 +1,11 @@
 -- `next_removed` meets its contract: from every place that it comes to the same is sought.
 use mathlib.Core.Path.{_≡_, sym, _∙_}
 use Prim.Native.Nat.{_-_}
-use Rattle.changes.specs.Sought.{nextRemoved}
-use Rattle.changes.proofs.Places.{next-past, next-here, next-pass}
+use Rattle.cells.specs.Removed.{nextRemoved}
+use Rattle.cells.proofs.Places.{next-past, next-here, next-pass}
 use borrow.Author.Needs.{needs}
-use Rattle.changes.proofs.seeking.next_removed.Statement.{statement}
-use Rattle.changes.proofs.seeking.next_removed.Tie as tie
+use Rattle.cells.proofs.removing.next_removed.Statement.{statement}
+use Rattle.cells.proofs.removing.next_removed.Tie as tie
 
 abbrev Inv-loop : tie.InvT-loop
 Inv-loop keep from count i₀ i = nextRemoved keep count i ≡ nextRemoved keep count from

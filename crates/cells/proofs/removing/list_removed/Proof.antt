@@ -2,10 +2,10 @@
 use Prim.Native.Nat.{_-_}
 use native.Mathlib.Omega.{arith}
 use denote.Ref.{now}
-use Rattle.changes.proofs.Places.{Removed, removed-start, removed-turn, removed-later, removing-all}
+use Rattle.cells.proofs.Removals.{Removed, removed-start, removed-turn, removed-later, removing-all}
 use borrow.Author.Needs.{needs}
-use Rattle.changes.proofs.seeking.list_removed.Statement.{statement}
-use Rattle.changes.proofs.seeking.list_removed.Tie as tie
+use Rattle.cells.proofs.removing.list_removed.Statement.{statement}
+use Rattle.cells.proofs.removing.list_removed.Tie as tie
 
 abbrev Inv-loop : tie.InvT-loop
 Inv-loop keep count removed₀ n₀ i₀ removed n i = Removed keep count removed₀ removed n i

@@ -2,11 +2,11 @@
 use mathlib.Core.Path.{_≡_, refl, sym, _∙_}
 use Prim.Native.Nat.{_-_}
 use Rattle.lists.proofs.Runs.{none-any}
-use Rattle.changes.specs.Sought.{nextRemoved}
-use Rattle.changes.proofs.Places.{next-skip}
+use Rattle.cells.specs.Removed.{nextRemoved}
+use Rattle.cells.proofs.Places.{next-skip}
 use borrow.Author.Needs.{needs}
-use Rattle.changes.proofs.seeking.skip_kept.Statement.{statement}
-use Rattle.changes.proofs.seeking.skip_kept.Tie as tie
+use Rattle.cells.proofs.removing.skip_kept.Statement.{statement}
+use Rattle.cells.proofs.removing.skip_kept.Tie as tie
 
 abbrev Inv-loop : tie.InvT-loop
 Inv-loop keep from count i₀ i = nextRemoved keep count i ≡ nextRemoved keep count from

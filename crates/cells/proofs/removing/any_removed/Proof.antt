@@ -4,9 +4,9 @@ use Prim.Native.Nat.{_-_}
 use mathlib.Core.Bool.{false, not}
 use lib.ListN.{getD}
 use borrow.Author.Needs.{needs}
-use Rattle.changes.proofs.Places.{Tested, tested-start, tested-more, tested-all}
-use Rattle.changes.proofs.seeking.any_removed.Statement.{statement}
-use Rattle.changes.proofs.seeking.any_removed.Tie as tie
+use Rattle.cells.proofs.Places.{Tested, tested-start, tested-more, tested-all}
+use Rattle.cells.proofs.removing.any_removed.Statement.{statement}
+use Rattle.cells.proofs.removing.any_removed.Tie as tie
 
 abbrev Inv-loop : tie.InvT-loop
 Inv-loop keep from found₀ i₀ found i = Tested (λ k. not (getD keep k false)) from found i
