@@ -5,21 +5,16 @@ use mathlib.Core.Logic.{_⊎_, inl, inr}
 use Prim.Native.Nat.{ℕ, _+_, _-_, _≤_, _<_}
 use native.Mathlib.Decide.{decLt}
 use native.Mathlib.Omega.{arith}
-use mathlib.Core.Bool.{Bool}
 use mathlib.Core.List.{List}
-use lib.Dec.{ltb, eqb}
+use lib.Dec.{eqb}
 use lib.ListN.{getD}
-use borrow.Author.Tests.{le-ltb, eqb-true, eqb-false, eq-eqb, ne-eqb}
+use borrow.Author.Tests.{eqb-true, eqb-false, eq-eqb, ne-eqb}
 use Rattle.lists.proofs.Runs.{order}
 use Rattle.cells.proofs.Places.{next-gap, next-found, next-is}
-use Rattle.changes.specs.Sought.{nextEqual, placeOf, soughtFrom, Rises, Named}
-use Rattle.changes.proofs.Places.{equal-within, equal-none}
+use Rattle.changes.specs.Sought.{nextEqual, placeOf, Rises, Named}
+use Rattle.changes.proofs.Places.{equal-none}
 
 module _ (positions : List ℕ) (x count : ℕ) where
-  pub place-within : placeOf positions x count ≤ count
-  unfolding placeOf
-  place-within = equal-within positions x count 0 (omega arith)
-
   -- the position at it is x
   pub place-found : placeOf positions x count < count → getD positions (placeOf positions x count) 0 ≡ x
   unfolding placeOf nextEqual
@@ -85,9 +80,8 @@ module _ {positions : List ℕ} {x count low size : ℕ} (v : Halved positions x
 
 -- where each lower end names a row, and none stands at x, no lower end is x
 pub lower-none : (positions lowers : List ℕ) {x count place : ℕ} → Named positions lowers count → 1 ≤ x → place ≡ placeOf positions x count → count ≤ place
-    → count ≡ nextEqual lowers x count (soughtFrom place count)
-unfolding soughtFrom
-lower-none positions lowers {x} {count} {place} n s e h = rw (le-ltb place count h) (equal-none lowers x count 0 (omega arith) (λ i l f. go l f (n .names i l)))
+    → nextEqual lowers x count 0 ≡ count
+lower-none positions lowers {x} {count} {place} n s e h = sym (equal-none lowers x count 0 (omega arith) (λ i l f. go l f (n .names i l)))
   where
     go : {i : ℕ} → i < count → getD lowers i 0 ≡ x → (getD lowers i 0 ≡ 0) ⊎ ((j : ℕ) × (j < count) × (getD positions j 0 ≡ getD lowers i 0)) → ⊥
     go l f (inl z) = omega arith

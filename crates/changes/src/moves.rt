@@ -90,7 +90,7 @@ fn write_row_joins(
     ensures { λ r. ⌜ now (out .exit) ≡ laid (frames (map (Join n) (moving (flagged (now (keep .entry)) (now (positions .entry)) (now («lower_ends» .entry)) count) shift true))) (now (out .entry)) ⌝ }
 {
     let mut at: usize = 0;
-    let mut i = first_lower_end(positions, lower_ends, count, place, shift.before, named);
+    let mut i = first_lower_end(lower_ends, count, place, shift.before, named);
     while i < count {
         let position = positions[i];
         let lower_end = lower_ends[i];

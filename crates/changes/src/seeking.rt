@@ -6,7 +6,7 @@ ghost use mathlib.Core.Bool.{true};
 ghost use lib.Dec.{eqb};
 ghost use lib.ListN.{length, getD};
 ghost use Rattle.lists.specs.Lists.{any, run};
-ghost use Rattle.changes.specs.Sought.{nextEqual, placeOf, soughtFrom, Rises, Named};
+ghost use Rattle.changes.specs.Sought.{nextEqual, placeOf, soughtFrom, Rises};
 
 // Whether one of the 16 cells from a place on is x.
 fn any_equal(cells: &[u32], from: usize, x: u32) -> bool
@@ -80,7 +80,6 @@ pub fn place_of(positions: &[u32], count: usize, x: u32) -> usize
 // The first place below count whose lower end is start, or count where none is. Rows before place, where a row stands at start, are
 // passed over; where none does and each lower end is 0 or names a row, as named says, all are.
 pub fn first_lower_end(
-    positions: &[u32],
     lower_ends: &[u32],
     count: usize,
     place: usize,
@@ -88,9 +87,7 @@ pub fn first_lower_end(
     named: bool,
 ) -> usize
     requires { ⌜ count ≤ length (now «lower_ends») ⌝ }
-    requires { ⌜ (named ≡ true → Named (now positions) (now «lower_ends») count) ⌝ }
-    requires { ⌜ 1 ≤ start ⌝ }
-    requires { ⌜ place ≡ placeOf (now positions) start count ⌝ }
+    requires { ⌜ (named ≡ true → count ≤ place → nextEqual (now «lower_ends») start count 0 ≡ count) ⌝ }
     ensures { λ r. ⌜ r ≡ nextEqual (now («lower_ends» .entry)) start count (soughtFrom place count) ⌝ }
 {
     if place < count {

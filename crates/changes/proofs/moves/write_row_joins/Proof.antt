@@ -7,6 +7,7 @@ use lib.ListN.{length, length-take, length-drop}
 use denote.Ref.{now}
 use Rattle.frames.specs.Frames.{frame}
 use Rattle.changes.specs.Flagged.{Flagged, flagged, wasListed, nowListed, moves}
+use Rattle.changes.proofs.Starts.{lower-none}
 use Rattle.changes.proofs.Joining.{Joining, joining-start, joining-fits, joining-pass, joining-more, joining-on, joining-all, joins-test}
 use borrow.Author.Needs.{needs}
 use Rattle.changes.proofs.moves.write_row_joins.Statement.{statement}
@@ -21,7 +22,7 @@ abbrev μ-loop : tie.MeasureT-loop
 first-lower-end-requires : tie.Need-first-lower-end-requires Inv-loop μ-loop
 first-lower-end-requires c κs =
     let p = c .before .before .before .before .pre in
-    (p .1 .1 .0, (p .1 .1 .1 .1 .0, (p .1 .1 .1 .1 .1 .0 .starts, p .1 .1 .1 .1 .1 .1 .0)))
+    (p .1 .1 .0, λ t h. lower-none _ _ (p .1 .1 .1 .1 .0 t) (p .1 .1 .1 .1 .1 .0 .starts) (p .1 .1 .1 .1 .1 .1 .0) h)
 
 loop-holds : tie.Need-loop-holds Inv-loop μ-loop
 loop-holds c =

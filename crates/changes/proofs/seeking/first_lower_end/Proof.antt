@@ -1,7 +1,7 @@
 -- `first_lower_end` meets its contract: nothing is found where each lower end names a row and none stands at start.
+use mathlib.Core.Path.{sym}
 use borrow.Author.Tests.{lt-ltb, le-ltb}
 use Rattle.changes.specs.Sought.{soughtFrom}
-use Rattle.changes.proofs.Starts.{lower-none}
 use borrow.Author.Needs.{needs}
 use Rattle.changes.proofs.seeking.first_lower_end.Statement.{statement}
 use Rattle.changes.proofs.seeking.first_lower_end.Tie as tie
@@ -14,9 +14,8 @@ unfolding soughtFrom
 returns c = rw (lt-ltb _ _ (c .before .if1 .taken)) (c .next-equal .ensures)
 
 returns-2 : tie.Need-returns-2
-returns-2 c =
-    let p = c .before .before .before .before .pre in
-    lower-none _ _ (p .1 .0 (c .if2 .taken)) (p .1 .1 .0) (p .1 .1 .1) (c .before .if1 .left)
+unfolding soughtFrom
+returns-2 c = let none = c .before .if1 .left in rw (le-ltb _ _ none) (sym (c .before .before .before .pre .1 (c .if2 .taken) none))
 
 next-equal-requires-2 : tie.Need-next-equal-requires-2
 next-equal-requires-2 c κs = search needs
