@@ -34,10 +34,10 @@ use Rattle.cells.proofs.Selecting.{selected-filter}
 use Rattle.cells.proofs.Removals.{removed-few, stays-removed, listed-removed}
 use Rattle.rows.specs.Lent.{rowsLeft, rowsNext, Ready}
 use Rattle.rows.proofs.Reading.{length-rows}
-use Rattle.changes.specs.Flagged.{flagged}
+use Rattle.changes.specs.Flagged.{Found, flagged}
 use Rattle.changes.specs.Watches.{allFrames}
 use Rattle.changes.specs.Sought.{Rises, Named}
-use Rattle.changes.proofs.Quoting.{Found, untorn-rows, quote-frames}
+use Rattle.changes.proofs.Quoting.{untorn-rows, quote-frames}
 use Rattle.calls.specs.Left.{rowAnswer, Quoted}
 use Rattle.calls.proofs.Answering.{Passed, begun, stays, watchful-passed, refused-reply, refused-left, accepted-reply, accepted-left}
 use Rattle.calls.proofs.Listing.{rows-stand}
@@ -170,13 +170,21 @@ module _ (h : Head) (x : List ℕ) (t : Tables) (ws : List ℕ) where
 
 module _ {h : Head} {x : List ℕ} {t : Tables} {ws : List ℕ} {kept : List Bool} {gone lower : ℕ} (v : Marked h x t ws kept gone lower) where
   -- the changes of every watch, by the marks
-  abbrev bytes : List ℕ
+  abbrev pub bytes : List ℕ
   bytes = allFrames gone (h .newest) (flagged kept (t .positions) (t .lowerEnds) (h .rows)) lower ws
 
   bytes-are : bytes ≡ quoteBytes h x t ws
   bytes-are =
       ap (allFrames gone (h .newest) (flagged kept (t .positions) (t .lowerEnds) (h .rows)) lower) (sym (take-all 8 ws (let e = v .eight in omega arith)))
       ∙ quote-frames h t (v .admitted .passed .untorn) (v .admitted .below) (v .found) ws
+
+  -- they fit where the model's do
+  pub fitting : (out : List ℕ) → length (quoteBytes h x t ws) ≤ length out → false ≡ ltb (length out) (length bytes)
+  fitting out k = sym (le-ltb (length out) (length bytes) (rw bytes-are k))
+
+  -- and the model's where they do
+  pub fitted : (out : List ℕ) {over : Bool} → over ≡ ltb (length out) (length bytes) → over ≡ false → length (quoteBytes h x t ws) ≤ length out
+  fitted out o f = rw bytes-are at (ltb-false (length out) (length bytes) (sym o ∙ f))
 
   -- what is asked before the changes are counted
   pub count-asks : (h .newest < lastPosition) × ((h .rows ≤ length kept) × ((h .rows ≤ length (t .positions)) × ((h .rows ≤ length (t .lowerEnds)) × (length bytes ≤ 57400))))

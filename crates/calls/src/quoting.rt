@@ -7,8 +7,9 @@ ghost use lib.ListN.{length};
 ghost use Rattle.head.specs.declared.Answer.the-variants.{Accepted};
 ghost use Rattle.head.specs.Heads.{lastPosition};
 ghost use Rattle.head.specs.Refusals.{first, settled};
+ghost use Rattle.model.specs.Book.{bookRows, quoteBytes};
 ghost use Rattle.model.specs.Calls.{Reached};
-ghost use Rattle.changes.specs.Flagged.{flagged};
+ghost use Rattle.changes.specs.Flagged.{Found, flagged};
 ghost use Rattle.changes.specs.Watches.{allFrames};
 ghost use Rattle.calls.specs.Left.{tables, world, quoteTests, rowAnswer, reachedAnswer, usedRows, Quoted};
 use crate::judging::judge_settings;
@@ -90,6 +91,61 @@ fn used_rows(head: Head, reached: bool) -> u32
     head.capacity
 }
 
+// Enters a quote whose changes fit: they are written, and its row is put into the tables; keep says which rows stay, and places has one
+// for each.
+fn enter(
+    keep: &[bool],
+    places: &mut [u16],
+    head: Head,
+    quote: &[u32],
+    gone: u32,
+    lower: u32,
+    reached: bool,
+    columns: &mut [u32],
+    positions: &mut [u32],
+    lower_ends: &mut [u32],
+    watches: [u32; 8],
+    out: &mut [u8],
+) -> Reply
+    requires { ⌜ head .rows ≤ length (now keep) ⌝ }
+    requires { ⌜ head .rows ≤ length (now places) ⌝ }
+    requires { ⌜ rowAnswer head (now quote) (tables (now columns) (now positions) (now «lower_ends»)) watches ≡ Accepted ⌝ }
+    requires { ⌜ Found (head .dimensions) (head .directions) (head .capacity) (head .newest) (head .rows) (bookRows head (tables (now columns) (now positions) (now «lower_ends»))) (now quote) (now keep) gone lower ⌝ }
+    requires { ⌜ length (quoteBytes head (now quote) (tables (now columns) (now positions) (now «lower_ends»)) watches) ≤ length (now out) ⌝ }
+    requires { ⌜ (reached ≡ true → Reached (world head (tables (now columns) (now positions) (now «lower_ends»)) watches)) ⌝ }
+    ensures { λ r. ⌜ Quoted head (now (quote .entry)) (tables (now (columns .entry)) (now (positions .entry)) (now («lower_ends» .entry))) watches (now (out .entry)) r (tables (now (columns .exit)) (now (positions .exit)) (now («lower_ends» .exit))) (now (out .exit)) ⌝ }
+{
+    let length = list_removed(keep, head.rows as usize, places);
+    let count = write_all_changes(
+        watches,
+        head,
+        keep,
+        &places[..length],
+        positions,
+        lower_ends,
+        gone,
+        lower,
+        reached,
+        out,
+    );
+    let used = used_rows(head, reached);
+    let rows = settle(
+        head,
+        quote,
+        lower,
+        &places[..length],
+        used,
+        columns,
+        positions,
+        lower_ends,
+    );
+    Reply {
+        answer: Answer::Accepted,
+        head: head.after_quote(rows),
+        count,
+    }
+}
+
 // Takes a quote that passed every test but the last, with a flag and a place for each row: its changes are written and its row is put
 // into the tables, if the changes fit.
 fn accept_with(
@@ -111,17 +167,10 @@ fn accept_with(
     ensures { λ r. ⌜ Quoted head (now (quote .entry)) (tables (now (columns .entry)) (now (positions .entry)) (now («lower_ends» .entry))) watches (now (out .entry)) r (tables (now (columns .exit)) (now (positions .exit)) (now («lower_ends» .exit))) (now (out .exit)) ⌝ }
 {
     let gone = difference(head.newest + 1, head.capacity);
+    let directions = head.directions;
+    let d = head.dimensions as usize;
     let rows = head.rows as usize;
-    let lower = mark(
-        head.directions,
-        head.dimensions as usize,
-        columns,
-        positions,
-        rows,
-        quote,
-        gone,
-        keep,
-    );
+    let lower = mark(directions, d, columns, positions, rows, quote, gone, keep);
     if overflows(
         watches,
         head,
@@ -138,35 +187,20 @@ fn accept_with(
             count: 0,
         };
     }
-    let length = list_removed(keep, rows, places);
-    let count = write_all_changes(
-        watches,
-        head,
+    enter(
         keep,
-        &places[..length],
-        positions,
-        lower_ends,
+        places,
+        head,
+        quote,
         gone,
         lower,
         reached,
-        out,
-    );
-    let used = used_rows(head, reached);
-    let left = settle(
-        head,
-        quote,
-        lower,
-        &places[..length],
-        used,
         columns,
         positions,
         lower_ends,
-    );
-    Reply {
-        answer: Answer::Accepted,
-        head: head.after_quote(left),
-        count,
-    }
+        watches,
+        out,
+    )
 }
 
 // Takes a quote that passed every test but the last, with flags and places of its own: few for few rows, since each is zeroed.

@@ -23,7 +23,7 @@ use Rattle.model.specs.Changes.{missing, changes, allChanges, frames}
 use Rattle.model.specs.Book.{tornRows, bookRows, standing, listOf, quoteRows, quoteHead, quoteBytes}
 use Rattle.changes.specs.declared.Shift.{Shift}
 use Rattle.changes.specs.Picked.{picked}
-use Rattle.changes.specs.Flagged.{Flagged, flagged, wasListed, nowListed, moves, moving, joining, changed}
+use Rattle.changes.specs.Flagged.{Flagged, flagged, Found, wasListed, nowListed, moves, moving, joining, changed}
 use Rattle.changes.specs.Watches.{shiftOf, watchFrames, allFrames}
 use Rattle.changes.specs.Sought.{Rises}
 use Rattle.changes.proofs.Picking.{rows-picked, listed-picked}
@@ -40,13 +40,6 @@ new-listed after r h = rw (le-leb after (r .position) h) (go (ltb (r .lowerEnd) 
     go : (b : Bool) → map Row.position (keep (b && true) r []) ≡ keep b (r .position) []
     go true = refl
     go false = refl
-
--- what is found of quote x before its changes are counted and written, in a book of N with these rows at the places below count: the
--- position that expires, which rows stay, and the new row's lower end
-pub record Found (d directions N newest count : ℕ) (rs : List Row) (x : List ℕ) (kept : List Bool) (gone lower : ℕ) : Type 0 where
-  pub expired : gone ≡ expiring newest N
-  pub flags : take count kept ≡ map (remains d directions x gone) rs
-  pub sought : lower ≡ lowerEndAmong d directions x (remaining d directions x gone rs)
 
 module _ {d directions N newest count gone lower : ℕ} {x : List ℕ} {kept : List Bool} (t : Tables) (v : Found d directions N newest count (rowsIn d count t) x kept gone lower) where
   abbrev rs : List Row

@@ -1,14 +1,15 @@
 -- What a quote does to the list of a window, told by flags: which rows stay.
+use mathlib.Core.Path.{_≡_}
 use Prim.Native.Nat.{ℕ}
 use mathlib.Core.Bool.{Bool, true, false, _&&_, not}
 use mathlib.Core.List.{List, [], _++_, map}
 use lib.Dec.{ltb}
-use lib.ListN.{getD}
+use lib.ListN.{getD, take}
 use Rattle.lists.specs.Lists.{keep}
 use Rattle.skyline.specs.Skyline.{stabbed}
 use Rattle.frames.specs.declared.Message.{Message}
 use Rattle.frames.specs.declared.Message.the-variants.{Leave, Join}
-use Rattle.model.specs.Rows.{renamed}
+use Rattle.model.specs.Rows.{Row, expiring, renamed, remains, remaining, lowerEndAmong}
 use Rattle.changes.specs.declared.Shift.{Shift}
 use Rattle.changes.specs.Picked.{picked}
 
@@ -21,6 +22,13 @@ pub record Flagged : Type 0 where
 
 abbrev pub flagged : List Bool → List ℕ → List ℕ → ℕ → Flagged
 flagged kept positions lowers count = record { kept = kept; positions = positions; lowerEnds = lowers; count = count }
+
+-- what is found of quote x before its changes are counted and written, in a book of N with these rows at the places below count: the
+-- position that expires, which rows stay, and the new row's lower end
+pub record Found (d directions N newest count : ℕ) (rs : List Row) (x : List ℕ) (kept : List Bool) (gone lower : ℕ) : Type 0 where
+  pub expired : gone ≡ expiring newest N
+  pub flags : take count kept ≡ map (remains d directions x gone) rs
+  pub sought : lower ≡ lowerEndAmong d directions x (remaining d directions x gone rs)
 
 -- w says how the window moves at the quote
 module _ (s : Flagged) (w : Shift) where

@@ -1,13 +1,9 @@
--- `accept_with` meets its contract: what is marked tells the changes and the rows that stay; nothing is written before the room is known.
-use mathlib.Core.Path.{_≡_, sym, ap, _∙_}
-use Prim.Native.Nat.{_≤_}
+-- `accept_with` meets its contract: nothing is written before the room is known.
 use native.Mathlib.Omega.{arith}
-use lib.ListN.{length, take}
 use denote.Ref.{now}
 use borrow.Author.Needs.{needs}
 use Rattle.calls.specs.Left.{tables}
-use Rattle.calls.proofs.Quotes.{Marked, admitted, mark-asks, marked, count-asks, list-asks, listed-few, write-asks, ready, quote-full, quote-done}
-use Rattle.calls.proofs.Reaching.{used-cleared, reached-named}
+use Rattle.calls.proofs.Quotes.{Marked, admitted, mark-asks, marked, fitted, count-asks, quote-full}
 use Rattle.calls.proofs.quoting.accept_with.Statement.{statement}
 use Rattle.calls.proofs.quoting.accept_with.Tie as tie
 
@@ -28,11 +24,11 @@ add-difference c = let below = admitted _ _ _ _ (c .before .before .before .befo
 difference-requires : tie.Need-difference-requires
 difference-requires c κs = search needs
 
+cast-d : tie.Need-cast-d
+cast-d c = search needs
+
 cast-rows : tie.Need-cast-rows
 cast-rows c = search needs
-
-cast-mark : tie.Need-cast-mark
-cast-mark c = search needs
 
 mark-requires : tie.Need-mark-requires
 mark-requires c κs =
@@ -57,61 +53,16 @@ same-length-4 c = search needs
 returns : tie.Need-returns
 returns c = quote-full (known (c .before .before .before .before .before .before .before)) _ (c .before .overflows .ensures) (c .if1 .taken)
 
-list-removed-requires : tie.Need-list-removed-requires
-list-removed-requires c κs =
-    let marks = c .before .before .before .before .before .before .before .before .before in
-    list-asks (known marks) (start marks .pre .1 .0)
-
--- where the room was tested, the rows were marked and the call began, from where the rows that do not stay are listed
-abbrev tested : tie.After-list-removed → tie.Else1
-tested c = c .before .before .before
-
-abbrev marks : tie.After-list-removed → tie.After-mark
-marks c = tested c .before .before .before .before .before .before .before
-
-abbrev entry : tie.After-list-removed → tie.Start
-entry c = start (marks c)
-
--- the list is no longer than the places
-fits : (c : tie.After-list-removed) → c .list-removed .result ≤ length (now (entry c .args .places))
-fits c = listed-few (known (marks c)) (entry c .pre .1 .0) (c .list-removed .ensures .0)
-
--- and is as long as was counted
-long : (c : tie.After-list-removed) → c .list-removed .result ≡ length (take (c .list-removed .result) (c .list-removed .last .1 .1 .0))
-long c = c .list-removed .ensures .0 ∙ sym (ap length (c .list-removed .ensures .1))
-
-slice-reshare-prefix-write-all-changes : tie.Need-slice-reshare-prefix-write-all-changes
-slice-reshare-prefix-write-all-changes c = omega (arith, fits (c .before .before .before))
-
-slice-aggregate-write-all-changes : tie.Need-slice-aggregate-write-all-changes
-slice-aggregate-write-all-changes c = long (c .before .before .before .before)
-
-write-all-changes-requires : tie.Need-write-all-changes-requires
-write-all-changes-requires c κs =
-    let listed = c .before .before .before .before .before .before .before in
-    write-asks (known (marks listed)) (now (entry listed .args .out)) (tested listed .before .overflows .ensures) (tested listed .if1 .left) (listed .list-removed .ensures .1)
-    (λ e. reached-named (entry listed .pre .1 .1 .1 e))
-
-used-rows-requires : tie.Need-used-rows-requires
-used-rows-requires c κs = search needs
-
-slice-reshare-prefix-settle : tie.Need-slice-reshare-prefix-settle
-slice-reshare-prefix-settle c = omega (arith, fits (c .before .before .before .before .before .before .before .before .before .before .before))
-
-slice-aggregate-settle : tie.Need-slice-aggregate-settle
-slice-aggregate-settle c = long (c .before .before .before .before .before .before .before .before .before .before .before .before)
-
-settle-requires : tie.Need-settle-requires
-settle-requires c κs =
-    let counted = c .before .before .before .before in
-    let listed = counted .before .before .before .before .before .before .before .before .before .before .before in
-    (ready (known (marks listed)) (listed .list-removed .ensures .1), used-cleared _ _ _ _ (entry listed .pre .1 .1 .1) (counted .used-rows .ensures))
-
-after-quote-requires : tie.Need-after-quote-requires
-after-quote-requires c κs = search needs
+enter-requires : tie.Need-enter-requires
+enter-requires c κs =
+    let tested = c .before .before .before .before .before .before in
+    let marks = c .before .before .before .before .before .before .before .before .before .before .before .before .before in
+    let v = known marks in
+    let p = start marks .pre in
+    (v .fits, (p .1 .0, (v .accepted, (v .found, (fitted v (now (start marks .args .out)) (tested .before .overflows .ensures) (tested .if1 .left), p .1 .1 .1)))))
 
 same-length-5 : tie.Need-same-length-5
-same-length-5 c = marks (c .before .before .before .before .before .before .before .before .before .before .before .before .before .before .before .before .before .before .before .before .before .before .before) .mark .kept .1 .1 .1 .1 .1 .1 .1 .0
+same-length-5 c = search needs
 
 same-length-6 : tie.Need-same-length-6
 same-length-6 c = search needs
@@ -129,12 +80,7 @@ same-length-10 : tie.Need-same-length-10
 same-length-10 c = search needs
 
 returns-2 : tie.Need-returns-2
-returns-2 c =
-    let settled = c .before .before .before .before .before .before .before in
-    let wrote = settled .before .before .before .before .before .before .before .before in
-    let listed = wrote .before .before .before .before .before .before .before .before in
-    quote-done (known (marks listed)) _ (tested listed .before .overflows .ensures) (tested listed .if1 .left) (wrote .write-all-changes .ensures .0) (wrote .write-all-changes .ensures .1)
-    (settled .settle .ensures .0) (settled .settle .ensures .1) (c .after-quote .ensures)
+returns-2 c = c .before .before .before .before .before .before .before .before .before .before .enter .ensures
 
 pub accept-with-spec : {M : Type 1} → statement M
 accept-with-spec =
@@ -142,8 +88,8 @@ accept-with-spec =
     (tie.spec
     add-difference
     difference-requires
+    cast-d
     cast-rows
-    cast-mark
     mark-requires
     overflows-requires
     same-length
@@ -151,15 +97,7 @@ accept-with-spec =
     same-length-3
     same-length-4
     returns
-    list-removed-requires
-    slice-reshare-prefix-write-all-changes
-    slice-aggregate-write-all-changes
-    write-all-changes-requires
-    used-rows-requires
-    slice-reshare-prefix-settle
-    slice-aggregate-settle
-    settle-requires
-    after-quote-requires
+    enter-requires
     same-length-5
     same-length-6
     same-length-7
