@@ -1,5 +1,6 @@
 // A worked book: opens, quotes, looks, watches, ends and audits on real buffers, and prints each answer; then it draws the refusals
 // that the calls give.
+use calls::WatchReply;
 use head::Answer;
 use head::Head;
 use head::Reply;
@@ -104,6 +105,74 @@ fn audit(head: Head, columns: &[u32], positions: &[u32], lower_ends: &[u32]) {
     }
 }
 
+// Opens the book of 01's worked example: two columns, a memory of five, lower is better.
+fn open(columns: &mut [u32], positions: &mut [u32], lower_ends: &mut [u32]) -> WatchReply {
+    let opened = calls::open(2, 5, 0, columns, positions, lower_ends, [0u32; 8]);
+    print(b'O', &[2, 5, 0]);
+    opened
+}
+
+// Quotes 1 to 5 of the worked example, while nothing is watched.
+fn first_quotes(
+    head: Head,
+    columns: &mut [u32],
+    positions: &mut [u32],
+    lower_ends: &mut [u32],
+    watches: [u32; 8],
+    out: &mut [u8],
+) -> Head {
+    let one = take(head, [5, 5], columns, positions, lower_ends, watches, out);
+    let two = take(one, [3, 8], columns, positions, lower_ends, watches, out);
+    let three = take(two, [4, 4], columns, positions, lower_ends, watches, out);
+    let four = take(three, [7, 2], columns, positions, lower_ends, watches, out);
+    take(four, [4, 4], columns, positions, lower_ends, watches, out)
+}
+
+// The worked example's watch of 2: prints what joins, and hands back the watches.
+fn watch_two(
+    head: Head,
+    columns: &[u32],
+    positions: &[u32],
+    lower_ends: &[u32],
+    watches: [u32; 8],
+    out: &mut [u8],
+) -> [u32; 8] {
+    let watching = calls::watch(head, 2, columns, positions, lower_ends, watches, out);
+    let joined = watching.reply;
+    print(b'W', &[2]);
+    print_changes(out, joined.count);
+    watching.watches
+}
+
+// Quote 6 of the worked example, the first that is watched, and the look at the list of 5.
+fn sixth_quote(
+    head: Head,
+    columns: &mut [u32],
+    positions: &mut [u32],
+    lower_ends: &mut [u32],
+    watches: [u32; 8],
+    out: &mut [u8],
+) -> Head {
+    let six = take(head, [6, 6], columns, positions, lower_ends, watches, out);
+    look(six, 5, columns, positions, lower_ends);
+    six
+}
+
+// Quotes 7 and 8 of the worked example, and the look at the list of 3.
+fn last_quotes(
+    head: Head,
+    columns: &mut [u32],
+    positions: &mut [u32],
+    lower_ends: &mut [u32],
+    watches: [u32; 8],
+    out: &mut [u8],
+) -> Head {
+    let seven = take(head, [2, 9], columns, positions, lower_ends, watches, out);
+    let eight = take(seven, [4, 3], columns, positions, lower_ends, watches, out);
+    look(eight, 3, columns, positions, lower_ends);
+    eight
+}
+
 // Refusals of calls that only read the tables, 5, 8, 10, 11, 12, 13, and the watch ended.
 fn refusals(head: Head, columns: &[u32], positions: &[u32], lower_ends: &[u32], watches: [u32; 8]) {
     let mut out = [0u8; 6];
@@ -129,17 +198,11 @@ fn refusals(head: Head, columns: &[u32], positions: &[u32], lower_ends: &[u32], 
     print(b'U', &[2]);
 }
 
-// Refusals on a book of one column at its limits: 3, 4, 9, 6.
-fn limits() {
-    let mut columns = [0u32; 9];
+// Refusal of an opening with seven columns: 3.
+fn refuse_opening() {
+    let mut columns = [0u32; 63];
     let mut positions = [0u32; 9];
     let mut lower_ends = [0u32; 9];
-    let mut out = [0u8; 100];
-    let watches = [1, 2, 3, 4, 5, 6, 7, 8];
-    positions[0] = Head::MAX_POSITION;
-    let mut head = Head::fresh(1, 9, 0);
-    head.newest = Head::MAX_POSITION;
-    head.rows = 1;
     let opened = calls::open(
         7,
         9,
@@ -147,10 +210,23 @@ fn limits() {
         &mut columns,
         &mut positions,
         &mut lower_ends,
-        watches,
+        [0u32; 8],
     );
-    let opened_reply = opened.reply;
-    print_answer(opened_reply);
+    let reply = opened.reply;
+    print_answer(reply);
+}
+
+// Refusals on a book of one column at its limits, the last position and eight watches: 4, 9, 6.
+fn limits() {
+    let mut columns = [0u32; 9];
+    let mut positions = [0u32; 9];
+    let mut lower_ends = [0u32; 9];
+    let mut out = [0u8; 100];
+    let eight = [1, 2, 3, 4, 5, 6, 7, 8];
+    positions[0] = Head::MAX_POSITION;
+    let mut head = Head::fresh(1, 9, 0);
+    head.newest = Head::MAX_POSITION;
+    head.rows = 1;
     let two = [1, 2];
     print_answer(calls::quote(
         head,
@@ -158,18 +234,10 @@ fn limits() {
         &mut columns,
         &mut positions,
         &mut lower_ends,
-        watches,
+        eight,
         &mut out,
     ));
-    let full = calls::watch(
-        head,
-        9,
-        &columns,
-        &positions,
-        &lower_ends,
-        watches,
-        &mut out,
-    );
+    let full = calls::watch(head, 9, &columns, &positions, &lower_ends, eight, &mut out);
     let full_reply = full.reply;
     print_answer(full_reply);
     let one = [1];
@@ -179,109 +247,47 @@ fn limits() {
         &mut columns,
         &mut positions,
         &mut lower_ends,
-        watches,
+        eight,
         &mut out,
     ));
 }
 
-// The tape of the format's text: quotes, a watch, looks, the watch ended, and the audit of what is left.
+// Plays 01's worked example, audits the book that it leaves, and draws the refusals.
 fn main() {
     let mut columns = [0u32; 10];
     let mut positions = [0u32; 5];
     let mut lower_ends = [0u32; 5];
     let mut out = [0u8; 57400];
-    let opened = calls::open(
-        2,
-        5,
-        0,
-        &mut columns,
-        &mut positions,
-        &mut lower_ends,
-        [0u32; 8],
-    );
+    let opened = open(&mut columns, &mut positions, &mut lower_ends);
     let reply = opened.reply;
     let none = opened.watches;
-    print(b'O', &[2, 5, 0]);
-    let one = take(
+    let five = first_quotes(
         reply.head,
-        [5, 5],
         &mut columns,
         &mut positions,
         &mut lower_ends,
         none,
         &mut out,
     );
-    let two = take(
-        one,
-        [3, 8],
-        &mut columns,
-        &mut positions,
-        &mut lower_ends,
-        none,
-        &mut out,
-    );
-    let three = take(
-        two,
-        [4, 4],
-        &mut columns,
-        &mut positions,
-        &mut lower_ends,
-        none,
-        &mut out,
-    );
-    let four = take(
-        three,
-        [7, 2],
-        &mut columns,
-        &mut positions,
-        &mut lower_ends,
-        none,
-        &mut out,
-    );
-    let five = take(
-        four,
-        [4, 4],
-        &mut columns,
-        &mut positions,
-        &mut lower_ends,
-        none,
-        &mut out,
-    );
-    let watching = calls::watch(five, 2, &columns, &positions, &lower_ends, none, &mut out);
-    let joined = watching.reply;
-    let watches = watching.watches;
-    print(b'W', &[2]);
-    print_changes(&out, joined.count);
-    let six = take(
+    let watches = watch_two(five, &columns, &positions, &lower_ends, none, &mut out);
+    let six = sixth_quote(
         five,
-        [6, 6],
         &mut columns,
         &mut positions,
         &mut lower_ends,
         watches,
         &mut out,
     );
-    look(six, 5, &columns, &positions, &lower_ends);
-    let seven = take(
+    let eight = last_quotes(
         six,
-        [2, 9],
         &mut columns,
         &mut positions,
         &mut lower_ends,
         watches,
         &mut out,
     );
-    let eight = take(
-        seven,
-        [4, 3],
-        &mut columns,
-        &mut positions,
-        &mut lower_ends,
-        watches,
-        &mut out,
-    );
-    look(eight, 3, &columns, &positions, &lower_ends);
     audit(eight, &columns, &positions, &lower_ends);
     refusals(eight, &columns, &positions, &lower_ends, watches);
+    refuse_opening();
     limits();
 }
