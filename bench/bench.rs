@@ -22,7 +22,7 @@ const COUNTED: usize = 5_000;
 /// The quotes behind them that emoa is timed on.
 const EMOA: usize = 50;
 /// The quotes that the plain model is timed on, from the opening.
-const SHORT: usize = 1_224;
+const SHORT: usize = 512;
 
 /// A tape's shape, memory and number of quotes.
 #[derive(Clone, Copy)]
@@ -83,30 +83,36 @@ fn median(mut times: Vec<f64>) -> f64 {
     times[times.len() / 2]
 }
 
-/// The nanoseconds a quote of ours, the yardstick and, where the memory is the longest, emoa on each tape: medians of runs that go
-/// round all of them in turn.
-fn times(ours: &str, tapes: &[Tape], runs: usize) -> Vec<Vec<f64>> {
-    let mut all = vec![vec![Vec::new(); 3]; tapes.len()];
+/// The nanoseconds a quote of ours, the yardstick and, where the memory is the longest, the plain model and emoa on each tape: medians of
+/// runs that go round all of them in turn.
+fn times(ours: &str, tapes: &[Tape], runs: usize) -> Vec<[Option<f64>; 4]> {
+    let mut all = vec![[const { Vec::new() }; 4]; tapes.len()];
     for _ in 0..runs {
-        for (&tape, row) in tapes.iter().zip(&mut all) {
-            row[0].push(seconds(&[ours], tape) * 1e9 / tape.quotes as f64);
-            row[1].push(seconds(&[YARDSTICK], tape) * 1e9 / tape.quotes as f64);
+        for (&tape, [our, yardstick, plain, emoa]) in tapes.iter().zip(&mut all) {
+            our.push(a_quote(&[ours], tape));
+            yardstick.push(a_quote(&[YARDSTICK], tape));
             if tape.memory == MEMORIES[0] {
-                row[2].extend(emoa_time(ours, tape));
+                plain.push(a_quote(&[PLAIN, "--print"], tape.with(SHORT)));
+                emoa.extend(emoa_time(ours, tape));
             }
         }
     }
-    all.into_iter().map(|row| row.into_iter().filter(|times| !times.is_empty()).map(median).collect()).collect()
+    all.into_iter().map(|row| row.map(|times| (!times.is_empty()).then(|| median(times)))).collect()
 }
 
-/// The nanoseconds a quote of the plain model on a short tape, most of whose quotes find the window unfilled and the lists short.
-fn plain_time(ours: &str, tape: Tape) -> f64 {
-    let tape = tape.with(SHORT);
-    let start = Instant::now();
-    let print = print_of(&[PLAIN, "--print"], tape);
-    let time = start.elapsed().as_secs_f64() * 1e9 / SHORT as f64;
-    assert!(print == print_of(&[ours], tape), "the plain model's print differs on {}", tape.path());
-    time
+/// The nanoseconds a quote that a command takes to print a tape to nowhere.
+fn a_quote(command: &[&str], tape: Tape) -> f64 {
+    seconds(command, tape) * 1e9 / tape.quotes as f64
+}
+
+/// Panics where the prints of a tape differ: the yardstick's and, on a tape's first quotes where the memory is the longest, the plain
+/// model's.
+fn compare_prints(ours: &str, tape: Tape) {
+    assert!(print_of(&[ours], tape) == print_of(&[YARDSTICK], tape), "ours and the yardstick differ on {}", tape.path());
+    if tape.memory == MEMORIES[0] {
+        let tape = tape.with(SHORT);
+        assert!(print_of(&[ours], tape) == print_of(&[PLAIN, "--print"], tape), "ours and the plain model differ on {}", tape.path());
+    }
 }
 
 /// How long the watches' lists are at the end of a tape, by the joins and leaves that a printer prints, in the order of the watches.
@@ -200,15 +206,15 @@ struct Row {
 }
 
 impl Row {
-    /// Measures what is missing beside the times; the plain model only where the memory is the longest.
-    fn new(ours: &str, tape: Tape, times: &[f64]) -> Row {
-        let longest = tape.memory == MEMORIES[0];
+    /// The times, and the instructions, counted here.
+    fn new(ours: &str, tape: Tape, times: [Option<f64>; 4]) -> Row {
+        let [our, yardstick, plain, emoa] = times;
         Row {
             tape,
-            ours: times[0],
-            yardstick: times[1],
-            plain: longest.then(|| plain_time(ours, tape)),
-            emoa: times.get(2).copied(),
+            ours: our.expect("ours is timed"),
+            yardstick: yardstick.expect("the yardstick is timed"),
+            plain,
+            emoa,
             our_instructions: instructions_a_quote(ours, tape),
             yardstick_instructions: instructions_a_quote(YARDSTICK, tape),
         }
@@ -235,7 +241,8 @@ fn notes(rows: &[Row], runs: usize) {
     println!();
     println!("ns: nanoseconds a quote; x: times ours; instr: instructions a quote by callgrind.");
     println!("Ours and the yardstick: median of {runs} runs over {QUOTES} quotes and eight watches, in turn; their prints are equal.");
-    println!("Plain model: one run over the first {SHORT} quotes, where most windows are not full yet; its print is equal to ours.");
+    println!("Plain model: median of {runs} runs over the first {SHORT} quotes, in turn with them, when longer windows are not full yet;");
+    println!("its print is equal to ours.");
     if rows[0].emoa.is_some() {
         println!("emoa: median of {runs} runs over {EMOA} quotes after {FILL}, in turn with them; its lists are as long as ours.");
     } else {
@@ -256,8 +263,8 @@ fn main() {
     std::fs::create_dir_all(FOLDER).expect("a folder for the tapes is made");
     let of_shape = |shape| MEMORIES.map(|memory| Tape { shape, memory, quotes: QUOTES });
     let tapes: Vec<Tape> = SHAPES.into_iter().flat_map(of_shape).collect();
-    for tape in &tapes {
-        assert!(print_of(&[&ours], *tape) == print_of(&[YARDSTICK], *tape), "ours and the yardstick differ on {}", tape.path());
+    for &tape in &tapes {
+        compare_prints(&ours, tape);
     }
     println!("{}, {}", date(), machine());
     println!();
@@ -265,8 +272,8 @@ fn main() {
     println!("|---|---|---|---|---|---|---|---|---|---|---|---|");
     let times = times(&ours, &tapes, runs);
     let mut rows = Vec::new();
-    for (tape, times) in tapes.iter().zip(&times) {
-        let row = Row::new(&ours, *tape, times);
+    for (&tape, &times) in tapes.iter().zip(&times) {
+        let row = Row::new(&ours, tape, times);
         row.print();
         rows.push(row);
     }
