@@ -1,3 +1,4 @@
 -- The definitions of the crate.
 pub mod Refusals
 pub mod Heads
+pub mod Replies

@@ -1,5 +1,5 @@
 -- The refusals' numbers, and the answer of a call that tests its conditions in order.
-use Prim.Native.Nat.{ℕ}
+use Prim.Native.Nat.{ℕ, zero, suc}
 use mathlib.Core.Bool.{Bool, true, false, cond}
 use mathlib.Core.List.{List, [], _∷_}
 use Rattle.head.specs.declared.Refusal.{Refusal}
@@ -32,3 +32,18 @@ first (c ∷ cs) = cond (c .0) (Refused (c .1)) (first cs)
 unfoldable pub settled : {A : Type 0} → Answer → A → A → A
 settled Accepted a r = a
 settled (Refused k) a r = r
+
+-- 01's number of an answer: 0 where the call is accepted
+abbrev pub numberOf : Answer → ℕ
+numberOf Accepted = 0
+numberOf (Refused k) = number k
+
+-- the number of the first condition that holds, or 0 where none does
+unfoldable pub firstOf : List (Bool × ℕ) → ℕ
+firstOf [] = 0
+firstOf (c ∷ cs) = cond (c .0) (c .1) (firstOf cs)
+
+-- a where the call is accepted, r where it is refused with this number
+unfoldable pub granted : {A : Type 0} → ℕ → A → A → A
+granted zero a r = a
+granted (suc k) a r = r
