@@ -18,7 +18,7 @@ use Rattle.head.specs.Heads.{freshHead, settingsHold}
 use Rattle.head.specs.Refusals.{first, settled}
 use Rattle.model.specs.Rows.{Tables}
 use Rattle.model.specs.Book.{shortTables, shortLoan, watchfulAnswer, replyOf, openAnswer, openReply, openTables, quoteHead, quoteBytes, quoteAnswer, quoteReply, quoteTables, quoteOut, watchBytes, watchAnswer, watchReply, watchOut, endAnswer, endReply}
-use Rattle.calls.specs.Left.{Opened, Quoted, Watched, Ended}
+use Rattle.model.specs.Promises.{Opened, Quoted, Watched, Ended}
 use Rattle.book.specs.declared.lending.Judgement.{Judgement}
 use Rattle.book.specs.Lent.{judgement, fewAnswer, fewReply, OpenJudged, WatchJudged}
 

@@ -11,7 +11,7 @@ use Rattle.model.specs.Rows.{Tables}
 use Rattle.model.specs.Reference.{unopened}
 use Rattle.model.specs.Calls.{Call, Open, Quote, Look, Watch, End, Lent, Seen, World, expectedStep, runs}
 use Rattle.watches.specs.Records.{watched}
-use Rattle.calls.specs.Left.{Opened, Quoted, Looked, Watched, Ended}
+use Rattle.model.specs.Promises.{Opened, Quoted, Looked, Watched, Ended}
 use Rattle.calls.proofs.Made as Numbers
 
 -- what the model is told of lent tables and records: of each record its n

@@ -2,7 +2,7 @@
 ghost use mathlib.Core.Path.{_≡_};
 ghost use lib.ListN.{take};
 ghost use Rattle.model.specs.Book.{endReply};
-ghost use Rattle.calls.specs.Left.{tables, Quoted};
+ghost use Rattle.model.specs.Promises.{tables, Quoted};
 ghost use Rattle.book.specs.Lent.{judgement, fewReply, OpenJudged, WatchJudged};
 use calls::end;
 use calls::open;

@@ -2,7 +2,7 @@
 mod lending;
 
 ghost use Rattle.watches.specs.Records.{watched};
-ghost use Rattle.calls.specs.Left.{tables, Opened, Quoted, Watched, Ended};
+ghost use Rattle.model.specs.Promises.{tables, Opened, Quoted, Watched, Ended};
 use crate::lending::end_lent;
 use crate::lending::open_lent;
 use crate::lending::quote_lent;

@@ -19,7 +19,7 @@ use Rattle.head.proofs.Settings.{Within, settings-within}
 use Rattle.model.specs.Rows.{Tables}
 use Rattle.model.specs.Book.{shortTables, shortLoan, tornRows, tornWatches, bookRows, answerOf, watchfulAnswer, replyOf, outOfRange}
 use Rattle.model.proofs.Rules.{Whole, untorn-whole}
-use Rattle.calls.specs.Left.{loanAnswer}
+use Rattle.calls.specs.Answers.{loanAnswer}
 
 -- ---- tests in order
 

@@ -21,7 +21,7 @@ use Rattle.model.specs.Book.{bookRows, listOf, outOfRange, lookCells, lookAnswe
 use Rattle.rows.proofs.Reading.{length-rows}
 use Rattle.changes.specs.Picked.{bareRows}
 use Rattle.changes.proofs.Picking.{bare-listed}
-use Rattle.calls.specs.Left.{Looked}
+use Rattle.model.specs.Promises.{Looked}
 use Rattle.calls.proofs.Answering.{Passed, answer-passed, refused-reply, refused-left, accepted-reply, accepted-left}
 
 module _ (h : Head) (t : Tables) where

@@ -11,7 +11,7 @@ use Rattle.model.specs.Rows.{Tables}
 use Rattle.model.specs.Reference.{unopened}
 use Rattle.model.specs.Calls.{Call, Open, Quote, Look, Watch, End, Lent, Seen, World, bookStep, expectedStep, runs}
 use Rattle.model.proofs.Replay.{replay}
-use Rattle.calls.specs.Left.{world, Opened, Quoted, Looked, Watched, Ended}
+use Rattle.model.specs.Promises.{world, Opened, Quoted, Looked, Watched, Ended}
 
 abbrev seen : Reply → List ℕ → Tables → List ℕ → Seen
 seen r out t ws = record { reply = r; out = out; lent = record { tables = t; watches = ws } }

@@ -14,7 +14,8 @@ use Rattle.head.specs.Heads.{freshHead}
 use Rattle.head.proofs.Settings.{Within}
 use Rattle.model.specs.Rows.{Tables, filled}
 use Rattle.model.specs.Book.{shortLoan, openAnswer, openReply, openTables, openWatches}
-use Rattle.calls.specs.Left.{loanAnswer, Opened}
+use Rattle.model.specs.Promises.{Opened}
+use Rattle.calls.specs.Answers.{loanAnswer}
 use Rattle.calls.proofs.Answering.{Long, loan-passed, refused-reply, refused-left, accepted-reply, accepted-left}
 
 -- eight empty watches

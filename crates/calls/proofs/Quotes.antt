@@ -38,7 +38,8 @@ use Rattle.changes.specs.Flagged.{Found, flagged}
 use Rattle.changes.specs.Watches.{allFrames}
 use Rattle.changes.specs.Sought.{Rises, Named}
 use Rattle.changes.proofs.Quoting.{untorn-rows, quote-frames}
-use Rattle.calls.specs.Left.{rowAnswer, Quoted}
+use Rattle.model.specs.Promises.{Quoted}
+use Rattle.calls.specs.Answers.{rowAnswer}
 use Rattle.calls.proofs.Answering.{Passed, begun, stays, watchful-passed, refused-reply, refused-left, accepted-reply, accepted-left}
 use Rattle.calls.proofs.Listing.{rows-stand}
 

@@ -23,7 +23,8 @@ use Rattle.model.proofs.Reached.{reached-by, reached-judged, reached-names}
 use Rattle.rows.specs.Lent.{Cleared}
 use Rattle.rows.proofs.Clears.{cleared-all, cleared-filled}
 use Rattle.changes.specs.Sought.{Named}
-use Rattle.calls.specs.Left.{world, quoteTests, rowAnswer, reachedAnswer, usedRows}
+use Rattle.model.specs.Promises.{world}
+use Rattle.calls.specs.Answers.{quoteTests, rowAnswer, reachedAnswer, usedRows}
 
 -- a quote on it is answered by its settings and the quote's own tests
 pub reached-answers : {h : Head} (x : List ℕ) {t : Tables} {ws : List ℕ} {a : Answer} → Reached (world h t ws) → a ≡ reachedAnswer h x → a ≡ rowAnswer h x t ws

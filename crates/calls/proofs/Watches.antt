@@ -20,7 +20,7 @@ use Rattle.model.specs.Changes.{frames}
 use Rattle.model.specs.Book.{tornWatches, standing, bookRows, listOf, outOfRange, watchBytes, watchAnswer, watchReply, watchWatches, watchOut}
 use Rattle.changes.specs.Picked.{bareRows}
 use Rattle.changes.proofs.Framing.{joins-length}
-use Rattle.calls.specs.Left.{Watched}
+use Rattle.model.specs.Promises.{Watched}
 use Rattle.calls.proofs.Answering.{Passed, InRange, in-range, watchful-passed, refused-reply, refused-left, accepted-reply, accepted-left}
 use Rattle.calls.proofs.Listing.{rows-stand, list-cells}
 

@@ -3,7 +3,7 @@ ghost use mathlib.Core.Path.{_≡_};
 ghost use mathlib.Core.List.{[], _∷_};
 ghost use Rattle.head.specs.declared.Refusal.the-variants.{WindowSize};
 ghost use Rattle.model.specs.Book.{answerOf, outOfRange, lookAnswer};
-ghost use Rattle.calls.specs.Left.{tables, Looked};
+ghost use Rattle.model.specs.Promises.{tables, Looked};
 use crate::judging::judge;
 use crate::judging::out_of_range;
 use crate::judging::with_test;

@@ -1,5 +1,5 @@
 // The opening: new settings, and nothing in the tables and watches.
-ghost use Rattle.calls.specs.Left.{tables, Opened};
+ghost use Rattle.model.specs.Promises.{tables, Opened};
 use crate::WatchReply;
 use crate::judging::judge_loan;
 use cells::clear;

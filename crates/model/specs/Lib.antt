@@ -4,5 +4,6 @@ pub mod Changes
 pub mod Reference
 pub mod Book
 pub mod Calls
+pub mod Promises
 pub mod Watcher
 pub mod Audit

@@ -9,7 +9,7 @@ use Rattle.model.specs.Rows.{Tables}
 use Rattle.model.specs.Calls.{Reached}
 use Rattle.model.proofs.Reached.{reached-step}
 use Rattle.frames.specs.Frames.{readAt}
-use Rattle.calls.specs.Left.{world}
+use Rattle.model.specs.Promises.{world}
 use Rattle.tape.specs.declared.Step.{Step}
 use Rattle.tape.specs.Print.{Asked, finished, unread, misplaced, request, asked}
 use Rattle.tape.specs.Play.{Played, playAsked, playAt, Player, begun, callOf, bookMake}

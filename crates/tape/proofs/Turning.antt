@@ -13,7 +13,7 @@ use Rattle.head.specs.Refusals.{settled}
 use Rattle.model.specs.Rows.{Tables}
 use Rattle.model.specs.Book.{replyOf, quoteBytes, quoteReply, lookAnswer, lookReply, watchBytes, watchReply}
 use Rattle.model.specs.Calls.{bookStep}
-use Rattle.calls.specs.Left.{Opened, Quoted, Looked, Watched, Ended}
+use Rattle.model.specs.Promises.{Opened, Quoted, Looked, Watched, Ended}
 use Rattle.text.specs.Text.{line, Laid}
 use Rattle.printed.specs.Printed.{changeLines, changesIn}
 use Rattle.tape.specs.Print.{Request, changesText, linesOf, refusalLine, answerText, textOf}

@@ -5,7 +5,7 @@ ghost use mathlib.Core.List.{List, _++_};
 ghost use Prim.Native.Nat.{ℕ, _+_, _*_, _/_, _≤_};
 ghost use lib.ListN.{length, take};
 ghost use Rattle.model.specs.Calls.{Reached};
-ghost use Rattle.calls.specs.Left.{tables, world, Quoted};
+ghost use Rattle.model.specs.Promises.{tables, world, Quoted};
 ghost use Rattle.head.specs.Refusals.{settled};
 ghost use Rattle.text.specs.Text.{Laid};
 ghost use Rattle.printed.specs.Printed.{changeLines, changesIn};

@@ -5,7 +5,7 @@ ghost use Prim.Native.Nat.{_≤_};
 ghost use lib.Dec.{ltb};
 ghost use lib.ListN.{length};
 ghost use Rattle.model.specs.Calls.{Reached};
-ghost use Rattle.calls.specs.Left.{tables, world};
+ghost use Rattle.model.specs.Promises.{tables, world};
 ghost use Rattle.tape.specs.Steps.{player, textRoom, Stepped};
 ghost use Rattle.tape.specs.Turns.{outOfPlace, placed, columnCount, observed, taken, Turned};
 use crate::Step;

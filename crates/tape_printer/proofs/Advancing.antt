@@ -15,7 +15,7 @@ use Rattle.tape.specs.Play.{Played, playAsked, playAt, Player, begun, bookMake}
 use Rattle.head.specs.declared.Head.{Head}
 use Rattle.model.specs.Rows.{Tables}
 use Rattle.model.specs.Calls.{Reached}
-use Rattle.calls.specs.Left.{tables, world}
+use Rattle.model.specs.Promises.{tables, world}
 use Rattle.tape.specs.declared.Step.{Step}
 use Rattle.tape.specs.Steps.{textRoom, stepAt, stepReply, Stepped}
 use Rattle.tape_printer.specs.Stands.{left, Advanced}

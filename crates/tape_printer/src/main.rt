@@ -4,7 +4,7 @@ ghost use Prim.Native.Nat.{_≤_};
 ghost use mathlib.Core.Bool.{_&&_, not};
 ghost use lib.ListN.{length};
 ghost use Rattle.model.specs.Calls.{Reached};
-ghost use Rattle.calls.specs.Left.{tables, world};
+ghost use Rattle.model.specs.Promises.{tables, world};
 ghost use Rattle.tape.specs.Steps.{ready};
 ghost use Rattle.tape_printer.specs.Stands.{Advanced};
 use head::Head;

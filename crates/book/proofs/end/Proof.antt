@@ -58,7 +58,7 @@ use Rattle.watches.proofs.numbers.Met as numbers-thm
 use Rattle.watches.proofs.remove_record.Symbol as change-def
 use Rattle.watches.proofs.remove_record.Symbol.{name as #watches·remove-record}
 use Rattle.watches.proofs.remove_record.Met as change-thm
-use Rattle.calls.specs.Left.{tables as lent-tables, Ended}
+use Rattle.model.specs.Promises.{tables as lent-tables, Ended}
 use Rattle.book.specs.declared.lending.Judgement.{Judgement}
 use Rattle.book.specs.Lent.{judgement}
 use Rattle.book.proofs.Fronts.{end-left, end-enough, end-removed}

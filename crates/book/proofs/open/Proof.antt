@@ -53,7 +53,7 @@ use Rattle.watches.proofs.numbers.Met as numbers-thm
 use Rattle.watches.proofs.store.Symbol as change-def
 use Rattle.watches.proofs.store.Symbol.{name as #watches·store}
 use Rattle.watches.proofs.store.Met as change-thm
-use Rattle.calls.specs.Left.{tables as lent-tables, Opened}
+use Rattle.model.specs.Promises.{tables as lent-tables, Opened}
 use Rattle.book.specs.declared.lending.Judgement.{Judgement}
 use Rattle.book.specs.Lent.{OpenJudged}
 use Rattle.book.proofs.Fronts.{open-left, open-emptied}

@@ -53,7 +53,7 @@ use Rattle.watches.proofs.Calling.{Numbers, calls-numbers}
 use Rattle.watches.proofs.numbers.Symbol as numbers-def
 use Rattle.watches.proofs.numbers.Symbol.{name as #watches·numbers}
 use Rattle.watches.proofs.numbers.Met as numbers-thm
-use Rattle.calls.specs.Left.{tables as lent-tables, Quoted}
+use Rattle.model.specs.Promises.{tables as lent-tables, Quoted}
 use Rattle.book.proofs.Fronts.{quote-records}
 use Rattle.book.proofs.Machines.{headed, machines, spelled}
 use Rattle.book.proofs.lending.quote_lent as callee

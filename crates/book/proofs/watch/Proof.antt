@@ -58,7 +58,7 @@ use Rattle.watches.proofs.numbers.Met as numbers-thm
 use Rattle.watches.proofs.insert_record.Symbol as change-def
 use Rattle.watches.proofs.insert_record.Symbol.{name as #watches·insert-record}
 use Rattle.watches.proofs.insert_record.Met as change-thm
-use Rattle.calls.specs.Left.{tables as lent-tables, Watched}
+use Rattle.model.specs.Promises.{tables as lent-tables, Watched}
 use Rattle.book.specs.declared.lending.Judgement.{Judgement}
 use Rattle.book.specs.Lent.{WatchJudged}
 use Rattle.book.proofs.Fronts.{watch-left, watch-asks, watch-inserted}

@@ -6,7 +6,7 @@ use lib.ListN.{length}
 use borrow.Author.Needs.{needs}
 use Rattle.model.specs.Calls.{Reached}
 use Rattle.model.proofs.Reached.{reached-first}
-use Rattle.calls.specs.Left.{tables, world}
+use Rattle.model.specs.Promises.{tables, world}
 use Rattle.tape_printer.proofs.Advancing.{same-reached}
 use Rattle.tape_printer.proofs.main.Statement.{statement}
 use Rattle.tape_printer.proofs.main.Tie as tie

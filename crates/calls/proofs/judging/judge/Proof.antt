@@ -3,7 +3,7 @@ use mathlib.Core.Path.{sym, _∙_}
 use borrow.Author.Needs.{needs}
 use Rattle.model.specs.Book.{answerOf}
 use Rattle.rows.proofs.Torn.{torn-columns}
-use Rattle.calls.specs.Left.{loanAnswer}
+use Rattle.calls.specs.Answers.{loanAnswer}
 use Rattle.calls.proofs.Answering.{tested, stays, loan-passed}
 use Rattle.calls.proofs.judging.judge.Statement.{statement}
 use Rattle.calls.proofs.judging.judge.Tie as tie

@@ -1,6 +1,6 @@
 -- `judge_loan` meets its contract: the lengths are tested behind the settings.
 use borrow.Author.Needs.{needs}
-use Rattle.calls.specs.Left.{loanAnswer}
+use Rattle.calls.specs.Answers.{loanAnswer}
 use Rattle.calls.proofs.Answering.{tested}
 use Rattle.calls.proofs.judging.judge_loan.Statement.{statement}
 use Rattle.calls.proofs.judging.judge_loan.Tie as tie

@@ -2,7 +2,7 @@
 use native.Mathlib.Omega.{arith}
 use denote.Ref.{now}
 use borrow.Author.Needs.{needs}
-use Rattle.calls.specs.Left.{tables}
+use Rattle.model.specs.Promises.{tables}
 use Rattle.calls.proofs.Quotes.{Marked, admitted, mark-asks, marked, fitted, count-asks, quote-full}
 use Rattle.calls.proofs.quoting.accept_with.Statement.{statement}
 use Rattle.calls.proofs.quoting.accept_with.Tie as tie

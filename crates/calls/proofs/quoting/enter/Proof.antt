@@ -7,7 +7,7 @@ use lib.Dec.{ltb}
 use lib.ListN.{length, take}
 use denote.Ref.{now}
 use borrow.Author.Needs.{needs}
-use Rattle.calls.specs.Left.{tables}
+use Rattle.model.specs.Promises.{tables}
 use Rattle.calls.proofs.Quotes.{Marked, admitted, bytes, fitting, list-asks, listed-few, write-asks, ready, quote-done}
 use Rattle.calls.proofs.Reaching.{used-cleared, reached-named}
 use Rattle.calls.proofs.quoting.enter.Statement.{statement}

@@ -1,6 +1,6 @@
 -- `judge_reached` meets its contract: the quote is tested behind the settings.
 use borrow.Author.Needs.{needs}
-use Rattle.calls.specs.Left.{reachedAnswer}
+use Rattle.calls.specs.Answers.{reachedAnswer}
 use Rattle.calls.proofs.Answering.{tested-more}
 use Rattle.calls.proofs.quoting.judge_reached.Statement.{statement}
 use Rattle.calls.proofs.quoting.judge_reached.Tie as tie

@@ -1,7 +1,7 @@
 -- `judge_row` meets its contract: the quote is tested behind the tables and watches.
 use borrow.Author.Needs.{needs}
 use Rattle.model.specs.Book.{watchfulAnswer}
-use Rattle.calls.specs.Left.{rowAnswer}
+use Rattle.calls.specs.Answers.{rowAnswer}
 use Rattle.calls.proofs.Answering.{tested-more}
 use Rattle.calls.proofs.quoting.judge_row.Statement.{statement}
 use Rattle.calls.proofs.quoting.judge_row.Tie as tie

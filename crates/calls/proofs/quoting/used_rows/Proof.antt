@@ -1,5 +1,5 @@
 -- `used_rows` meets its contract, whose cases it tells apart.
-use Rattle.calls.specs.Left.{usedRows}
+use Rattle.calls.specs.Answers.{usedRows}
 use Rattle.calls.proofs.quoting.used_rows.Statement.{statement}
 use Rattle.calls.proofs.quoting.used_rows.Tie as tie
 

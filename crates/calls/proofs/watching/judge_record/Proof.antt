@@ -3,7 +3,7 @@ use mathlib.Core.Path.{ap}
 use borrow.Author.Needs.{needs}
 use lib.Dec.{leb}
 use Rattle.model.specs.Book.{watchfulAnswer}
-use Rattle.calls.specs.Left.{recordAnswer}
+use Rattle.calls.specs.Answers.{recordAnswer}
 use Rattle.calls.proofs.Answering.{tested}
 use Rattle.calls.proofs.watching.judge_record.Statement.{statement}
 use Rattle.calls.proofs.watching.judge_record.Tie as tie

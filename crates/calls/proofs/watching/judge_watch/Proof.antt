@@ -3,7 +3,7 @@ use mathlib.Core.Path.{sym, _∙_}
 use native.Mathlib.Omega.{arith}
 use borrow.Author.Needs.{needs}
 use Rattle.model.specs.Book.{watchfulAnswer, watchAnswer}
-use Rattle.calls.specs.Left.{recordAnswer}
+use Rattle.calls.specs.Answers.{recordAnswer}
 use Rattle.calls.proofs.Answering.{tested, stays, watchful-passed}
 use Rattle.calls.proofs.Listing.{rows-stand, few-listed}
 use Rattle.calls.proofs.Watches.{joins-room}
