@@ -1,3 +1,4 @@
 -- The laws of the crate.
 pub mod Settings
 pub mod Answers
+pub mod Numbers

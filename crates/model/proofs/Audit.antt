@@ -7,17 +7,17 @@ use mathlib.Core.Bool.{true}
 use mathlib.Core.List.{List, []}
 use lib.ListN.{length, getD}
 use Rattle.head.specs.declared.Head.{Head}
-use Rattle.head.specs.declared.Verdict.the-variants.{Yes}
+use Rattle.head.specs.Replies.{yes}
 use Rattle.head.specs.Heads.{settingsHold, lastPosition}
 use Rattle.head.proofs.Settings.{settings-within}
 use Rattle.model.specs.Rows.{Row, Tables, filled}
 use Rattle.model.specs.Reference.{Reference, quoteAt, newest, headOf, rowsOf}
 use Rattle.model.specs.Book.{bookRows}
-use Rattle.model.specs.Audit.{largest, auditVerdict, Tape}
+use Rattle.model.specs.Audit.{largest, auditFinding, Tape}
 use Rattle.model.proofs.Tables.{rows-filled}
 use Rattle.model.proofs.Sound.{Wide, rows-wide, rows-few, rows-sound}
 use Rattle.model.proofs.Worst.{Small}
-use Rattle.model.proofs.Plays.{holding, opening-plays, opening-took}
+use Rattle.model.proofs.Plays.{holding, opening-plays, opening-took, opening-accepted, accepted-settings, opening-next}
 use Rattle.model.proofs.AuditTables.{length-read, read-fit, read-small, clean-filled, filled-clean}
 use Rattle.model.proofs.Rules.{Passed, untorn-whole, yes-iff-passed}
 use Rattle.model.proofs.RulesToTape.{tapeOf, length-tape, tape-wide, tape-small, tape-rows}
@@ -50,11 +50,13 @@ module _ (h : Head) (t : Tables) (hold : settingsHold (h .dimensions) (h .capaci
   unfolding quoteAt headOf
   tape-passes T =
       let qs = T .quotes in
-      let took = opening-took d N (h .directions) hold qs (ap Head.newest (T .head) ∙ sym (T .count)) in
+      let left = rw (opening-next h hold) at (T .head) in
+      let took = opening-took d N (h .directions) hold qs (ap Head.newest left ∙ sym (T .count)) in
       let held = opening-plays d N (h .directions) hold qs (took .0) (took .1) in
       let s = holding d N (h .directions) qs in
-      subst (λ (k : Head). Passed k t) (ap headOf (sym held) ∙ T .head)
-      (left-passes s t (settings-within d N (h .directions) hold .some-capacity) (took .1) (λ p u v. took .0 (p - 1) (omega arith)) (T .values) (rw held at (T .tables)))
+      subst (λ (k : Head). Passed k t) (ap headOf (sym held) ∙ left)
+      (left-passes s t (settings-within d N (h .directions) hold .some-capacity) (took .1) (λ p u v. took .0 (p - 1) (omega arith)) (T .values)
+      (rw (opening-next h hold, held) at (T .tables)))
 
   -- a book that passes is left by a tape
   passes-tape : Small (t .columns) → Passed h t → Tape h t
@@ -68,9 +70,10 @@ module _ (h : Head) (t : Tables) (hold : settingsHold (h .dimensions) (h .capaci
       record {
         quotes = qs;
         values = tape-small d (h .directions) M rs rows-small;
+        accepted = opening-accepted h hold;
         count = counted;
-        head = rw (held, left, counted, length-read);
-        tables = rw (held, left) (clean-filled d N (h .rows) t (w .few-rows) (P .clean));
+        head = rw (opening-next h hold, held, left, counted, length-read);
+        tables = rw (opening-next h hold, held, left) (clean-filled d N (h .rows) t (w .few-rows) (P .clean));
       }
     where
       rs : List Row
@@ -85,9 +88,10 @@ module _ (h : Head) (t : Tables) (hold : settingsHold (h .dimensions) (h .capaci
       counted : length qs ≡ M
       counted = length-tape d (h .directions) M rs
 
--- with settings that hold and cells of 32 bits, the audit says yes exactly if some tape of accepted quotes leaves this head and these tables
-pub audit-iff-tape : (h : Head) (t : Tables) → settingsHold (h .dimensions) (h .capacity) (h .directions) ≡ true → ((i : ℕ) → getD (t .columns) i 0 ≤ largest)
-    → (auditVerdict h t ≡ Yes) ↔ Tape h t
-audit-iff-tape h t hold small =
-    let y = yes-iff-passed h t hold in
-    (λ e. passes-tape h t hold small (y .0 e), λ T. y .1 (tape-passes h t hold T))
+-- with cells of 32 bits, the audit says yes exactly if some tape of an accepted opening and accepted quotes leaves this head and these tables
+pub audit-iff-tape : (h : Head) (t : Tables) → ((i : ℕ) → getD (t .columns) i 0 ≤ largest) → (auditFinding h t ≡ yes) ↔ Tape h t
+audit-iff-tape h t small =
+    let y = yes-iff-passed h t in (
+      λ e. let p = y .0 e in passes-tape h t (p .0) small (p .1),
+      λ T. let hold = accepted-settings h (T .accepted) in y .1 (hold, tape-passes h t hold T),
+    )

@@ -19,14 +19,14 @@ use Rattle.lists.proofs.Apart.{parts-fit, rising-map-filter, rising-snoc, risin
 use Rattle.skyline.specs.Skyline.{windowStart, stabbed}
 use Rattle.head.specs.declared.Head.{Head}
 use Rattle.head.specs.declared.Refusal.the-variants.{Settings, ColumnCount, TapeFull, ShortLoan, Torn, ShortOutput}
-use Rattle.head.specs.Refusals.{first}
+use Rattle.head.specs.Refusals.{number, firstOf}
 use Rattle.head.specs.Heads.{settingsHold, lastPosition}
 use Rattle.head.proofs.Settings.{settings-within}
 use Rattle.frames.specs.declared.Message.{Message}
 use Rattle.frames.specs.declared.Message.the-variants.{Leave, Join}
 use Rattle.model.specs.Rows.{Row, Tables, rowAt, rowsIn, expiring, renamedRow, listed, remains, remaining, lowerEndAmong, rowsAfter}
 use Rattle.model.specs.Changes.{missing, changes, allChanges, frames}
-use Rattle.model.specs.Book.{shortLoan, tornRows, tornWatches, standing, bookRows, listOf, watchfulAnswer, quoteRows, quoteHead, quoteBytes, quoteAnswer}
+use Rattle.model.specs.Book.{shortLoan, tornRows, tornWatches, standing, bookRows, listOf, watchfulAnswer, quoteRows, quoteHead, quoteBytes, quoteAnswer, ChangesFit}
 use Rattle.model.proofs.Rules.{Whole, untorn-whole}
 use Rattle.model.proofs.ChangeFrames.{frames-append, changes-bytes}
 
@@ -145,14 +145,9 @@ length-rows : (h : Head) (t : Tables) → length (bookRows h t) ≡ h .rows
 unfolding bookRows rowsIn
 length-rows h t = length-map (run 0 (h .rows)) (rowAt (h .dimensions) t) ∙ length-run 0 (h .rows)
 
--- what a quote on tables that are not torn can write: for every n at most one change for each row and one more, which is 1,025 at
--- most, and 57,400 bytes for all watches
-pub record Fit (h : Head) (x : List ℕ) (t : Tables) (ws : List ℕ) : Type 0 where
-  pub changes-each : (n : ℕ) → length (changes n (listOf h (bookRows h t) n) (listOf (quoteHead h x t ws) (quoteRows h x t ws) n)) ≤ h .rows + 1
-  pub changes-most : h .rows + 1 ≤ 1025
-  pub bytes-most : length (quoteBytes h x t ws) ≤ 57400
-
-pub changes-fit : (h : Head) (x : List ℕ) (t : Tables) (ws : List ℕ) → settingsHold (h .dimensions) (h .capacity) (h .directions) ≡ true → tornRows h (bookRows h t) ≡ false → Fit h x t ws
+-- a quote on tables that are not torn writes no more
+pub changes-fit : (h : Head) (x : List ℕ) (t : Tables) (ws : List ℕ) → settingsHold (h .dimensions) (h .capacity) (h .directions) ≡ true
+    → tornRows h (bookRows h t) ≡ false → ChangesFit h x t ws
 unfolding listOf quoteRows quoteBytes
 changes-fit h x t ws holds whole =
     record { changes-each = each; changes-most = most; bytes-most = omega (arith, few-standing ws, all-bytes (standing ws) (listOf h rs) (listOf next-head next) (λ n. omega (arith, each n, most))) }
@@ -177,9 +172,9 @@ changes-fit h x t ws holds whole =
 
 -- a last refusal that is never given where the first and the third are not
 never-last : (a b c d e o : Bool) → (a ≡ false → c ≡ false → o ≡ false)
-    → first ((a, Settings) ∷ (b, ShortLoan) ∷ (c, Torn) ∷ (d, ColumnCount) ∷ (e, TapeFull) ∷ (o, ShortOutput) ∷ [])
-    ≡ first ((a, Settings) ∷ (b, ShortLoan) ∷ (c, Torn) ∷ (d, ColumnCount) ∷ (e, TapeFull) ∷ [])
-unfolding first
+    → firstOf ((a, number Settings) ∷ (b, number ShortLoan) ∷ (c, number Torn) ∷ (d, number ColumnCount) ∷ (e, number TapeFull) ∷ (o, number ShortOutput) ∷ [])
+    ≡ firstOf ((a, number Settings) ∷ (b, number ShortLoan) ∷ (c, number Torn) ∷ (d, number ColumnCount) ∷ (e, number TapeFull) ∷ [])
+unfolding firstOf
 never-last true b c d e o h = refl
 never-last false true c d e o h = refl
 never-last false false true d e o h = refl
@@ -189,7 +184,7 @@ never-last false false false false false o h = rw (h refl refl)
 
 -- so an output of 57,400 bytes is too short for no quote: its answer is by the other refusals alone
 pub room-suffices : (h : Head) (x : List ℕ) (t : Tables) (ws : List ℕ) (room : ℕ) → 57400 ≤ room
-    → quoteAnswer h x t ws room ≡ watchfulAnswer h t ws ((not (eqb (length x) (h .dimensions)), ColumnCount) ∷ (leb lastPosition (h .newest), TapeFull) ∷ [])
+    → quoteAnswer h x t ws room ≡ watchfulAnswer h t ws ((not (eqb (length x) (h .dimensions)), number ColumnCount) ∷ (leb lastPosition (h .newest), number TapeFull) ∷ [])
 unfolding quoteAnswer watchfulAnswer
 room-suffices h x t ws room wide =
     never-last (not held) (shortLoan t ws (h .dimensions) (h .capacity)) (torn || tornWatches (h .capacity) ws) (not (eqb (length x) (h .dimensions))) (leb lastPosition (h .newest)) (ltb room (length bytes))

@@ -1,7 +1,7 @@
 -- A watcher that reads what the reference model writes holds, after each call, what the reference model says.
 use mathlib.Core.Path.{_≡_, refl, sym, ap, _∙_}
 use mathlib.Core.Logic.{_⊎_, inl, inr}
-use Prim.Native.Nat.{ℕ, _≤_, _<_}
+use Prim.Native.Nat.{ℕ, zero, suc, _≤_, _<_}
 use native.Mathlib.Nat.{le-refl}
 use native.Mathlib.Omega.{arith}
 use mathlib.Core.Bool.{Bool, true, false, _&&_, not, cond}
@@ -16,16 +16,14 @@ use Rattle.lists.proofs.Members.{contains-filter}
 use Rattle.lists.proofs.Rising.{rising-between, rising-weak, rising-filter, contains-insert}
 use Rattle.lists.proofs.Apart.{rising-wide}
 use Rattle.skyline.specs.Skyline.{windowStart, dominatedIn, skyline}
-use Rattle.head.specs.declared.Answer.{Answer}
-use Rattle.head.specs.declared.Answer.the-variants.{Accepted, Refused}
-use Rattle.head.specs.Refusals.{settled}
+use Rattle.head.specs.Refusals.{granted}
 use Rattle.head.specs.Heads.{lastPosition}
-use Rattle.head.proofs.Answers.{accepted-passed}
+use Rattle.head.proofs.Numbers.{zero-passed}
 use Rattle.frames.specs.declared.Message.{Message}
 use Rattle.frames.specs.declared.Message.the-variants.{Join}
 use Rattle.model.specs.Changes.{allChanges, frames}
 use Rattle.model.specs.Reference.{Reference, newest, over, skylineOf, outside, withQuote, withWatched, opening, tells, referenceStep}
-use Rattle.model.specs.Calls.{Call, Open, Quote, Look, Watch, End, Lent, Seen, fed, outputOf, expectedStep}
+use Rattle.model.specs.Calls.{Call, Open, Quote, Look, Watch, End, Outputs, Lent, Seen, lengthsOf, expectedStep}
 use Rattle.model.specs.Watcher.{Held, Nothing, Holding, messagesFrom, heedsAll, reads, watcherStep, heldBy}
 use Rattle.model.proofs.Joined.{in-range}
 use Rattle.model.proofs.Heeding.{first-heeded, other-joins, all-heeded}
@@ -37,7 +35,7 @@ heldAfter n ms Nothing = Nothing
 heldAfter n ms (Holding held) = Holding (heedsAll n held ms)
 
 -- frames at the start of an output are read as their messages
-reads-frames : (n : ℕ) (ms : List Message) → Sent ms → (seen : Seen) (before : List ℕ) → seen .reply .count ≡ length (frames ms) → seen .out ≡ laid (frames ms) before
+reads-frames : (n : ℕ) (ms : List Message) → Sent ms → (seen : Seen) (before : List ℕ) → seen .outcome .count ≡ length (frames ms) → seen .outputs .bytes ≡ laid (frames ms) before
     → (held : Held) → reads n seen held ≡ heldAfter n ms held
 unfolding heldAfter reads laid
 reads-frames n ms s seen before c o Nothing = refl
@@ -46,7 +44,7 @@ reads-frames n ms s seen before c o (Holding held) =
     (ap (λ (l : List Message). Holding (heedsAll n held l)) (read-back ms s [] (length (frames ms)) (le-refl (length (frames ms)))))
 
 -- where nothing is written, nothing changes
-reads-nothing : (n : ℕ) (seen : Seen) → seen .reply .count ≡ 0 → (held : Held) → reads n seen held ≡ held
+reads-nothing : (n : ℕ) (seen : Seen) → seen .outcome .count ≡ 0 → (held : Held) → reads n seen held ≡ held
 unfolding reads messagesFrom heedsAll
 reads-nothing n seen c Nothing = refl
 reads-nothing n seen c (Holding held) = rw c
@@ -100,36 +98,36 @@ module _ (s : Reference) (ok : Bounded s) where
     pub sent-quote : Sent (allChanges (s .watched) (skylineOf s) (skylineOf (withQuote s x)))
     sent-quote = sent-all 1 lastPosition (omega arith) (skylineOf s) (skylineOf (withQuote s x)) before-rises after-rises 1 (s .capacity) (omega (arith, ok .small)) (s .watched) (ok .risen)
 
-module _ (n : ℕ) (s : Reference) (l : Lent) (ok : Bounded s) where
+module _ (n : ℕ) (s : Reference) (l : Lent) (ok : Bounded s) (o : Outputs) where
   -- the watcher of n after a call of the reference model
   abbrev Follows : Call → Type 0
-  Follows c = let one = expectedStep c (record { reference = s; lent = l }) in watcherStep n c (one .0) (heldBy n s) ≡ heldBy n (one .1 .reference)
+  Follows c = let one = expectedStep c o (record { reference = s; lent = l }) in watcherStep n c (one .0) (heldBy n s) ≡ heldBy n (one .1 .reference)
 
-  -- the answer of the reference model
-  abbrev answered : Call → Answer
-  answered c = expectedStep c (record { reference = s; lent = l }) .0 .reply .answer
+  -- the number of the reference model's answer
+  abbrev answered : Call → ℕ
+  answered c = expectedStep c o (record { reference = s; lent = l }) .0 .outcome .number
 
   -- an accepted opening ends every watch
   opens : (d N directions : ℕ) → Follows (Open d N directions)
-  unfolding expectedStep referenceStep tells fed watcherStep settled heldBy opening contains any
+  unfolding expectedStep referenceStep tells lengthsOf watcherStep granted heldBy opening contains any
   opens d N directions = go (answered (Open d N directions))
     where
-      go : (a : Answer) → settled a Nothing (heldBy n s) ≡ heldBy n (settled a (opening d N directions) s)
-      go Accepted = refl
-      go (Refused k) = refl
+      go : (a : ℕ) → granted a Nothing (heldBy n s) ≡ heldBy n (granted a (opening d N directions) s)
+      go zero = refl
+      go (suc k) = refl
 
   -- a look changes nothing
-  looks : (m : ℕ) (out : List ℕ) → Follows (Look m out)
-  unfolding expectedStep referenceStep tells fed watcherStep settled
-  looks m out = go (answered (Look m out))
+  looks : (m : ℕ) → Follows (Look m)
+  unfolding expectedStep referenceStep tells lengthsOf watcherStep granted
+  looks m = go (answered (Look m))
     where
-      go : (a : Answer) → heldBy n s ≡ heldBy n (settled a s s)
-      go Accepted = refl
-      go (Refused k) = refl
+      go : (a : ℕ) → heldBy n s ≡ heldBy n (granted a s s)
+      go zero = refl
+      go (suc k) = refl
 
   -- an accepted end ends the watch of its n
   ends : (m : ℕ) → Follows (End m)
-  unfolding expectedStep referenceStep tells fed watcherStep settled heldBy withWatched skylineOf without
+  unfolding expectedStep referenceStep tells lengthsOf watcherStep granted heldBy withWatched skylineOf without
   ends m = go (answered (End m))
     where
       dropped : (b c : Bool) → cond b Nothing (cond c (Holding (skylineOf s n)) Nothing) ≡ cond (c && not b) (Holding (skylineOf s n)) Nothing
@@ -138,13 +136,13 @@ module _ (n : ℕ) (s : Reference) (l : Lent) (ok : Bounded s) where
       dropped false true = refl
       dropped false false = refl
 
-      go : (a : Answer) → settled a (cond (eqb m n) Nothing (heldBy n s)) (heldBy n s) ≡ heldBy n (settled a (withWatched s (without m (s .watched))) s)
-      go Accepted = rw (contains-filter (λ y. not (eqb m y)) n (s .watched)) (dropped (eqb m n) (contains n (s .watched)))
-      go (Refused k) = refl
+      go : (a : ℕ) → granted a (cond (eqb m n) Nothing (heldBy n s)) (heldBy n s) ≡ heldBy n (granted a (withWatched s (without m (s .watched))) s)
+      go zero = rw (contains-filter (λ y. not (eqb m y)) n (s .watched)) (dropped (eqb m n) (contains n (s .watched)))
+      go (suc k) = refl
 
   -- ---- watch
 
-  module _ (m : ℕ) (out : List ℕ) where
+  module _ (m : ℕ) where
     -- the joins of an accepted watch, and the model with it
     abbrev joins : List Message
     joins = map (Join m) (skylineOf s m)
@@ -172,19 +170,19 @@ module _ (n : ℕ) (s : Reference) (l : Lent) (ok : Bounded s) where
         pick (inr t) = rw t (held-on n s watching joins (others-stand t) (λ u. other-joins n m t (skylineOf s m) (skylineOf s n) ∙ sym still))
 
     -- the joins of an accepted watch are read
-    watches : Follows (Watch m out)
-    unfolding expectedStep referenceStep tells fed outputOf watcherStep settled
-    watches = go (answered (Watch m out)) refl
+    watches : Follows (Watch m)
+    unfolding expectedStep referenceStep tells lengthsOf watcherStep granted
+    watches = go (answered (Watch m)) refl
       where
-        go : (a : Answer) → answered (Watch m out) ≡ a → Follows (Watch m out)
-        go Accepted e =
-            let inside = accepted-passed _ _ _ (accepted-passed _ _ _ e .1) .0 in
-            rw e (reads-frames n joins (sent-watch s ok m inside) _ out refl refl _ ∙ begun)
-        go (Refused k) e = rw e (reads-nothing n _ refl (heldBy n s))
+        go : (a : ℕ) → answered (Watch m) ≡ a → Follows (Watch m)
+        go zero e =
+            let inside = zero-passed _ _ _ (zero-passed _ _ _ e .1) .0 in
+            rw e (reads-frames n joins (sent-watch s ok m inside) _ (o .bytes) refl refl _ ∙ begun)
+        go (suc k) e = rw e (reads-nothing n _ refl (heldBy n s))
 
   -- ---- quote
 
-  module _ (x out : List ℕ) where
+  module _ (x : List ℕ) where
     -- the model with the quote, and its changes
     abbrev next : Reference
     next = withQuote s x
@@ -199,20 +197,20 @@ module _ (n : ℕ) (s : Reference) (l : Lent) (ok : Bounded s) where
       moved = held-on n s next messages refl (λ t. all-heeded n (skylineOf s) (skylineOf next) 1 lastPosition 1 (s .capacity) (s .watched) (before-rises s ok n) (after-rises s ok x room n) (ok .risen) t)
 
     -- the changes of an accepted quote are read
-    quotes : Follows (Quote x out)
-    unfolding expectedStep referenceStep tells fed outputOf watcherStep settled
-    quotes = go (answered (Quote x out)) refl
+    quotes : Follows (Quote x)
+    unfolding expectedStep referenceStep tells lengthsOf watcherStep granted
+    quotes = go (answered (Quote x)) refl
       where
-        go : (a : Answer) → answered (Quote x out) ≡ a → Follows (Quote x out)
-        go Accepted e =
-            let room = leb-false lastPosition (newest s) (accepted-passed _ _ _ (accepted-passed _ _ _ (accepted-passed _ _ _ e .1) .1) .0) in
-            rw e (reads-frames n messages (sent-quote s ok x room) _ out refl refl (heldBy n s) ∙ moved room)
-        go (Refused k) e = rw e (reads-nothing n _ refl (heldBy n s))
+        go : (a : ℕ) → answered (Quote x) ≡ a → Follows (Quote x)
+        go zero e =
+            let room = leb-false lastPosition (newest s) (zero-passed _ _ _ (zero-passed _ _ _ (zero-passed _ _ _ e .1) .1) .0) in
+            rw e (reads-frames n messages (sent-quote s ok x room) _ (o .bytes) refl refl (heldBy n s) ∙ moved room)
+        go (suc k) e = rw e (reads-nothing n _ refl (heldBy n s))
 
   -- after each call the watcher holds what it is to hold
   pub follows : (c : Call) → Follows c
   follows (Open d N directions) = opens d N directions
-  follows (Quote x out) = quotes x out
-  follows (Look m out) = looks m out
-  follows (Watch m out) = watches m out
+  follows (Quote x) = quotes x
+  follows (Look m) = looks m
+  follows (Watch m) = watches m
   follows (End m) = ends m

@@ -10,15 +10,14 @@ use borrow.Author.Tests.{ltb-false, leb-true, not-false}
 use Rattle.lists.specs.Lists.{run, rising, padded}
 use Rattle.lists.proofs.Booleans.{and-left, and-right, none-left, none-right}
 use Rattle.head.specs.declared.Head.{Head}
-use Rattle.head.specs.declared.Refusal.{Refusal}
 use Rattle.head.specs.declared.Refusal.the-variants.{Settings}
-use Rattle.head.specs.Refusals.{first}
+use Rattle.head.specs.Refusals.{number, firstOf}
 use Rattle.head.specs.Heads.{lastPosition}
 use Rattle.head.proofs.Settings.{settings-within}
 use Rattle.model.specs.Rows.{Tables, rowsIn, filled}
 use Rattle.model.specs.Reference.{Reference, unopened, newest, skylineOf, rowsOf, headOf, opened, outside}
 use Rattle.model.specs.Book.{shortTables, shortLoan, tornRows, tornWatches, standing, bookRows, listOf, answerOf, watchfulAnswer}
-use Rattle.model.specs.Calls.{Call, Lent, World, bookStep, shown, Expected, expectedStep}
+use Rattle.model.specs.Calls.{Call, Outputs, Lent, World, bookStep, shown, Expected, expectedStep}
 use Rattle.model.proofs.Quotes.{skyline-listed}
 use Rattle.model.proofs.Tables.{rows-filled}
 use Rattle.model.proofs.Sound.{Wide, rows-none, rows-few, rows-wide, rows-sound, standing-padded, watches-sound}
@@ -53,8 +52,8 @@ unfolding shortLoan
 long-records t ws d N e = ltb-false (length ws) 8 (none-right (shortTables t d N) (ltb (length ws) 8) e)
 
 -- what is seen of a call is the same in both models, and they stand joined after it
-abbrev pub Agree : Call → Expected → World → Type 0
-Agree c k w = (bookStep c w .0 ≡ expectedStep c k .0) × Joined (expectedStep c k .1) (bookStep c w .1)
+abbrev pub Agree : Call → Outputs → Expected → World → Type 0
+Agree c o k w = (bookStep c o w .0 ≡ expectedStep c o k .0) × Joined (expectedStep c o k .1) (bookStep c o w .1)
 
 -- the reference model, with what is lent
 abbrev pub referenceWith : Reference → Lent → Expected
@@ -117,13 +116,13 @@ module _ (s : Reference) (l : Lent) (f : Faithful s l) where
   watches-whole = ap (tornWatches (s .capacity)) (sym (f .records)) ∙ watches-sound (s .capacity) (s .watched) (l .watches) (f .risen) (f .eight)
 
   -- neither 3 nor 11 nor 12 is said: the answer is by what the call adds
-  pub judged : (more more' : List (Bool × Refusal)) → first more ≡ first more' → answerOf (headOf s) (l .tables) more ≡ first ((not (opened s), Settings) ∷ more')
-  unfolding answerOf first headOf opened
+  pub judged : (more more' : List (Bool × ℕ)) → firstOf more ≡ firstOf more' → answerOf (headOf s) (l .tables) more ≡ firstOf ((not (opened s), number Settings) ∷ more')
+  unfolding answerOf firstOf headOf opened
   judged more more' e = rw (f .settings, long-tables (l .tables) (l .watches) (s .dimensions) (s .capacity) (f .long), rows-read, rows-whole) e
 
   -- and no more so if the watches are judged too
-  pub judged-watchful : (more more' : List (Bool × Refusal)) → first more ≡ first more' → watchfulAnswer (headOf s) (l .tables) (l .watches) more ≡ first ((not (opened s), Settings) ∷ more')
-  unfolding watchfulAnswer first headOf opened
+  pub judged-watchful : (more more' : List (Bool × ℕ)) → firstOf more ≡ firstOf more' → watchfulAnswer (headOf s) (l .tables) (l .watches) more ≡ firstOf ((not (opened s), number Settings) ∷ more')
+  unfolding watchfulAnswer firstOf headOf opened
   judged-watchful more more' e = rw (f .settings, f .long, rows-read, rows-whole, watches-whole) e
 
 -- what holds before any opening and of what is faithful holds wherever the two models stand joined

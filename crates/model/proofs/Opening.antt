@@ -1,22 +1,20 @@
 -- An opening is answered alike by both models, whatever stood before.
 use mathlib.Core.Path.{_≡_, refl, sym, _∙_}
 use mathlib.Core.Logic.{_⊎_, inl, inr}
-use Prim.Native.Nat.{ℕ, zero-le}
+use Prim.Native.Nat.{ℕ, zero, suc, zero-le}
 use native.Mathlib.Omega.{arith}
 use mathlib.Core.Bool.{true, false}
 use mathlib.Core.List.{[], List·Memᴰ·not-nil}
 use borrow.Author.Tests.{not-false}
 use Rattle.lists.specs.Lists.{rising, laid, padded}
 use Rattle.lists.proofs.Writing.{length-padded, padded-again}
-use Rattle.head.specs.declared.Answer.{Answer}
-use Rattle.head.specs.declared.Answer.the-variants.{Accepted, Refused}
-use Rattle.head.specs.Refusals.{settled}
+use Rattle.head.specs.Refusals.{granted}
 use Rattle.head.specs.Heads.{freshHead, settingsHold}
-use Rattle.head.proofs.Answers.{accepted-passed}
+use Rattle.head.proofs.Numbers.{zero-passed}
 use Rattle.model.specs.Rows.{filled}
 use Rattle.model.specs.Reference.{Reference, unopened, rowsOf, headOf, opened, opening, tooShort, tells, referenceStep}
 use Rattle.model.specs.Book.{shortTables, shortLoan, replyOf, openAnswer, openReply, openTables, openWatches}
-use Rattle.model.specs.Calls.{Open, Lent, bookStep, expectedStep, fed, outputOf, shown}
+use Rattle.model.specs.Calls.{Open, Outputs, Lent, bookSeen, headAfter, worldAfter, bookStep, lengthsOf, shown, expectedStep}
 use Rattle.model.proofs.Tables.{Fit, filled-again, filled-long}
 use Rattle.model.proofs.Sound.{rows-none}
 use Rattle.model.proofs.Joined.{Faithful, Agree, referenceWith, bookWith, long-tables, long-records, shown-opened, shown-still}
@@ -71,20 +69,20 @@ module _ (d N directions : ℕ) (l : Lent) where
       eight = zero-le;
     }
 
-  module _ (s : Reference) (since : (s ≡ unopened) ⊎ Faithful s l) where
+  module _ (o : Outputs) (s : Reference) (since : (s ≡ unopened) ⊎ Faithful s l) where
     -- the answer, in both models
-    abbrev answer : Answer
+    abbrev answer : ℕ
     answer = openAnswer d N directions (l .tables) (l .watches)
 
     -- the opening is seen alike
-    pub opens : Agree (Open d N directions) (referenceWith s l) (bookWith s l)
-    unfolding bookStep expectedStep referenceStep tells fed outputOf openReply openTables openWatches replyOf settled laid tooShort shortLoan shortTables openAnswer
+    pub opens : Agree (Open d N directions) o (referenceWith s l) (bookWith s l)
+    unfolding bookSeen headAfter worldAfter bookStep expectedStep referenceStep tells lengthsOf openReply openTables openWatches replyOf granted laid tooShort shortLoan shortTables openAnswer
     opens = go answer refl
       where
-        go : (a : Answer) → answer ≡ a → Agree (Open d N directions) (referenceWith s l) (bookWith s l)
-        go Accepted e =
-            let a = accepted-passed _ _ _ e in
+        go : (a : ℕ) → answer ≡ a → Agree (Open d N directions) o (referenceWith s l) (bookWith s l)
+        go zero e =
+            let a = zero-passed _ _ _ e in
             let holds = not-false (settingsHold d N directions) (a .0) in
-            let long = accepted-passed _ _ _ (a .1) .0 in
+            let long = zero-passed _ _ _ (a .1) .0 in
             rw (e, shown-cleared holds long, head-fresh) (refl, record { head = sym head-fresh; lent = refl; since = inr (faithful holds long) })
-        go (Refused k) e = rw (e, still s l since) (refl, record { head = refl; lent = refl; since = since })
+        go (suc k) e = rw (e, still s l since) (refl, record { head = refl; lent = refl; since = since })

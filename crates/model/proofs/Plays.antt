@@ -1,20 +1,23 @@
--- The reference model fed with quotes and no watch: which quotes it takes, and what it holds after them.
+-- The reference model fed with a tape of an opening and quotes: which it takes, and what it holds after them.
 use mathlib.Core.Path.{_≡_, refl, sym, ap, _∙_}
-use Prim.Native.Nat.{ℕ, zero, suc, _+_, _≤_, _<_, zero-le}
-use native.Mathlib.Nat.{zero-add}
+use Prim.Native.Nat.{ℕ, zero, suc, _+_, _*_, _≤_, _<_, zero-le}
+use native.Mathlib.Nat.{zero-add, mul-le-mul-right}
 use native.Mathlib.Omega.{arith}
 use mathlib.Core.Bool.{Bool, true, false, _&&_, not, cond}
 use mathlib.Core.List.{List, [], _∷_, _++_, append-nil, append-assoc}
 use lib.Dec.{leb, eqb}
 use lib.ListN.{length, getD, length-append}
-use borrow.Author.Tests.{eqb-true, leb-false, eq-eqb, lt-leb}
+use borrow.Author.Tests.{eqb-true, leb-false, eq-eqb, lt-leb, le-ltb, not-false}
 use Rattle.lists.specs.Lists.{flat}
+use Rattle.head.specs.declared.Head.{Head}
 use Rattle.head.specs.declared.Refusal.the-variants.{ColumnCount, TapeFull}
-use Rattle.head.specs.Refusals.{first, settled}
+use Rattle.head.specs.Refusals.{number, firstOf, granted}
 use Rattle.head.specs.Heads.{settingsHold, lastPosition}
+use Rattle.head.proofs.Settings.{settings-within}
+use Rattle.head.proofs.Numbers.{zero-passed}
 use Rattle.model.specs.Changes.{allChanges, frames}
-use Rattle.model.specs.Reference.{Reference, Fed, opening, opened, withQuote, tells, referenceStep}
-use Rattle.model.specs.Audit.{plays}
+use Rattle.model.specs.Reference.{Reference, Quote, ample, opening, opened, withQuote, tooShort, tells, referenceStep}
+use Rattle.model.specs.Audit.{tapeOpening, plays}
 
 -- the reference model that holds these quotes, with no watch standing
 abbrev pub holding : ℕ → ℕ → ℕ → List (List ℕ) → Reference
@@ -35,11 +38,11 @@ module _ (d N directions : ℕ) (hold : settingsHold d N directions ≡ true) wh
 
   -- a quote is taken if it has d columns and the tape is not full
   quote-next : (x : List ℕ) (qs : List (List ℕ))
-      → referenceStep (Fed.Quote x 0) (at qs) .next ≡ cond (eqb (length x) d && not (leb lastPosition (length qs))) (at (qs ++ (x ∷ []))) (at qs)
-  unfolding referenceStep tells opened first settled withQuote allChanges frames flat
+      → referenceStep (Quote x) ample (at qs) .next ≡ cond (eqb (length x) d && not (leb lastPosition (length qs))) (at (qs ++ (x ∷ []))) (at qs)
+  unfolding referenceStep tells opened firstOf granted withQuote allChanges frames flat
   quote-next x qs = rw hold (go (eqb (length x) d) (leb lastPosition (length qs)))
     where
-      go : (a b : Bool) → settled (first ((not a, ColumnCount) ∷ (b, TapeFull) ∷ [])) (at (qs ++ (x ∷ []))) (at qs) ≡ cond (a && not b) (at (qs ++ (x ∷ []))) (at qs)
+      go : (a b : Bool) → granted (firstOf ((not a, number ColumnCount) ∷ (b, number TapeFull) ∷ [])) (at (qs ++ (x ∷ []))) (at qs) ≡ cond (a && not b) (at (qs ++ (x ∷ []))) (at qs)
       go true true = refl
       go true false = refl
       go false b = refl
@@ -103,3 +106,26 @@ module _ (d N directions : ℕ) (hold : settingsHold d N directions ≡ true) wh
   pub opening-took : (qs : List (List ℕ)) → length (plays qs (opening d N directions) .quotes) ≡ length qs → WideAll d qs × (length qs ≤ lastPosition)
   unfolding opening
   opening-took qs e = rw zero-add at (taken qs [] zero-le (e ∙ sym (zero-add (length qs))))
+
+-- lengths that are ample are long enough for settings that hold
+ample-long : (d N directions : ℕ) → settingsHold d N directions ≡ true → tooShort ample d N ≡ false
+unfolding tooShort
+ample-long d N directions hold =
+    let w = settings-within d N directions hold in
+    let cells : N * d ≤ 6144 = omega (arith, mul-le-mul-right {m = N} {n = 1024} d (w .small-capacity), w .few-columns) in
+    rw (le-ltb 6144 (N * d) cells, le-ltb 1024 N (w .small-capacity))
+
+module _ (h : Head) where
+  -- the opening of a tape is accepted exactly if the head's settings hold
+  pub opening-accepted : settingsHold (h .dimensions) (h .capacity) (h .directions) ≡ true → tapeOpening h .number ≡ 0
+  unfolding tapeOpening referenceStep tells firstOf
+  opening-accepted hold = rw (hold, ample-long (h .dimensions) (h .capacity) (h .directions) hold)
+
+  pub accepted-settings : tapeOpening h .number ≡ 0 → settingsHold (h .dimensions) (h .capacity) (h .directions) ≡ true
+  unfolding tapeOpening referenceStep tells
+  accepted-settings e = not-false (settingsHold (h .dimensions) (h .capacity) (h .directions)) (zero-passed _ _ _ e .0)
+
+  -- and then it is a book just opened
+  pub opening-next : settingsHold (h .dimensions) (h .capacity) (h .directions) ≡ true → tapeOpening h .next ≡ opening (h .dimensions) (h .capacity) (h .directions)
+  unfolding tapeOpening referenceStep tells firstOf granted
+  opening-next hold = rw (hold, ample-long (h .dimensions) (h .capacity) (h .directions) hold)

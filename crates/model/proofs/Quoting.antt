@@ -1,7 +1,7 @@
 -- A quote is answered alike by both models.
 use mathlib.Core.Path.{_≡_, refl, sym, ap, ap₂, _∙_}
 use mathlib.Core.Logic.{inr}
-use Prim.Native.Nat.{ℕ, suc, _≤_, _<_}
+use Prim.Native.Nat.{ℕ, zero, suc, _≤_, _<_}
 use native.Mathlib.Omega.{arith}
 use native.Mathlib.Numerals.{add-one}
 use native.Mathlib.Decide.{decLe}
@@ -13,18 +13,15 @@ use borrow.Author.Tests.{lt-ltb, leb-false, eqb-true, not-false}
 use Rattle.lists.specs.Lists.{flat, rising, laid}
 use Rattle.lists.proofs.Members.{map-same-mem}
 use Rattle.lists.proofs.Rising.{rising-bounds}
-use Rattle.head.specs.declared.Answer.{Answer}
-use Rattle.head.specs.declared.Answer.the-variants.{Accepted, Refused}
-use Rattle.head.specs.declared.Refusal.{Refusal}
 use Rattle.head.specs.declared.Refusal.the-variants.{Settings, ColumnCount, TapeFull, ShortOutput}
-use Rattle.head.specs.Refusals.{first, settled}
+use Rattle.head.specs.Refusals.{number, firstOf, granted}
 use Rattle.head.specs.Heads.{lastPosition, afterQuote}
-use Rattle.head.proofs.Answers.{accepted-passed, first-alike}
+use Rattle.head.proofs.Numbers.{zero-passed, firstOf-alike}
 use Rattle.model.specs.Rows.{filled}
 use Rattle.model.specs.Changes.{changes, allChanges, frames}
 use Rattle.model.specs.Reference.{Reference, quoteAt, newest, skylineOf, rowsOf, headOf, opened, withQuote, tells, referenceStep}
 use Rattle.model.specs.Book.{shortLoan, bookRows, listOf, replyOf, quoteRows, quoteHead, quoteBytes, quoteAnswer, quoteReply, quoteTables, quoteOut}
-use Rattle.model.specs.Calls.{Quote, Lent, bookStep, expectedStep, fed, outputOf, shown}
+use Rattle.model.specs.Calls.{Quote, Outputs, Lent, bookSeen, headAfter, worldAfter, bookStep, lengthsOf, shown, expectedStep}
 use Rattle.model.proofs.Quotes.{newest-after, quote-within, quote-new, rows-after-quote}
 use Rattle.model.proofs.Tables.{filled-again, filled-long}
 use Rattle.model.proofs.Sound.{Wide, rows-few, rows-wide}
@@ -111,38 +108,38 @@ module _ (s : Reference) (l : Lent) (f : Faithful s l) (x : List ℕ) where
 
   -- ---- the call
 
-  module _ (out : List ℕ) where
+  module _ (o : Outputs) where
     -- the refusals of an output that is too short, and of a tape that is full
-    abbrev short : List ℕ → List (Bool × Refusal)
-    short bytes = (ltb (length out) (length bytes), ShortOutput) ∷ []
+    abbrev short : List ℕ → List (Bool × ℕ)
+    short bytes = (ltb (length (o .bytes)) (length bytes), number ShortOutput) ∷ []
 
-    abbrev more : List ℕ → List (Bool × Refusal)
-    more bytes = (leb lastPosition (newest s), TapeFull) ∷ short bytes
+    abbrev more : List ℕ → List (Bool × ℕ)
+    more bytes = (leb lastPosition (newest s), number TapeFull) ∷ short bytes
 
     -- the reference model's answer
-    abbrev answer : Answer
-    answer = first ((not (opened s), Settings) ∷ (not (eqb (length x) (s .dimensions)), ColumnCount) ∷ more written)
+    abbrev answer : ℕ
+    answer = firstOf ((not (opened s), number Settings) ∷ (not (eqb (length x) (s .dimensions)), number ColumnCount) ∷ more written)
 
     -- the book model's answer is the same
-    answers : quoteAnswer (headOf s) x (l .tables) (l .watches) (length out) ≡ answer
+    answers : quoteAnswer (headOf s) x (l .tables) (l .watches) (length (o .bytes)) ≡ answer
     unfolding quoteAnswer headOf
     answers =
-        judged-watchful s l f ((not (eqb (length x) (s .dimensions)), ColumnCount) ∷ more bytes) ((not (eqb (length x) (s .dimensions)), ColumnCount) ∷ more written)
-        (first-alike (not (eqb (length x) (s .dimensions))) ColumnCount (more bytes) (more written)
-        (λ _. first-alike (leb lastPosition (newest s)) TapeFull (short bytes) (short written) (λ e. ap (λ (b : List ℕ). first (short b)) (bytes-are (leb-false lastPosition (newest s) e)))))
+        judged-watchful s l f ((not (eqb (length x) (s .dimensions)), number ColumnCount) ∷ more bytes) ((not (eqb (length x) (s .dimensions)), number ColumnCount) ∷ more written)
+        (firstOf-alike (not (eqb (length x) (s .dimensions))) (number ColumnCount) (more bytes) (more written)
+        (λ _. firstOf-alike (leb lastPosition (newest s)) (number TapeFull) (short bytes) (short written) (λ e. ap (λ (b : List ℕ). firstOf (short b)) (bytes-are (leb-false lastPosition (newest s) e)))))
       where
         bytes : List ℕ
         bytes = quoteBytes (headOf s) x (l .tables) (l .watches)
 
     -- the quote is seen alike
-    pub quotes : Agree (Quote x out) (referenceWith s l) (bookWith s l)
-    unfolding bookStep expectedStep referenceStep tells fed outputOf quoteReply quoteTables quoteOut replyOf settled laid headOf
+    pub quotes : Agree (Quote x) o (referenceWith s l) (bookWith s l)
+    unfolding bookSeen headAfter worldAfter bookStep expectedStep referenceStep tells lengthsOf quoteReply quoteTables quoteOut replyOf granted laid headOf
     quotes = go answer refl
       where
-        go : (a : Answer) → answer ≡ a → Agree (Quote x out) (referenceWith s l) (bookWith s l)
-        go Accepted e =
-            let a = accepted-passed _ _ _ (accepted-passed _ _ _ e .1) in
+        go : (a : ℕ) → answer ≡ a → Agree (Quote x) o (referenceWith s l) (bookWith s l)
+        go zero e =
+            let a = zero-passed _ _ _ (zero-passed _ _ _ e .1) in
             let wide = eqb-true (length x) (s .dimensions) (not-false (eqb (length x) (s .dimensions)) (a .0)) in
-            let room = leb-false lastPosition (newest s) (accepted-passed _ _ _ (a .1) .0) in
+            let room = leb-false lastPosition (newest s) (zero-passed _ _ _ (a .1) .0) in
             rw (answers, e, bytes-are room, head-is room, shown-after) (refl, record { head = refl; lent = refl; since = inr (faithful wide room) })
-        go (Refused k) e = rw (answers, e, shown-still s l f) (refl, joined s l f)
+        go (suc k) e = rw (answers, e, shown-still s l f) (refl, joined s l f)

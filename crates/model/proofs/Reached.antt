@@ -9,41 +9,42 @@ use lib.Dec.{ltb}
 use Rattle.lists.specs.Lists.{filter, lastOr}
 use Rattle.lists.proofs.Members.{of-filter, of-map}
 use Rattle.skyline.specs.Skyline.{windowStart, rows, lowerEnd}
-use Rattle.head.specs.declared.Refusal.{Refusal}
 use Rattle.head.specs.declared.Refusal.the-variants.{Settings}
-use Rattle.head.specs.Refusals.{first}
-use Rattle.head.specs.Heads.{freshHead, settingsHold}
+use Rattle.head.specs.Refusals.{number, firstOf}
+use Rattle.head.specs.Heads.{settingsHold}
 use Rattle.model.specs.Rows.{Row}
 use Rattle.model.specs.Reference.{Reference, unopened, newest, over, rowOf, rowsOf, headOf, opened}
 use Rattle.model.specs.Book.{bookRows, watchfulAnswer}
-use Rattle.model.specs.Calls.{Call, Lent, Seen, World, bookStep, Expected, expectedStep, runs, Reached}
+use Rattle.model.specs.Calls.{Call, Outputs, Lending, Lent, Seen, World, bookStep, Expected, expectedStep, runs, worldFirst, expectedFirst, Reached}
 use Rattle.model.proofs.Sound.{positions-are}
 use Rattle.model.proofs.Joined.{Faithful, Joined, bookWith, joined-by, judged-watchful, joined-rows}
 use Rattle.model.proofs.Replay.{replay-ends}
 
 -- a call behind a list of calls
-runs-snoc : {S : Type 0} (step : Call → S → Seen × S) (cs : List Call) (c : Call) (s : S) → runs step (cs ++ (c ∷ [])) s .1 ≡ step c (runs step cs s .1) .1
+runs-snoc : {S : Type 0} (step : Call → Outputs → S → Seen × S) (cs : List Lending) (c : Lending) (s : S)
+    → runs step (cs ++ (c ∷ [])) s .1 ≡ step (c .call) (c .outputs) (runs step cs s .1) .1
 unfolding runs
 runs-snoc step [] c s = refl
-runs-snoc step (b ∷ cs) c s = runs-snoc step cs c (step b s .1)
+runs-snoc step (b ∷ cs) c s = runs-snoc step cs c (step (b .call) (b .outputs) s .1)
 
 -- a head of zeros, and anything lent
-pub reached-first : (l : Lent) → Reached (record { head = freshHead 0 0 0; lent = l })
+pub reached-first : (l : Lent) → Reached (worldFirst l)
 unfolding runs
 reached-first l = record { calls = []; lent = l; ends = refl }
 
 -- one call more
-pub reached-step : (c : Call) {w : World} → Reached w → Reached (bookStep c w .1)
-reached-step c r =
+pub reached-step : (c : Call) (o : Outputs) {w : World} → Reached w → Reached (bookStep c o w .1)
+reached-step c o r =
+    let one : Lending = record { call = c; outputs = o } in
     record {
-      calls = r .calls ++ (c ∷ []);
+      calls = r .calls ++ (one ∷ []);
       lent = r .lent;
-      ends = runs-snoc bookStep (r .calls) c (record { head = freshHead 0 0 0; lent = r .lent }) ∙ ap (λ (v : World). bookStep c v .1) (r .ends);
+      ends = runs-snoc bookStep (r .calls) one (worldFirst (r .lent)) ∙ ap (λ (v : World). bookStep c o v .1) (r .ends);
     }
 
 -- the reference model after the same calls
 abbrev expected : {w : World} → Reached w → Expected
-expected r = runs expectedStep (r .calls) (record { reference = unopened; lent = r .lent }) .1
+expected r = runs expectedStep (r .calls) (expectedFirst (r .lent)) .1
 
 -- it stands joined with the book
 pub reached-joined : {w : World} → Reached w → (k : Expected) × Joined k w
@@ -55,13 +56,13 @@ pub reached-by : (P : World → Type 0) → ((l : Lent) → P (bookWith unopened
 reached-by P before after {w} r = let j = reached-joined r in joined-by (λ k v. P v) before after (j .0) w (j .1)
 
 -- neither 11 nor 12 is said of it: a call is refused with 3, or answered by what it adds
-pub reached-judged : (more : List (Bool × Refusal)) {w : World} → Reached w
+pub reached-judged : (more : List (Bool × ℕ)) {w : World} → Reached w
     → watchfulAnswer (w .head) (w .lent .tables) (w .lent .watches) more
-    ≡ first ((not (settingsHold (w .head .dimensions) (w .head .capacity) (w .head .directions)), Settings) ∷ more)
-unfolding watchfulAnswer first settingsHold headOf opened
+    ≡ firstOf ((not (settingsHold (w .head .dimensions) (w .head .capacity) (w .head .directions)), number Settings) ∷ more)
+unfolding watchfulAnswer firstOf settingsHold headOf opened
 reached-judged more =
     reached-by
-    (λ w. watchfulAnswer (w .head) (w .lent .tables) (w .lent .watches) more ≡ first ((not (settingsHold (w .head .dimensions) (w .head .capacity) (w .head .directions)), Settings) ∷ more))
+    (λ w. watchfulAnswer (w .head) (w .lent .tables) (w .lent .watches) more ≡ firstOf ((not (settingsHold (w .head .dimensions) (w .head .capacity) (w .head .directions)), number Settings) ∷ more))
     (λ l. refl) (λ s l f. judged-watchful s l f more more refl)
 
 -- ---- lower ends

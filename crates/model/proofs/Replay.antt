@@ -4,11 +4,11 @@ use mathlib.Core.Path.{_≡_, refl, ap₂}
 use mathlib.Core.Logic.{inl, inr}
 use mathlib.Core.List.{List, [], _∷_}
 use Rattle.lists.specs.Lists.{laid}
-use Rattle.head.specs.Refusals.{first, settled}
+use Rattle.head.specs.Refusals.{firstOf, granted}
 use Rattle.head.specs.Heads.{freshHead, settingsHold}
 use Rattle.model.specs.Reference.{Reference, unopened, headOf, opened, tells, referenceStep}
 use Rattle.model.specs.Book.{answerOf, watchfulAnswer, replyOf, quoteAnswer, quoteReply, quoteTables, quoteOut, lookAnswer, lookReply, lookOut, watchAnswer, watchReply, watchWatches, watchOut, endAnswer, endReply, endWatches}
-use Rattle.model.specs.Calls.{Call, Open, Quote, Look, Watch, End, Lent, Seen, World, bookStep, fed, outputOf, shown, Expected, expectedStep, runs}
+use Rattle.model.specs.Calls.{Call, Open, Quote, Look, Watch, End, Outputs, Lending, Lent, Seen, World, bookSeen, headAfter, worldAfter, bookStep, lengthsOf, shown, Expected, expectedStep, runs, worldFirst, expectedFirst}
 use Rattle.model.proofs.Sound.{rows-none}
 use Rattle.model.proofs.Joined.{Faithful, Joined, Agree, referenceWith, bookWith, joined-by}
 use Rattle.model.proofs.Opening.{opens}
@@ -16,47 +16,42 @@ use Rattle.model.proofs.Quoting.{quotes}
 use Rattle.model.proofs.Watching.{looks, watches, ends}
 
 -- before the first accepted opening every call but an opening is refused by both models
-unopened-agrees : (c : Call) (l : Lent) → Agree c (referenceWith unopened l) (bookWith unopened l)
-unfolding bookStep expectedStep referenceStep tells fed outputOf laid shown opened settingsHold headOf first settled answerOf watchfulAnswer replyOf quoteAnswer quoteReply quoteTables quoteOut lookAnswer lookReply lookOut watchAnswer watchReply watchWatches watchOut endAnswer endReply endWatches
-unopened-agrees (Open d N directions) l = opens d N directions l unopened (inl refl)
-unopened-agrees (Quote x out) l = (refl, record { head = refl; lent = refl; since = inl refl })
-unopened-agrees (Look n out) l = (refl, record { head = refl; lent = refl; since = inl refl })
-unopened-agrees (Watch n out) l = (refl, record { head = refl; lent = refl; since = inl refl })
-unopened-agrees (End n) l = (refl, record { head = refl; lent = refl; since = inl refl })
+unopened-agrees : (c : Call) (o : Outputs) (l : Lent) → Agree c o (referenceWith unopened l) (bookWith unopened l)
+unfolding bookSeen headAfter worldAfter bookStep expectedStep referenceStep tells lengthsOf laid shown opened settingsHold headOf firstOf granted answerOf watchfulAnswer replyOf quoteAnswer quoteReply quoteTables quoteOut lookAnswer lookReply lookOut watchAnswer watchReply watchWatches watchOut endAnswer endReply endWatches
+unopened-agrees (Open d N directions) o l = opens d N directions l o unopened (inl refl)
+unopened-agrees (Quote x) o l = (refl, record { head = refl; lent = refl; since = inl refl })
+unopened-agrees (Look n) o l = (refl, record { head = refl; lent = refl; since = inl refl })
+unopened-agrees (Watch n) o l = (refl, record { head = refl; lent = refl; since = inl refl })
+unopened-agrees (End n) o l = (refl, record { head = refl; lent = refl; since = inl refl })
 
-faithful-agrees : (c : Call) (s : Reference) (l : Lent) → Faithful s l → Agree c (referenceWith s l) (bookWith s l)
-faithful-agrees (Open d N directions) s l f = opens d N directions l s (inr f)
-faithful-agrees (Quote x out) s l f = quotes s l f x out
-faithful-agrees (Look n out) s l f = looks s l f n out
-faithful-agrees (Watch n out) s l f = watches s l f n out
-faithful-agrees (End n) s l f = ends s l f n
+faithful-agrees : (c : Call) (o : Outputs) (s : Reference) (l : Lent) → Faithful s l → Agree c o (referenceWith s l) (bookWith s l)
+faithful-agrees (Open d N directions) o s l f = opens d N directions l o s (inr f)
+faithful-agrees (Quote x) o s l f = quotes s l f x o
+faithful-agrees (Look n) o s l f = looks s l f n o
+faithful-agrees (Watch n) o s l f = watches s l f n o
+faithful-agrees (End n) o s l f = ends s l f n o
 
 -- every call is seen alike in joined models, and leaves them joined
-pub call-agrees : (c : Call) (k : Expected) (w : World) → Joined k w → Agree c k w
-call-agrees c = joined-by (Agree c) (unopened-agrees c) (faithful-agrees c)
+pub call-agrees : (c : Call) (o : Outputs) (k : Expected) (w : World) → Joined k w → Agree c o k w
+call-agrees c o = joined-by (Agree c o) (unopened-agrees c o) (faithful-agrees c o)
 
 -- so is a list of calls
-pub run-agrees : (cs : List Call) (k : Expected) (w : World) → Joined k w → (runs bookStep cs w .0 ≡ runs expectedStep cs k .0) × Joined (runs expectedStep cs k .1) (runs bookStep cs w .1)
+pub run-agrees : (cs : List Lending) (k : Expected) (w : World) → Joined k w → (runs bookStep cs w .0 ≡ runs expectedStep cs k .0) × Joined (runs expectedStep cs k .1) (runs bookStep cs w .1)
 unfolding runs
 run-agrees [] k w j = (refl, j)
 run-agrees (c ∷ cs) k w j =
-    let one = call-agrees c k w j in
-    let rest = run-agrees cs (expectedStep c k .1) (bookStep c w .1) (one .1) in
+    let one = call-agrees (c .call) (c .outputs) k w j in
+    let rest = run-agrees cs (expectedStep (c .call) (c .outputs) k .1) (bookStep (c .call) (c .outputs) w .1) (one .1) in
     (ap₂ {C = List Seen} (λ (s : Seen) (l : List Seen). s ∷ l) (one .0) (rest .0), rest .1)
 
--- a head of zeros, and anything lent
-abbrev atFirst : Lent → World
-atFirst l = record { head = freshHead 0 0 0; lent = l }
-
-start : (l : Lent) → Joined (referenceWith unopened l) (atFirst l)
+start : (l : Lent) → Joined (expectedFirst l) (worldFirst l)
 unfolding headOf
 start l = record { head = rw (rows-none unopened refl); lent = refl; since = inl refl }
 
 -- over every list of calls both models show the same
-pub replay : (cs : List Call) (l : Lent) → runs bookStep cs (record { head = freshHead 0 0 0; lent = l }) .0 ≡ runs expectedStep cs (record { reference = unopened; lent = l }) .0
-replay cs l = run-agrees cs (referenceWith unopened l) (atFirst l) (start l) .0
+pub replay : (cs : List Lending) (l : Lent) → runs bookStep cs (worldFirst l) .0 ≡ runs expectedStep cs (expectedFirst l) .0
+replay cs l = run-agrees cs (expectedFirst l) (worldFirst l) (start l) .0
 
 -- and stand joined at the end
-pub replay-ends : (cs : List Call) (l : Lent)
-    → Joined (runs expectedStep cs (record { reference = unopened; lent = l }) .1) (runs bookStep cs (record { head = freshHead 0 0 0; lent = l }) .1)
-replay-ends cs l = run-agrees cs (referenceWith unopened l) (atFirst l) (start l) .1
+pub replay-ends : (cs : List Lending) (l : Lent) → Joined (runs expectedStep cs (expectedFirst l) .1) (runs bookStep cs (worldFirst l) .1)
+replay-ends cs l = run-agrees cs (expectedFirst l) (worldFirst l) (start l) .1

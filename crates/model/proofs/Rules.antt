@@ -1,4 +1,4 @@
--- The rules of the audit one by one, and that a verdict of yes says them all.
+-- The rules of the audit one by one, and that a finding of yes says them all.
 use mathlib.Core.Path.{_≡_, refl}
 use mathlib.Core.Logic.{_↔_}
 use Prim.Native.Nat.{ℕ, _*_, _≤_}
@@ -12,13 +12,13 @@ use Rattle.lists.specs.Lists.{any, lastOr, between, rising}
 use Rattle.lists.proofs.Booleans.{and-left, and-right, none-left, none-right}
 use Rattle.skyline.specs.Skyline.{windowStart}
 use Rattle.head.specs.declared.Head.{Head}
-use Rattle.head.specs.declared.Verdict.the-variants.{Yes}
-use Rattle.head.specs.declared.Refusal.the-variants.{ShortLoan}
-use Rattle.head.specs.Refusals.{first}
+use Rattle.head.specs.declared.Refusal.the-variants.{Settings, ShortLoan}
+use Rattle.head.specs.Refusals.{number, firstOf}
+use Rattle.head.specs.Replies.{yes}
 use Rattle.head.specs.Heads.{settingsHold, lastPosition}
 use Rattle.model.specs.Rows.{Row, Tables}
 use Rattle.model.specs.Book.{shortTables, tornRows, bookRows}
-use Rattle.model.specs.Audit.{outdone, rightEnd, unexplained, zeroFrom, passes, verdictOf, auditVerdict}
+use Rattle.model.specs.Audit.{outdone, rightEnd, unexplained, zeroFrom, passes, findingOf, auditFinding}
 use Rattle.model.proofs.AuditTables.{Clean}
 
 -- the rules that speak of dominance, on the rows of a book whose newest position is M
@@ -67,7 +67,7 @@ untorn-whole h rs e =
       rises = not-false risen (none .2);
     }
 
--- ---- the verdict
+-- ---- the finding
 
 -- where all of five tests pass
 all-of-five : (a b c d e : Bool) → a && b && c && d && e ≡ true → (a ≡ true) × (b ≡ true) × (c ≡ true) × (d ≡ true) × (e ≡ true)
@@ -144,12 +144,17 @@ module _ (h : Head) (t : Tables) where
   unfolding passes
   passed-passes p = rw (p .untorn, p .rules .none-outdone, p .rules .ends-right, p .rules .explained, p .clean .columns-zero, p .clean .positions-zero, p .clean .ends-zero)
 
-  -- with settings that hold, the verdict is yes exactly if all the rules hold
-  pub yes-iff-passed : settingsHold d N (h .directions) ≡ true → (auditVerdict h t ≡ Yes) ↔ Passed h t
-  unfolding auditVerdict verdictOf first
-  yes-iff-passed hold = rw hold (λ e. let y = there (shortTables t d N) (passes h t) e in passes-says (y .0) (y .1), λ p. rw (clean-long (p .clean), passed-passes p))
+  -- the finding is yes exactly if the settings and all the rules hold
+  pub yes-iff-passed : (auditFinding h t ≡ yes) ↔ ((settingsHold d N (h .directions) ≡ true) × Passed h t)
+  unfolding auditFinding findingOf firstOf
+  yes-iff-passed = (
+    λ e. let y = there (settingsHold d N (h .directions)) (shortTables t d N) (passes h t) e in (y .0, passes-says (y .1) (y .2)),
+    λ p. rw (p .0, clean-long (p .1 .clean), passed-passes (p .1)),
+  )
     where
-      there : (short pass : Bool) → verdictOf (first ((short, ShortLoan) ∷ [])) pass ≡ Yes → (short ≡ false) × (pass ≡ true)
-      there false true e = (refl, refl)
-      there false false e = absurd (let z : _≡_ {A = ℕ} 0 1 = cc in omega arith)
-      there true pass e = absurd (let z : _≡_ {A = ℕ} 0 1 = cc in omega arith)
+      there : (hold short pass : Bool) → findingOf (firstOf ((not hold, number Settings) ∷ (short, number ShortLoan) ∷ [])) pass ≡ yes
+          → (hold ≡ true) × (short ≡ false) × (pass ≡ true)
+      there true false true e = (refl, refl, refl)
+      there true false false e = absurd (let z : _≡_ {A = ℕ} 0 1 = cc in omega arith)
+      there true true pass e = absurd (let z : _≡_ {A = ℕ} 0 1 = cc in omega arith)
+      there false short pass e = absurd (let z : _≡_ {A = ℕ} 0 1 = cc in omega arith)

@@ -9,15 +9,12 @@ use Rattle.lists.specs.Lists.{filter, any, lastOr, run, between, contains}
 use Rattle.dominance.specs.Dominance.{higher, dominates}
 use Rattle.skyline.specs.Skyline.{windowStart}
 use Rattle.head.specs.declared.Head.{Head}
-use Rattle.head.specs.declared.Answer.{Answer}
-use Rattle.head.specs.declared.Answer.the-variants.{Accepted, Refused}
-use Rattle.head.specs.declared.Verdict.{Verdict}
-use Rattle.head.specs.declared.Verdict.the-variants.{Yes, No}
 use Rattle.head.specs.declared.Refusal.the-variants.{Settings, ShortLoan}
-use Rattle.head.specs.Refusals.{first}
+use Rattle.head.specs.Refusals.{number, firstOf}
+use Rattle.head.specs.Replies.{Finding, yes, no, refused}
 use Rattle.head.specs.Heads.{settingsHold}
 use Rattle.model.specs.Rows.{Row, Tables, filled}
-use Rattle.model.specs.Reference.{Reference, Fed, opening, headOf, rowsOf, referenceStep}
+use Rattle.model.specs.Reference.{Reference, unopened, Open, Quote, ample, Told, headOf, rowsOf, referenceStep}
 use Rattle.model.specs.Book.{shortTables, tornRows, bookRows}
 
 -- the largest value of a column
@@ -61,29 +58,34 @@ passes h t =
     && (zeroFrom (h .rows * d) (N * d) (t .columns) && zeroFrom (h .rows) N (t .positions) && zeroFrom (h .rows) N (t .lowerEnds))
     && not (any (unexplained d (h .directions) rs) (between (windowStart (h .newest) N) (h .newest)))
 
--- yes or no, unless refused
-unfoldable pub verdictOf : Answer → Bool → Verdict
-verdictOf Accepted true = Yes
-verdictOf Accepted false = No
-verdictOf (Refused k) b = Verdict.Refused k
+-- yes or no by the rules, unless refused with this number
+unfoldable pub findingOf : ℕ → Bool → Finding
+findingOf zero true = yes
+findingOf zero false = no
+findingOf (suc k) b = refused (suc k)
 
 -- what the audit says: 3, then 11, else by its rules
-unfoldable pub auditVerdict : Head → Tables → Verdict
-auditVerdict h t =
-    verdictOf
-    (first ((not (settingsHold (h .dimensions) (h .capacity) (h .directions)), Settings) ∷ (shortTables t (h .dimensions) (h .capacity), ShortLoan) ∷ []))
-    (passes h t)
+unfoldable pub auditFinding : Head → Tables → Finding
+auditFinding h t =
+    let d = h .dimensions in
+    let N = h .capacity in
+    findingOf (firstOf ((not (settingsHold d N (h .directions)), number Settings) ∷ (shortTables t d N, number ShortLoan) ∷ [])) (passes h t)
 
--- the reference model after these quotes, with no watch standing
+-- the opening of a tape with a head's settings, by the reference model
+unfoldable pub tapeOpening : Head → Told
+tapeOpening h = referenceStep (Open (h .dimensions) (h .capacity) (h .directions)) ample unopened
+
+-- the reference model after these quotes
 unfoldable pub plays : List (List ℕ) → Reference → Reference
 plays [] s = s
-plays (x ∷ xs) s = plays xs (referenceStep (Fed.Quote x 0) s .next)
+plays (x ∷ xs) s = plays xs (referenceStep (Quote x) ample s .next)
 
--- a tape of M quotes that leaves this head and these N places of each table, from an opening with the head's settings; that the
+-- a tape that leaves this head and these N places of each table: an accepted opening with the head's settings, and M quotes; that the
 -- newest position is M says that every quote was accepted
 pub record Tape (h : Head) (t : Tables) : Type 0 where
   pub quotes : List (List ℕ)
   pub values : (k i : ℕ) → getD (getD quotes k []) i 0 ≤ largest
+  pub accepted : tapeOpening h .number ≡ 0
   pub count : length quotes ≡ h .newest
-  pub head : headOf (plays quotes (opening (h .dimensions) (h .capacity) (h .directions))) ≡ h
-  pub tables : filled (h .dimensions) (h .capacity) (rowsOf (plays quotes (opening (h .dimensions) (h .capacity) (h .directions)))) t ≡ t
+  pub head : headOf (plays quotes (tapeOpening h .next)) ≡ h
+  pub tables : filled (h .dimensions) (h .capacity) (rowsOf (plays quotes (tapeOpening h .next))) t ≡ t

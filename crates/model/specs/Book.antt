@@ -1,5 +1,5 @@
 -- The book model: what each call answers and leaves in everything lent, for any head, tables, watch records and output.
-use Prim.Native.Nat.{ℕ, suc, _+_, _*_}
+use Prim.Native.Nat.{ℕ, suc, _+_, _*_, _≤_}
 use mathlib.Core.Bool.{Bool, true, false, _&&_, _||_, not, cond}
 use mathlib.Core.List.{List, [], _∷_, map}
 use lib.Dec.{ltb, leb, eqb}
@@ -7,15 +7,13 @@ use lib.ListN.{length, take}
 use Rattle.lists.specs.Lists.{filter, any, lastOr, contains, rising, insert, without, laid, padded}
 use Rattle.skyline.specs.Skyline.{windowStart}
 use Rattle.head.specs.declared.Head.{Head}
-use Rattle.head.specs.declared.Answer.{Answer}
-use Rattle.head.specs.declared.Reply.{Reply}
-use Rattle.head.specs.declared.Refusal.{Refusal}
 use Rattle.head.specs.declared.Refusal.the-variants.{Settings, ColumnCount, WindowSize, TapeFull, AlreadyWatched, NoFreeRecord, NotWatched, ShortLoan, Torn, ShortOutput}
-use Rattle.head.specs.Refusals.{first, settled}
+use Rattle.head.specs.Refusals.{number, firstOf, granted}
+use Rattle.head.specs.Replies.{Outcome}
 use Rattle.head.specs.Heads.{freshHead, settingsHold, afterQuote, lastPosition}
 use Rattle.frames.specs.declared.Message.the-variants.{Join}
 use Rattle.model.specs.Rows.{Row, Tables, rowsIn, filled, listed, rowsAfter}
-use Rattle.model.specs.Changes.{allChanges, frames}
+use Rattle.model.specs.Changes.{changes, allChanges, frames}
 
 -- a table is shorter than these settings ask
 unfoldable pub shortTables : Tables → ℕ → ℕ → Bool
@@ -25,7 +23,7 @@ shortTables t d N = ltb (length (t .columns)) (N * d) || ltb (length (t .positio
 unfoldable pub shortLoan : Tables → List ℕ → ℕ → ℕ → Bool
 shortLoan t ws d N = shortTables t d N || ltb (length ws) 8
 
--- the rows of a book, or its head, could not be (01: torn)
+-- the head or the rows are torn: one of 01's conditions under 12 holds; a book that no call left need not be torn
 unfoldable pub tornRows : Head → List Row → Bool
 tornRows h rs =
     ltb (h .capacity) (h .rows)
@@ -40,7 +38,7 @@ unfoldable pub ordered : ℕ → ℕ → List ℕ → Bool
 ordered lo N [] = true
 ordered lo N (w ∷ ws) = cond (eqb w 0) (not (any (ltb 0) ws)) (leb lo w && leb w N && ordered (suc w) N ws)
 
--- the eight watch records could not be (01: torn)
+-- the eight watch records are torn: not rising, not ending in empties, or above N (01: 12); records that no call left need not be torn
 unfoldable pub tornWatches : ℕ → List ℕ → Bool
 tornWatches N ws = not (ordered 1 N (take 8 ws))
 
@@ -56,21 +54,21 @@ bookRows h t = rowsIn (h .dimensions) (h .rows) t
 unfoldable pub listOf : Head → List Row → ℕ → List ℕ
 listOf h rs n = listed (windowStart (h .newest) n) rs
 
--- the answer of a call on the tables alone: 3, 11, 12, then what the call adds
-unfoldable pub answerOf : Head → Tables → List (Bool × Refusal) → Answer
+-- the answer of a call on the tables alone, 0 if accepted: 3, 11, 12, then what the call adds
+unfoldable pub answerOf : Head → Tables → List (Bool × ℕ) → ℕ
 answerOf h t more =
-    first ((not (settingsHold (h .dimensions) (h .capacity) (h .directions)), Settings) ∷ (shortTables t (h .dimensions) (h .capacity), ShortLoan)
-    ∷ (tornRows h (bookRows h t), Torn) ∷ more)
+    firstOf ((not (settingsHold (h .dimensions) (h .capacity) (h .directions)), number Settings) ∷ (shortTables t (h .dimensions) (h .capacity), number ShortLoan)
+    ∷ (tornRows h (bookRows h t), number Torn) ∷ more)
 
--- the answer of a call on the tables and the watches: 3, 11, 12, then what the call adds
-unfoldable pub watchfulAnswer : Head → Tables → List ℕ → List (Bool × Refusal) → Answer
+-- the answer of a call on the tables and the watches, 0 if accepted: 3, 11, 12, then what the call adds
+unfoldable pub watchfulAnswer : Head → Tables → List ℕ → List (Bool × ℕ) → ℕ
 watchfulAnswer h t ws more =
-    first ((not (settingsHold (h .dimensions) (h .capacity) (h .directions)), Settings) ∷ (shortLoan t ws (h .dimensions) (h .capacity), ShortLoan)
-    ∷ (tornRows h (bookRows h t) || tornWatches (h .capacity) ws, Torn) ∷ more)
+    firstOf ((not (settingsHold (h .dimensions) (h .capacity) (h .directions)), number Settings) ∷ (shortLoan t ws (h .dimensions) (h .capacity), number ShortLoan)
+    ∷ (tornRows h (bookRows h t) || tornWatches (h .capacity) ws, number Torn) ∷ more)
 
 -- what a call hands back: if accepted the next head and the count, else the head as it came and 0
-unfoldable pub replyOf : Answer → Head → Head → ℕ → Reply
-replyOf answer h next count = record { answer = answer; head = settled answer next h; count = settled answer count 0 }
+unfoldable pub replyOf : ℕ → Head → Head → ℕ → Outcome
+replyOf answer h next count = record { number = answer; head = granted answer next h; count = granted answer count 0 }
 
 -- n is 0 or above N
 unfoldable pub outOfRange : Head → ℕ → Bool
@@ -78,18 +76,21 @@ outOfRange h n = not (leb 1 n && leb n (h .capacity))
 
 -- ---- opening
 module _ (d N directions : ℕ) (t : Tables) (ws : List ℕ) where
-  unfoldable pub openAnswer : Answer
-  openAnswer = first ((not (settingsHold d N directions), Settings) ∷ (shortLoan t ws d N, ShortLoan) ∷ [])
+  -- the answer of an opening, 0 if accepted: 3, 11
+  unfoldable pub openAnswer : ℕ
+  openAnswer = firstOf ((not (settingsHold d N directions), number Settings) ∷ (shortLoan t ws d N, number ShortLoan) ∷ [])
 
-  -- the reply to an opening: the fresh head, or one of zeros
-  unfoldable pub openReply : Reply
+  -- what an opening hands back: the fresh head, or one of zeros
+  unfoldable pub openReply : Outcome
   openReply = replyOf openAnswer (freshHead 0 0 0) (freshHead d N directions) 0
 
+  -- the tables after an opening: all N places 0
   unfoldable pub openTables : Tables
-  openTables = settled openAnswer (filled d N [] t) t
+  openTables = granted openAnswer (filled d N [] t) t
 
+  -- the watch records after an opening: all eight empty
   unfoldable pub openWatches : List ℕ
-  openWatches = settled openAnswer (padded 8 [] ws) ws
+  openWatches = granted openAnswer (padded 8 [] ws) ws
 
 -- ---- quote
 module _ (h : Head) (x : List ℕ) (t : Tables) (ws : List ℕ) where
@@ -105,19 +106,30 @@ module _ (h : Head) (x : List ℕ) (t : Tables) (ws : List ℕ) where
   unfoldable pub quoteBytes : List ℕ
   quoteBytes = frames (allChanges (standing ws) (listOf h (bookRows h t)) (listOf quoteHead quoteRows))
 
-  unfoldable pub quoteAnswer : ℕ → Answer
+  -- the answer of a quote with this room for its changes: 3, 11, 12, then 4, 6, 13
+  unfoldable pub quoteAnswer : ℕ → ℕ
   quoteAnswer room =
-      watchfulAnswer h t ws ((not (eqb (length x) (h .dimensions)), ColumnCount) ∷ (leb lastPosition (h .newest), TapeFull)
-      ∷ (ltb room (length quoteBytes), ShortOutput) ∷ [])
+      watchfulAnswer h t ws ((not (eqb (length x) (h .dimensions)), number ColumnCount) ∷ (leb lastPosition (h .newest), number TapeFull)
+      ∷ (ltb room (length quoteBytes), number ShortOutput) ∷ [])
 
-  unfoldable pub quoteReply : ℕ → Reply
+  -- what a quote hands back
+  unfoldable pub quoteReply : ℕ → Outcome
   quoteReply room = replyOf (quoteAnswer room) h quoteHead (length quoteBytes)
 
+  -- the tables after a quote
   unfoldable pub quoteTables : ℕ → Tables
-  quoteTables room = settled (quoteAnswer room) (filled (h .dimensions) (h .capacity) quoteRows t) t
+  quoteTables room = granted (quoteAnswer room) (filled (h .dimensions) (h .capacity) quoteRows t) t
 
+  -- the output after a quote
   unfoldable pub quoteOut : List ℕ → List ℕ
-  quoteOut out = settled (quoteAnswer (length out)) (laid quoteBytes out) out
+  quoteOut out = granted (quoteAnswer (length out)) (laid quoteBytes out) out
+
+-- how much a quote can write: for every n at most one change for each row and one more, which is 1,025 at most, and 57,400 bytes for
+-- all watches
+pub record ChangesFit (h : Head) (x : List ℕ) (t : Tables) (ws : List ℕ) : Type 0 where
+  pub changes-each : (n : ℕ) → length (changes n (listOf h (bookRows h t) n) (listOf (quoteHead h x t ws) (quoteRows h x t ws) n)) ≤ h .rows + 1
+  pub changes-most : h .rows + 1 ≤ 1025
+  pub bytes-most : length (quoteBytes h x t ws) ≤ 57400
 
 -- ---- look
 module _ (h : Head) (n : ℕ) (t : Tables) where
@@ -125,14 +137,17 @@ module _ (h : Head) (n : ℕ) (t : Tables) where
   unfoldable pub lookCells : List ℕ
   lookCells = listOf h (bookRows h t) n
 
-  unfoldable pub lookAnswer : ℕ → Answer
-  lookAnswer room = answerOf h t ((outOfRange h n, WindowSize) ∷ (ltb room (length lookCells), ShortOutput) ∷ [])
+  -- the answer of a look with this room for its positions: 3, 11, 12, then 5, 13
+  unfoldable pub lookAnswer : ℕ → ℕ
+  lookAnswer room = answerOf h t ((outOfRange h n, number WindowSize) ∷ (ltb room (length lookCells), number ShortOutput) ∷ [])
 
-  unfoldable pub lookReply : ℕ → Reply
+  -- what a look hands back
+  unfoldable pub lookReply : ℕ → Outcome
   lookReply room = replyOf (lookAnswer room) h h (length lookCells)
 
+  -- the output after a look
   unfoldable pub lookOut : List ℕ → List ℕ
-  lookOut out = settled (lookAnswer (length out)) (laid lookCells out) out
+  lookOut out = granted (lookAnswer (length out)) (laid lookCells out) out
 
 -- ---- watch and end
 module _ (h : Head) (n : ℕ) (t : Tables) (ws : List ℕ) where
@@ -140,25 +155,32 @@ module _ (h : Head) (n : ℕ) (t : Tables) (ws : List ℕ) where
   unfoldable pub watchBytes : List ℕ
   watchBytes = frames (map (Join n) (listOf h (bookRows h t) n))
 
-  unfoldable pub watchAnswer : ℕ → Answer
+  -- the answer of a watch with this room for its joins: 3, 11, 12, then 5, 8, 9, 13
+  unfoldable pub watchAnswer : ℕ → ℕ
   watchAnswer room =
-      watchfulAnswer h t ws ((outOfRange h n, WindowSize) ∷ (contains n (standing ws), AlreadyWatched) ∷ (leb 8 (length (standing ws)), NoFreeRecord)
-      ∷ (ltb room (length watchBytes), ShortOutput) ∷ [])
+      watchfulAnswer h t ws ((outOfRange h n, number WindowSize) ∷ (contains n (standing ws), number AlreadyWatched) ∷ (leb 8 (length (standing ws)), number NoFreeRecord)
+      ∷ (ltb room (length watchBytes), number ShortOutput) ∷ [])
 
-  unfoldable pub watchReply : ℕ → Reply
+  -- what a watch hands back
+  unfoldable pub watchReply : ℕ → Outcome
   watchReply room = replyOf (watchAnswer room) h h (length watchBytes)
 
+  -- the watch records after a watch
   unfoldable pub watchWatches : ℕ → List ℕ
-  watchWatches room = settled (watchAnswer room) (padded 8 (insert n (standing ws)) ws) ws
+  watchWatches room = granted (watchAnswer room) (padded 8 (insert n (standing ws)) ws) ws
 
+  -- the output after a watch
   unfoldable pub watchOut : List ℕ → List ℕ
-  watchOut out = settled (watchAnswer (length out)) (laid watchBytes out) out
+  watchOut out = granted (watchAnswer (length out)) (laid watchBytes out) out
 
-  unfoldable pub endAnswer : Answer
-  endAnswer = watchfulAnswer h t ws ((outOfRange h n, WindowSize) ∷ (not (contains n (standing ws)), NotWatched) ∷ [])
+  -- the answer of the end of a watch: 3, 11, 12, then 5, 10
+  unfoldable pub endAnswer : ℕ
+  endAnswer = watchfulAnswer h t ws ((outOfRange h n, number WindowSize) ∷ (not (contains n (standing ws)), number NotWatched) ∷ [])
 
-  unfoldable pub endReply : Reply
+  -- what the end of a watch hands back
+  unfoldable pub endReply : Outcome
   endReply = replyOf endAnswer h h 0
 
+  -- the watch records after the end of a watch
   unfoldable pub endWatches : List ℕ
-  endWatches = settled endAnswer (padded 8 (without n (standing ws)) ws) ws
+  endWatches = granted endAnswer (padded 8 (without n (standing ws)) ws) ws

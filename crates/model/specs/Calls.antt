@@ -2,34 +2,37 @@
 use mathlib.Core.Path.{_≡_}
 use Prim.Native.Nat.{ℕ}
 use mathlib.Core.Bool.{cond}
-use mathlib.Core.List.{List, [], _∷_}
+use mathlib.Core.List.{List, [], _∷_, map}
 use lib.ListN.{length}
 use Rattle.lists.specs.Lists.{laid, padded}
 use Rattle.head.specs.declared.Head.{Head}
-use Rattle.head.specs.declared.Reply.{Reply}
 use Rattle.head.specs.Heads.{freshHead}
-use Rattle.head.specs.Refusals.{settled}
-use Rattle.model.specs.Rows.{Tables, filled}
-use Rattle.model.specs.Reference.{Reference, Lengths, Fed, Told, rowsOf, opened, referenceStep}
+use Rattle.head.specs.Refusals.{granted}
+use Rattle.head.specs.Replies.{Outcome}
+use Rattle.model.specs.Rows.{Row, Tables, filled}
+use Rattle.model.specs.Reference.{Reference, unopened, Lengths, Told, rowsOf, opened, referenceStep}
+pub use Rattle.model.specs.Reference.{Call, Open, Quote, Look, Watch, End}
 use Rattle.model.specs.Book
 
--- a call, with what its own output holds when it is lent
-pub data Call : Type 0 where
-  Open : ℕ → ℕ → ℕ → Call
-  Quote : List ℕ → List ℕ → Call
-  Look : ℕ → List ℕ → Call
-  Watch : ℕ → List ℕ → Call
-  End : ℕ → Call
+-- what the outputs of a call hold: bytes for frames, cells for positions; a call writes into those that it uses, the other stays as lent
+pub record Outputs : Type 0 where
+  pub bytes : List ℕ
+  pub cells : List ℕ
+
+-- a call of a list, with what its outputs hold when they are lent
+pub record Lending : Type 0 where
+  pub call : Call
+  pub outputs : Outputs
 
 -- what every call is lent: the tables and the watch records
 pub record Lent : Type 0 where
   pub tables : Tables
   pub watches : List ℕ
 
--- what is seen after a call: the reply, its output, and what was lent
+-- what is seen after a call: what it handed back, its outputs, and what was lent
 pub record Seen : Type 0 where
-  pub reply : Reply
-  pub out : List ℕ
+  pub outcome : Outcome
+  pub outputs : Outputs
   pub lent : Lent
 
 -- the book between two calls: the head last handed back by a call that was no refused opening, and what is lent
@@ -37,57 +40,61 @@ pub record World : Type 0 where
   pub head : Head
   pub lent : Lent
 
--- one call by the book model
-unfoldable pub bookStep : Call → World → Seen × World
-bookStep (Open d N directions) w =
+-- what is seen of a call by the book model
+unfoldable pub bookSeen : Call → Outputs → World → Seen
+bookSeen (Open d N directions) o w =
     let t = w .lent .tables in
     let ws = w .lent .watches in
-    let reply = Book.openReply d N directions t ws in
     let lent : Lent = record { tables = Book.openTables d N directions t ws; watches = Book.openWatches d N directions t ws } in
-    (record { reply = reply; out = []; lent = lent }, record { head = settled (reply .answer) (reply .head) (w .head); lent = lent })
-bookStep (Quote x out) w =
+    record { outcome = Book.openReply d N directions t ws; outputs = o; lent = lent }
+bookSeen (Quote x) o w =
     let t = w .lent .tables in
     let ws = w .lent .watches in
-    let reply = Book.quoteReply (w .head) x t ws (length out) in
-    let lent : Lent = record { tables = Book.quoteTables (w .head) x t ws (length out); watches = ws } in
-    (record { reply = reply; out = Book.quoteOut (w .head) x t ws out; lent = lent }, record { head = reply .head; lent = lent })
-bookStep (Look n out) w =
-    let reply = Book.lookReply (w .head) n (w .lent .tables) (length out) in
-    (record { reply = reply; out = Book.lookOut (w .head) n (w .lent .tables) out; lent = w .lent }, record { head = reply .head; lent = w .lent })
-bookStep (Watch n out) w =
+    let outputs : Outputs = record { bytes = Book.quoteOut (w .head) x t ws (o .bytes); cells = o .cells } in
+    let lent : Lent = record { tables = Book.quoteTables (w .head) x t ws (length (o .bytes)); watches = ws } in
+    record { outcome = Book.quoteReply (w .head) x t ws (length (o .bytes)); outputs = outputs; lent = lent }
+bookSeen (Look n) o w =
+    let t = w .lent .tables in
+    let outputs : Outputs = record { bytes = o .bytes; cells = Book.lookOut (w .head) n t (o .cells) } in
+    record { outcome = Book.lookReply (w .head) n t (length (o .cells)); outputs = outputs; lent = w .lent }
+bookSeen (Watch n) o w =
     let t = w .lent .tables in
     let ws = w .lent .watches in
-    let reply = Book.watchReply (w .head) n t ws (length out) in
-    let lent : Lent = record { tables = t; watches = Book.watchWatches (w .head) n t ws (length out) } in
-    (record { reply = reply; out = Book.watchOut (w .head) n t ws out; lent = lent }, record { head = reply .head; lent = lent })
-bookStep (End n) w =
+    let outputs : Outputs = record { bytes = Book.watchOut (w .head) n t ws (o .bytes); cells = o .cells } in
+    let lent : Lent = record { tables = t; watches = Book.watchWatches (w .head) n t ws (length (o .bytes)) } in
+    record { outcome = Book.watchReply (w .head) n t ws (length (o .bytes)); outputs = outputs; lent = lent }
+bookSeen (End n) o w =
     let t = w .lent .tables in
     let ws = w .lent .watches in
-    let reply = Book.endReply (w .head) n t ws in
     let lent : Lent = record { tables = t; watches = Book.endWatches (w .head) n t ws } in
-    (record { reply = reply; out = []; lent = lent }, record { head = reply .head; lent = lent })
+    record { outcome = Book.endReply (w .head) n t ws; outputs = o; lent = lent }
 
--- what the reference model is fed of a call
-unfoldable pub fed : Lent → Call → Fed
-fed l (Open d N directions) =
-    Fed.Open d N directions record {
-      columns = length (l .tables .columns);
-      positions = length (l .tables .positions);
-      lowerEnds = length (l .tables .lowerEnds);
-      watches = length (l .watches);
-    }
-fed l (Quote x out) = Fed.Quote x (length out)
-fed l (Look n out) = Fed.Look n (length out)
-fed l (Watch n out) = Fed.Watch n (length out)
-fed l (End n) = Fed.End n
+-- the head that the next call gets: the one handed back, unless by a refused opening
+unfoldable pub headAfter : Call → Outcome → Head → Head
+headAfter (Open d N directions) outcome h = granted (outcome .number) (outcome .head) h
+headAfter (Quote x) outcome h = outcome .head
+headAfter (Look n) outcome h = outcome .head
+headAfter (Watch n) outcome h = outcome .head
+headAfter (End n) outcome h = outcome .head
 
--- what a call's own output holds when it is lent
-unfoldable pub outputOf : Call → List ℕ
-outputOf (Open d N directions) = []
-outputOf (Quote x out) = out
-outputOf (Look n out) = out
-outputOf (Watch n out) = out
-outputOf (End n) = []
+-- the book after a call of which this was seen
+unfoldable pub worldAfter : Call → Seen → World → World
+worldAfter c seen w = record { head = headAfter c (seen .outcome) (w .head); lent = seen .lent }
+
+-- one call by the book model
+unfoldable pub bookStep : Call → Outputs → World → Seen × World
+bookStep c o w = let seen = bookSeen c o w in (seen, worldAfter c seen w)
+
+-- the lengths of what is lent, and of the outputs
+unfoldable pub lengthsOf : Lent → Outputs → Lengths
+lengthsOf l o = record {
+  columns = length (l .tables .columns);
+  positions = length (l .tables .positions);
+  lowerEnds = length (l .tables .lowerEnds);
+  watches = length (l .watches);
+  bytes = length (o .bytes);
+  cells = length (o .cells);
+}
 
 -- what is lent, filled from the reference model: from the first accepted opening on the N places of each table from its rows and
 -- the eight records from its watched n; all else as it was
@@ -102,25 +109,48 @@ pub record Expected : Type 0 where
   pub reference : Reference
   pub lent : Lent
 
--- one call by the reference model: what is then to be seen
-unfoldable pub expectedStep : Call → Expected → Seen × Expected
-expectedStep c k =
-    let told = referenceStep (fed (k .lent) c) (k .reference) in
+-- one call by the reference model: what is then to be seen, all past what is written as lent
+unfoldable pub expectedStep : Call → Outputs → Expected → Seen × Expected
+expectedStep c o k =
+    let told = referenceStep c (lengthsOf (k .lent) o) (k .reference) in
+    let outcome : Outcome = record { number = told .number; head = told .head; count = told .count } in
+    let outputs : Outputs = record { bytes = laid (told .bytes) (o .bytes); cells = laid (told .cells) (o .cells) } in
     let lent = shown (told .next) (k .lent) in
-    let reply : Reply = record { answer = told .answer; head = told .head; count = length (told .written) } in
-    (record { reply = reply; out = laid (told .written) (outputOf c); lent = lent }, record { reference = told .next; lent = lent })
+    (record { outcome = outcome; outputs = outputs; lent = lent }, record { reference = told .next; lent = lent })
 
 -- what is seen after each call of a list, and where it ends
-module _ {S : Type 0} (step : Call → S → Seen × S) where
-  unfoldable pub runs : List Call → S → List Seen × S
+module _ {S : Type 0} (step : Call → Outputs → S → Seen × S) where
+  unfoldable pub runs : List Lending → S → List Seen × S
   runs [] s = ([], s)
   runs (c ∷ cs) s =
-      let one = step c s in
+      let one = step (c .call) (c .outputs) s in
       let rest = runs cs (one .1) in
       (one .0 ∷ rest .0, rest .1)
 
+module _ (l : Lent) where
+  -- at first: a head of zeros, and anything lent
+  abbrev pub worldFirst : World
+  worldFirst = record { head = freshHead 0 0 0; lent = l }
+
+  -- at first: no opening, and the same lent
+  abbrev pub expectedFirst : Expected
+  expectedFirst = record { reference = unopened; lent = l }
+
+module _ (cs : List Lending) (l : Lent) where
+  -- the book at the end of a list of calls, by the book model
+  abbrev pub worldAtEnd : World
+  worldAtEnd = runs bookStep cs (worldFirst l) .1
+
+  -- the reference model at the end of a list of calls
+  abbrev pub referenceAtEnd : Reference
+  referenceAtEnd = runs expectedStep cs (expectedFirst l) .1 .reference
+
+-- the positions of the rows that the head and the tables of a book hold
+abbrev pub positionsIn : World → List ℕ
+positionsIn w = map Row.position (Book.bookRows (w .head) (w .lent .tables))
+
 -- a book that some list of calls leaves, from a head of zeros and anything lent
 pub record Reached (w : World) : Type 0 where
-  pub calls : List Call
+  pub calls : List Lending
   pub lent : Lent
-  pub ends : runs bookStep calls (record { head = freshHead 0 0 0; lent = lent }) .1 ≡ w
+  pub ends : worldAtEnd calls lent ≡ w

@@ -7,3 +7,4 @@ pub mod Calls
 pub mod Promises
 pub mod Watcher
 pub mod Audit
+pub mod Marked

@@ -1,10 +1,11 @@
--- What each call promises: its reply and the final contents of everything lent, as the book model says.
+-- What each call promises: what it hands back and the final contents of everything lent, as the book model says.
 use mathlib.Core.Path.{_≡_}
 use Prim.Native.Nat.{ℕ}
 use mathlib.Core.List.{List}
 use lib.ListN.{length}
 use Rattle.head.specs.declared.Head.{Head}
 use Rattle.head.specs.declared.Reply.{Reply}
+use Rattle.head.specs.Replies.{outcome}
 use Rattle.model.specs.Rows.{Tables}
 use Rattle.model.specs.Book
 use Rattle.model.specs.Calls.{World}
@@ -19,28 +20,28 @@ world h t ws = record { head = h; lent = record { tables = t; watches = ws } }
 
 -- what an opening with these settings leaves of tables t and watches ws
 pub record Opened (d N directions : ℕ) (t : Tables) (ws : List ℕ) (r : Reply) (t' : Tables) (ws' : List ℕ) : Type 0 where
-  pub reply : r ≡ Book.openReply d N directions t ws
+  pub reply : outcome r ≡ Book.openReply d N directions t ws
   pub lent : t' ≡ Book.openTables d N directions t ws
   pub watches : ws' ≡ Book.openWatches d N directions t ws
 
 -- what quote x leaves of tables t and output
 pub record Quoted (h : Head) (x : List ℕ) (t : Tables) (ws before : List ℕ) (r : Reply) (t' : Tables) (after : List ℕ) : Type 0 where
-  pub reply : r ≡ Book.quoteReply h x t ws (length before)
+  pub reply : outcome r ≡ Book.quoteReply h x t ws (length before)
   pub lent : t' ≡ Book.quoteTables h x t ws (length before)
   pub out : after ≡ Book.quoteOut h x t ws before
 
 -- what a look at the list of n leaves of the output
 pub record Looked (h : Head) (n : ℕ) (t : Tables) (before : List ℕ) (r : Reply) (after : List ℕ) : Type 0 where
-  pub reply : r ≡ Book.lookReply h n t (length before)
+  pub reply : outcome r ≡ Book.lookReply h n t (length before)
   pub out : after ≡ Book.lookOut h n t before
 
 -- what a watch of n leaves of watches ws and output
 pub record Watched (h : Head) (n : ℕ) (t : Tables) (ws before : List ℕ) (r : Reply) (ws' after : List ℕ) : Type 0 where
-  pub reply : r ≡ Book.watchReply h n t ws (length before)
+  pub reply : outcome r ≡ Book.watchReply h n t ws (length before)
   pub watches : ws' ≡ Book.watchWatches h n t ws (length before)
   pub out : after ≡ Book.watchOut h n t ws before
 
 -- what the end of the watch of n leaves of watches ws
 pub record Ended (h : Head) (n : ℕ) (t : Tables) (ws : List ℕ) (r : Reply) (ws' : List ℕ) : Type 0 where
-  pub reply : r ≡ Book.endReply h n t ws
+  pub reply : outcome r ≡ Book.endReply h n t ws
   pub watches : ws' ≡ Book.endWatches h n t ws

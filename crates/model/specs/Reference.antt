@@ -8,9 +8,8 @@ use Rattle.lists.specs.Lists.{contains, insert, without}
 use Rattle.dominance.specs.Dominance.{dominates}
 use Rattle.skyline.specs.Skyline.{windowStart, skyline, rows, lowerEnd}
 use Rattle.head.specs.declared.Head.{Head}
-use Rattle.head.specs.declared.Answer.{Answer}
 use Rattle.head.specs.declared.Refusal.the-variants.{Settings, ColumnCount, WindowSize, TapeFull, AlreadyWatched, NoFreeRecord, NotWatched, ShortLoan, ShortOutput}
-use Rattle.head.specs.Refusals.{first, settled}
+use Rattle.head.specs.Refusals.{number, firstOf, granted}
 use Rattle.head.specs.Heads.{freshHead, settingsHold, lastPosition}
 use Rattle.frames.specs.declared.Message.the-variants.{Join}
 use Rattle.model.specs.Rows.{Row}
@@ -69,10 +68,14 @@ module _ (s : Reference) where
   unfoldable pub outside : ℕ → Bool
   outside n = not (leb 1 n && leb n (s .capacity))
 
+  -- with more quotes
+  abbrev pub withQuotes : List (List ℕ) → Reference
+  withQuotes more =
+      record { dimensions = s .dimensions; capacity = s .capacity; directions = s .directions; quotes = s .quotes ++ more; watched = s .watched }
+
   -- with one more quote
   unfoldable pub withQuote : List ℕ → Reference
-  withQuote x =
-      record { dimensions = s .dimensions; capacity = s .capacity; directions = s .directions; quotes = s .quotes ++ (x ∷ []); watched = s .watched }
+  withQuote x = withQuotes (x ∷ [])
 
   -- with these n watched
   unfoldable pub withWatched : List ℕ → Reference
@@ -83,60 +86,73 @@ module _ (s : Reference) where
 unfoldable pub opening : ℕ → ℕ → ℕ → Reference
 opening d N directions = record { dimensions = d; capacity = N; directions = directions; quotes = []; watched = [] }
 
--- the lengths of what an opening is lent: the three tables and the watch records
+-- a call on a book: an opening with d, N and directions; a quote with its columns; a look, a watch and the end of a watch with their n
+pub data Call : Type 0 where
+  Open : ℕ → ℕ → ℕ → Call
+  Quote : List ℕ → Call
+  Look : ℕ → Call
+  Watch : ℕ → Call
+  End : ℕ → Call
+
+-- the lengths of what a call is lent: the three tables, the watch records, and the outputs for frames (bytes) and for positions (cells)
 pub record Lengths : Type 0 where
   pub columns : ℕ
   pub positions : ℕ
   pub lowerEnds : ℕ
   pub watches : ℕ
+  pub bytes : ℕ
+  pub cells : ℕ
 
--- what the model is fed of a call: its settings, columns or n, and the lengths of what is lent; the last number of a quote, a
--- look and a watch is the length of the output
-pub data Fed : Type 0 where
-  Open : ℕ → ℕ → ℕ → Lengths → Fed
-  Quote : List ℕ → ℕ → Fed
-  Look : ℕ → ℕ → Fed
-  Watch : ℕ → ℕ → Fed
-  End : ℕ → Fed
+-- lengths that are enough for every book and every answer: 1,024 rows of six columns, eight records, 57,400 bytes, 1,024 cells
+abbrev pub ample : Lengths
+ample = record { columns = 6144; positions = 1024; lowerEnds = 1024; watches = 8; bytes = 57400; cells = 1024 }
 
--- what the model tells of a call: the answer, the head handed back, what is written at the start of the output, and the model after it
+-- what the model tells of a call: 0 or the number of its refusal, the head and the count handed back, what is written at the start of
+-- each output, and the model after it
 pub record Told : Type 0 where
-  pub answer : Answer
+  pub number : ℕ
   pub head : Head
-  pub written : List ℕ
+  pub count : ℕ
+  pub bytes : List ℕ
+  pub cells : List ℕ
   pub next : Reference
 
 -- a table or the watch list is too short for these settings
 unfoldable pub tooShort : Lengths → ℕ → ℕ → Bool
 tooShort l d N = ltb (l .columns) (N * d) || ltb (l .positions) N || ltb (l .lowerEnds) N || ltb (l .watches) 8
 
--- a call that is accepted tells this; one that is refused leaves the model as it is
-unfoldable pub tells : Answer → Head → List ℕ → Reference → Reference → Told
-tells answer refusedHead written next s = record {
-  answer = answer;
-  head = settled answer (headOf next) refusedHead;
-  written = settled answer written [];
-  next = settled answer next s;
+-- a call with this number: if accepted it tells the next model, the count, and what is written as bytes and as cells; a refused one
+-- leaves the model as it is
+unfoldable pub tells : ℕ → Head → ℕ → List ℕ → List ℕ → Reference → Reference → Told
+tells number refusedHead count bytes cells next s = record {
+  number = number;
+  head = granted number (headOf next) refusedHead;
+  count = granted number count 0;
+  bytes = granted number bytes [];
+  cells = granted number cells [];
+  next = granted number next s;
 }
 
 -- one call of the reference model, its refusals in 01's order
-unfoldable pub referenceStep : Fed → Reference → Told
-referenceStep (Open d N directions lengths) s =
-    let answer = first ((not (settingsHold d N directions), Settings) ∷ (tooShort lengths d N, ShortLoan) ∷ []) in
-    tells answer (freshHead 0 0 0) [] (opening d N directions) s
-referenceStep (Quote x room) s =
+unfoldable pub referenceStep : Call → Lengths → Reference → Told
+referenceStep (Open d N directions) l s =
+    let refusal = firstOf ((not (settingsHold d N directions), number Settings) ∷ (tooShort l d N, number ShortLoan) ∷ []) in
+    tells refusal (freshHead 0 0 0) 0 [] [] (opening d N directions) s
+referenceStep (Quote x) l s =
     let next = withQuote s x in
     let written = frames (allChanges (s .watched) (skylineOf s) (skylineOf next)) in
-    let answer = first ((not (opened s), Settings) ∷ (not (eqb (length x) (s .dimensions)), ColumnCount) ∷ (leb lastPosition (newest s), TapeFull) ∷ (ltb room (length written), ShortOutput) ∷ []) in
-    tells answer (headOf s) written next s
-referenceStep (Look n room) s =
+    let refusal = firstOf ((not (opened s), number Settings) ∷ (not (eqb (length x) (s .dimensions)), number ColumnCount)
+    ∷ (leb lastPosition (newest s), number TapeFull) ∷ (ltb (l .bytes) (length written), number ShortOutput) ∷ []) in
+    tells refusal (headOf s) (length written) written [] next s
+referenceStep (Look n) l s =
     let written = skylineOf s n in
-    let answer = first ((not (opened s), Settings) ∷ (outside s n, WindowSize) ∷ (ltb room (length written), ShortOutput) ∷ []) in
-    tells answer (headOf s) written s s
-referenceStep (Watch n room) s =
+    let refusal = firstOf ((not (opened s), number Settings) ∷ (outside s n, number WindowSize) ∷ (ltb (l .cells) (length written), number ShortOutput) ∷ []) in
+    tells refusal (headOf s) (length written) [] written s s
+referenceStep (Watch n) l s =
     let written = frames (map (Join n) (skylineOf s n)) in
-    let answer = first ((not (opened s), Settings) ∷ (outside s n, WindowSize) ∷ (contains n (s .watched), AlreadyWatched) ∷ (leb 8 (length (s .watched)), NoFreeRecord) ∷ (ltb room (length written), ShortOutput) ∷ []) in
-    tells answer (headOf s) written (withWatched s (insert n (s .watched))) s
-referenceStep (End n) s =
-    let answer = first ((not (opened s), Settings) ∷ (outside s n, WindowSize) ∷ (not (contains n (s .watched)), NotWatched) ∷ []) in
-    tells answer (headOf s) [] (withWatched s (without n (s .watched))) s
+    let refusal = firstOf ((not (opened s), number Settings) ∷ (outside s n, number WindowSize) ∷ (contains n (s .watched), number AlreadyWatched)
+    ∷ (leb 8 (length (s .watched)), number NoFreeRecord) ∷ (ltb (l .bytes) (length written), number ShortOutput) ∷ []) in
+    tells refusal (headOf s) (length written) written [] (withWatched s (insert n (s .watched))) s
+referenceStep (End n) l s =
+    let refusal = firstOf ((not (opened s), number Settings) ∷ (outside s n, number WindowSize) ∷ (not (contains n (s .watched)), number NotWatched) ∷ []) in
+    tells refusal (headOf s) 0 [] [] (withWatched s (without n (s .watched))) s

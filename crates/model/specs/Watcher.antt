@@ -5,12 +5,12 @@ use mathlib.Core.List.{List, [], _∷_}
 use lib.Dec.{eqb}
 use lib.ListN.{length, take}
 use Rattle.lists.specs.Lists.{contains, insert, without}
-use Rattle.head.specs.Refusals.{settled}
+use Rattle.head.specs.Refusals.{granted}
 use Rattle.frames.specs.declared.Message.{Message}
 use Rattle.frames.specs.declared.Message.the-variants.{Quote, Look, Watch, Unwatch, Leave, Join, Open, End, Refused}
 use Rattle.frames.specs.Frames.{framed, readAt}
 use Rattle.model.specs.Reference.{Reference, skylineOf}
-use Rattle.model.specs.Calls.{Call, Seen, World, bookStep}
+use Rattle.model.specs.Calls.{Call, Lending, Seen}
 
 -- the messages read from a place on, at most k, up to the end of the tape or what cannot be read
 unfoldable pub messagesFrom : ℕ → List ℕ → ℕ → List Message
@@ -45,23 +45,22 @@ pub data Held : Type 0 where
 unfoldable pub reads : ℕ → Seen → Held → Held
 reads n seen Nothing = Nothing
 reads n seen (Holding held) =
-    let bytes = take (seen .reply .count) (seen .out) in
+    let bytes = take (seen .outcome .count) (seen .outputs .bytes) in
     Holding (heedsAll n held (messagesFrom (length bytes) bytes 0))
 
 -- what is held after a call: an accepted watch of n begins with the empty list, its accepted end or an accepted opening ends it
 unfoldable pub watcherStep : ℕ → Call → Seen → Held → Held
-watcherStep n (Call.Open d N directions) seen held = settled (seen .reply .answer) Nothing held
-watcherStep n (Call.Quote x out) seen held = reads n seen held
-watcherStep n (Call.Look m out) seen held = held
-watcherStep n (Call.Watch m out) seen held = reads n seen (settled (seen .reply .answer) (cond (eqb m n) (Holding []) held) held)
-watcherStep n (Call.End m) seen held = settled (seen .reply .answer) (cond (eqb m n) Nothing held) held
+watcherStep n (Call.Open d N directions) seen held = granted (seen .outcome .number) Nothing held
+watcherStep n (Call.Quote x) seen held = reads n seen held
+watcherStep n (Call.Look m) seen held = held
+watcherStep n (Call.Watch m) seen held = reads n seen (granted (seen .outcome .number) (cond (eqb m n) (Holding []) held) held)
+watcherStep n (Call.End m) seen held = granted (seen .outcome .number) (cond (eqb m n) Nothing held) held
 
--- what the watcher of n holds after a list of calls on the book
-unfoldable pub watcher : ℕ → List Call → World → Held → Held
-watcher n [] w held = held
-watcher n (c ∷ cs) w held =
-    let one = bookStep c w in
-    watcher n cs (one .1) (watcherStep n c (one .0) held)
+-- what the watcher of n holds after a list of calls of which this was seen
+unfoldable pub watcher : ℕ → List Lending → List Seen → Held → Held
+watcher n [] ss held = held
+watcher n (c ∷ cs) [] held = held
+watcher n (c ∷ cs) (s ∷ ss) held = watcher n cs ss (watcherStep n (c .call) s held)
 
 -- what a watcher of n is to hold by the reference model: nothing while n is not watched, else the skyline of n
 unfoldable pub heldBy : ℕ → Reference → Held

@@ -1,0 +1,151 @@
+-- Laws of answers by 01's numbers: of the first condition that holds, of what is granted, and of an answer and its number.
+use mathlib.Core.Path.{_≡_, refl, sym, ap, _∙_}
+use Prim.Native.Nat.{ℕ, zero, suc, _≤_}
+use native.Mathlib.Omega.{arith}
+use mathlib.Core.Bool.{Bool, true, false}
+use mathlib.Core.List.{List, [], _∷_, _++_}
+use lib.ListN.{getD}
+use Rattle.head.specs.declared.Refusal.{Refusal}
+use Rattle.head.specs.declared.Refusal.the-variants.{UnknownKind, CutFrame, Settings, ColumnCount, WindowSize, TapeFull, OutOfPlace, AlreadyWatched, NoFreeRecord, NotWatched, ShortLoan, Torn, ShortOutput}
+use Rattle.head.specs.declared.Answer.{Answer}
+use Rattle.head.specs.declared.Answer.the-variants.{Accepted, Refused}
+use Rattle.head.specs.Refusals.{number, first, settled, numberOf, firstOf, granted}
+
+-- ---- the first condition that holds
+
+module _ (b : Bool) (n : ℕ) (more : List (Bool × ℕ)) where
+  -- a call that is answered with 0 has passed every condition
+  pub zero-passed : firstOf ((b, suc n) ∷ more) ≡ 0 → (b ≡ false) × (firstOf more ≡ 0)
+  unfolding firstOf
+  zero-passed e = go b e
+    where
+      go : (c : Bool) → firstOf ((c, suc n) ∷ more) ≡ 0 → (c ≡ false) × (firstOf more ≡ 0)
+      go true e = absurd (omega arith)
+      go false e = (refl, e)
+
+  -- two lists that differ only behind a condition answer alike if they do where it is passed
+  pub firstOf-alike : (more' : List (Bool × ℕ)) → (b ≡ false → firstOf more ≡ firstOf more') → firstOf ((b, n) ∷ more) ≡ firstOf ((b, n) ∷ more')
+  unfolding firstOf
+  firstOf-alike more' h = go b h
+    where
+      go : (c : Bool) → (c ≡ false → firstOf more ≡ firstOf more') → firstOf ((c, n) ∷ more) ≡ firstOf ((c, n) ∷ more')
+      go true h = refl
+      go false h = h refl
+
+  -- a condition that holds is the answer
+  pub firstOf-holds : b ≡ true → firstOf ((b, n) ∷ more) ≡ n
+  unfolding firstOf
+  firstOf-holds e = rw e
+
+  -- a condition that fails does not count
+  pub firstOf-fails : b ≡ false → firstOf ((b, n) ∷ more) ≡ firstOf more
+  unfolding firstOf
+  firstOf-fails e = rw e
+
+-- ---- an answer and its number
+
+-- no refusal has the number 0
+pub number-above : (k : Refusal) → 1 ≤ number k
+number-above UnknownKind = omega arith
+number-above CutFrame = omega arith
+number-above Settings = omega arith
+number-above ColumnCount = omega arith
+number-above WindowSize = omega arith
+number-above TapeFull = omega arith
+number-above OutOfPlace = omega arith
+number-above AlreadyWatched = omega arith
+number-above NoFreeRecord = omega arith
+number-above NotWatched = omega arith
+number-above ShortLoan = omega arith
+number-above Torn = omega arith
+number-above ShortOutput = omega arith
+
+-- the answers in the order of their numbers
+abbrev answers : List Answer
+answers =
+    Accepted ∷ Refused UnknownKind ∷ Refused CutFrame ∷ Refused Settings ∷ Refused ColumnCount ∷ Refused WindowSize ∷ Refused TapeFull ∷ Refused OutOfPlace
+    ∷ Refused AlreadyWatched ∷ Refused NoFreeRecord ∷ Refused NotWatched ∷ Refused ShortLoan ∷ Refused Torn ∷ Refused ShortOutput ∷ []
+
+-- the answer with this number
+abbrev answerWith : ℕ → Answer
+answerWith n = getD answers n Accepted
+
+number-read : (k : Refusal) → answerWith (number k) ≡ Refused k
+number-read UnknownKind = refl
+number-read CutFrame = refl
+number-read Settings = refl
+number-read ColumnCount = refl
+number-read WindowSize = refl
+number-read TapeFull = refl
+number-read OutOfPlace = refl
+number-read AlreadyWatched = refl
+number-read NoFreeRecord = refl
+number-read NotWatched = refl
+number-read ShortLoan = refl
+number-read Torn = refl
+number-read ShortOutput = refl
+
+answer-read : (a : Answer) → answerWith (numberOf a) ≡ a
+answer-read Accepted = refl
+answer-read (Refused k) = number-read k
+
+-- answers with the same number are the same
+pub numberOf-injective : (a b : Answer) → numberOf a ≡ numberOf b → a ≡ b
+numberOf-injective a b e = sym (answer-read a) ∙ ap answerWith e ∙ answer-read b
+
+-- the number of a call that was accepted is 0
+pub accepted-number : {n : ℕ} (a : Answer) → numberOf a ≡ n → a ≡ Accepted → n ≡ 0
+accepted-number a e f = sym e ∙ ap numberOf f
+
+-- the number of a call that was refused is that of its refusal
+pub refused-number : {n : ℕ} (a : Answer) (k : Refusal) → numberOf a ≡ n → a ≡ Refused k → n ≡ number k
+refused-number a k e f = sym e ∙ ap numberOf f
+
+-- ---- what is granted
+
+-- a call with this number was refused
+pub granted-refused : {A : Type 0} (n : ℕ) → 1 ≤ n → (a r : A) → granted n a r ≡ r
+unfolding granted
+granted-refused zero h a r = absurd (omega arith)
+granted-refused (suc n) h a r = refl
+
+-- a refused call
+pub refused-granted : {A : Type 0} (k : Refusal) (a r : A) → granted (number k) a r ≡ r
+refused-granted k = granted-refused (number k) (number-above k)
+
+-- an accepted call
+pub accepted-granted : {A : Type 0} (n : ℕ) → n ≡ 0 → (a r : A) → granted n a r ≡ a
+unfolding granted
+accepted-granted n e a r = rw e
+
+-- what is granted by an answer's number is settled by the answer
+pub granted-settled : {A : Type 0} (answer : Answer) (a r : A) → granted (numberOf answer) a r ≡ settled answer a r
+unfolding granted settled
+granted-settled Accepted a r = refl
+granted-settled (Refused k) a r = refused-granted k a r
+
+-- conditions with the numbers of their refusals
+abbrev pub numbered : List (Bool × Refusal) → List (Bool × ℕ)
+numbered [] = []
+numbered (c ∷ cs) = (c .0, number (c .1)) ∷ numbered cs
+
+-- the number of the first refusal is the first number
+pub first-number : (cs : List (Bool × Refusal)) → numberOf (first cs) ≡ firstOf (numbered cs)
+unfolding first firstOf
+first-number [] = refl
+first-number (c ∷ cs) = go (c .0) (first-number cs)
+  where
+    go : (b : Bool) → numberOf (first cs) ≡ firstOf (numbered cs) → numberOf (first ((b, c .1) ∷ cs)) ≡ firstOf ((b, number (c .1)) ∷ numbered cs)
+    go true r = refl
+    go false r = r
+
+-- conditions and more behind them: where none of the first holds the others count
+pub firstOf-append : (cs : List (Bool × Refusal)) (more : List (Bool × ℕ)) → firstOf (numbered cs ++ more) ≡ granted (firstOf (numbered cs)) (firstOf more) (firstOf (numbered cs))
+unfolding firstOf granted
+firstOf-append [] more = refl
+firstOf-append (c ∷ cs) more = go (c .0) (firstOf-append cs more)
+  where
+    go : (b : Bool) → firstOf (numbered cs ++ more) ≡ granted (firstOf (numbered cs)) (firstOf more) (firstOf (numbered cs))
+        → firstOf ((b, number (c .1)) ∷ (numbered cs ++ more)) ≡ granted (firstOf ((b, number (c .1)) ∷ numbered cs)) (firstOf more) (firstOf ((b, number (c .1)) ∷ numbered cs))
+    go true r = sym (refused-granted (c .1) (firstOf more) (number (c .1)))
+    go false r = r
