@@ -13,10 +13,9 @@ use Rattle.head.proofs.Settings.{settings-within}
 use Rattle.model.specs.Rows.{Row, Tables, filled}
 use Rattle.model.specs.Reference.{Reference, quoteAt, newest, headOf, rowsOf}
 use Rattle.model.specs.Book.{bookRows}
-use Rattle.model.specs.Audit.{largest, auditFinding, Tape}
+use Rattle.model.specs.Audit.{Small, auditFinding, Tape}
 use Rattle.model.proofs.Tables.{rows-filled}
 use Rattle.model.proofs.Sound.{Wide, rows-wide, rows-few, rows-sound}
-use Rattle.model.proofs.Worst.{Small}
 use Rattle.model.proofs.Plays.{holding, opening-plays, opening-took, opening-accepted, accepted-settings, opening-next}
 use Rattle.model.proofs.AuditTables.{length-read, read-fit, read-small, clean-filled, filled-clean}
 use Rattle.model.proofs.Rules.{Passed, untorn-whole, yes-iff-passed}
@@ -24,7 +23,7 @@ use Rattle.model.proofs.RulesToTape.{tapeOf, length-tape, tape-wide, ta
 use Rattle.model.proofs.TapeToRules.{tape-rules}
 
 -- what a reference model leaves in the tables passes
-left-passes : (s : Reference) (t : Tables) → 1 ≤ s .capacity → newest s ≤ lastPosition → Wide s → ((k : ℕ) → Small (getD (s .quotes) k []))
+pub left-passes : (s : Reference) (t : Tables) → 1 ≤ s .capacity → newest s ≤ lastPosition → Wide s → ((k : ℕ) → Small (getD (s .quotes) k []))
     → filled (s .dimensions) (s .capacity) (rowsOf s) t ≡ t → Passed (headOf s) t
 unfolding headOf bookRows
 left-passes s t some room wide small left =
@@ -89,7 +88,7 @@ module _ (h : Head) (t : Tables) (hold : settingsHold (h .dimensions) (h .capaci
       counted = length-tape d (h .directions) M rs
 
 -- with cells of 32 bits, the audit says yes exactly if some tape of an accepted opening and accepted quotes leaves this head and these tables
-pub audit-iff-tape : (h : Head) (t : Tables) → ((i : ℕ) → getD (t .columns) i 0 ≤ largest) → (auditFinding h t ≡ yes) ↔ Tape h t
+pub audit-iff-tape : (h : Head) (t : Tables) → Small (t .columns) → (auditFinding h t ≡ yes) ↔ Tape h t
 audit-iff-tape h t small =
     let y = yes-iff-passed h t in (
       λ e. let p = y .0 e in passes-tape h t (p .0) small (p .1),

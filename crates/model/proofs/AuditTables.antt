@@ -15,8 +15,7 @@ use Rattle.lists.proofs.Filters.{map-map}
 use Rattle.lists.proofs.Members.{of-map}
 use Rattle.lists.proofs.Runs.{length-run, of-run}
 use Rattle.model.specs.Rows.{Row, Tables, rowAt, rowsIn, filled}
-use Rattle.model.specs.Audit.{zeroFrom}
-use Rattle.model.proofs.Worst.{Small}
+use Rattle.model.specs.Audit.{Small, zeroFrom}
 use Rattle.model.proofs.Tables.{Fit, cells-counted}
 use Rattle.model.proofs.Sound.{any-zeros}
 

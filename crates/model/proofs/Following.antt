@@ -25,7 +25,7 @@ use Rattle.model.specs.Changes.{allChanges, frames}
 use Rattle.model.specs.Reference.{Reference, newest, over, skylineOf, outside, withQuote, withWatched, opening, tells, referenceStep}
 use Rattle.model.specs.Calls.{Call, Open, Quote, Look, Watch, End, Outputs, Lent, Seen, lengthsOf, expectedStep}
 use Rattle.model.specs.Watcher.{Held, Nothing, Holding, messagesFrom, heedsAll, reads, watcherStep, heldBy}
-use Rattle.model.proofs.Joined.{in-range}
+use Rattle.model.proofs.Simulation.{in-range}
 use Rattle.model.proofs.Heeding.{first-heeded, other-joins, all-heeded}
 use Rattle.model.proofs.ReadBack.{Sent, read-back, sent-joins, sent-all}
 

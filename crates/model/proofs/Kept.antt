@@ -14,7 +14,7 @@ use Rattle.model.specs.Reference.{Reference, newest, over, skylineOf, ro
 use Rattle.model.specs.Calls.{Lending, Lent, Expected, World, expectedStep, runs, expectedFirst, worldAtEnd, referenceAtEnd, positionsIn}
 use Rattle.model.proofs.Quotes.{at-irreflexive, over-within}
 use Rattle.model.proofs.Sound.{positions-are}
-use Rattle.model.proofs.Joined.{Joined, joined-rows}
+use Rattle.model.proofs.Simulation.{Simulation, simulation-rows}
 use Rattle.model.proofs.Replay.{replay-ends}
 
 -- a position of a reference model has a row exactly if some n from 1 to N lists it
@@ -37,13 +37,13 @@ dropped-off-skylines s more p n h k dropped =
 
 -- ---- the list of calls
 
--- a book that stands joined with the reference model holds the positions of its rows
-pub joined-positions : (k : Expected) (w : World) → Joined k w → positionsIn w ≡ map Row.position (rowsOf (k .reference))
-joined-positions k w j = ap (map Row.position) (joined-rows k w j)
+-- a book that simulates the reference model holds the positions of its rows
+pub simulation-positions : (k : Expected) (w : World) → Simulation k w → positionsIn w ≡ map Row.position (rowsOf (k .reference))
+simulation-positions k w j = ap (map Row.position) (simulation-rows k w j)
 
 module _ (cs : List Lending) (l : Lent) where
   positions-at-end : positionsIn (worldAtEnd cs l) ≡ map Row.position (rowsOf (referenceAtEnd cs l))
-  positions-at-end = joined-positions (runs expectedStep cs (expectedFirst l) .1) (worldAtEnd cs l) (replay-ends cs l)
+  positions-at-end = simulation-positions (runs expectedStep cs (expectedFirst l) .1) (worldAtEnd cs l) (replay-ends cs l)
 
   -- at the end of any list of calls the book holds a position exactly if some n from 1 to N lists it
   pub kept-iff-listed : (p : ℕ)

@@ -2,7 +2,7 @@
 pub mod Quotes
 pub mod Tables
 pub mod Sound
-pub mod Joined
+pub mod Simulation
 pub mod Opening
 pub mod Quoting
 pub mod Watching
@@ -23,3 +23,5 @@ pub mod Heeding
 pub mod ReadBack
 pub mod Following
 pub mod Watcher
+pub mod Passing
+pub mod Refining

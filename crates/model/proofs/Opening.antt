@@ -17,13 +17,7 @@ use Rattle.model.specs.Book.{shortTables, shortLoan, replyOf, openAnswer
 use Rattle.model.specs.Calls.{Open, Outputs, Lent, bookSeen, headAfter, worldAfter, bookStep, lengthsOf, shown, expectedStep}
 use Rattle.model.proofs.Tables.{Fit, filled-again, filled-long}
 use Rattle.model.proofs.Sound.{rows-none}
-use Rattle.model.proofs.Joined.{Faithful, Agree, referenceWith, bookWith, long-tables, long-records, shown-opened, shown-still}
-
--- what is lent stays as it is where no opening was accepted, too
-still : (s : Reference) (l : Lent) → (s ≡ unopened) ⊎ Faithful s l → shown s l ≡ l
-unfolding shown opened settingsHold
-still s l (inl e) = rw e
-still s l (inr f) = shown-still s l f
+use Rattle.model.proofs.Simulation.{Invariant, Agree, referenceWith, bookWith, long-tables, long-records, shown-opened, shown-same}
 
 module _ (d N directions : ℕ) (l : Lent) where
   -- the reference model, just opened
@@ -50,10 +44,10 @@ module _ (d N directions : ℕ) (l : Lent) where
     unfolding opening opened
     shown-cleared = shown-opened fresh l holds ∙ rw no-rows
 
-    -- an accepted opening leaves what is lent faithful
-    faithful : Faithful fresh cleared
+    -- the invariant holds after an accepted opening
+    invariant : Invariant fresh cleared
     unfolding opening opened rising shortLoan
-    faithful = record {
+    invariant = record {
       settings = holds;
       wide = λ p h k. absurd (omega arith);
       within = zero-le;
@@ -69,7 +63,7 @@ module _ (d N directions : ℕ) (l : Lent) where
       eight = zero-le;
     }
 
-  module _ (o : Outputs) (s : Reference) (since : (s ≡ unopened) ⊎ Faithful s l) where
+  module _ (o : Outputs) (s : Reference) (since : (s ≡ unopened) ⊎ Invariant s l) where
     -- the answer, in both models
     abbrev answer : ℕ
     answer = openAnswer d N directions (l .tables) (l .watches)
@@ -84,5 +78,5 @@ module _ (d N directions : ℕ) (l : Lent) where
             let a = zero-passed _ _ _ e in
             let holds = not-false (settingsHold d N directions) (a .0) in
             let long = zero-passed _ _ _ (a .1) .0 in
-            rw (e, shown-cleared holds long, head-fresh) (refl, record { head = sym head-fresh; lent = refl; since = inr (faithful holds long) })
-        go (suc k) e = rw (e, still s l since) (refl, record { head = refl; lent = refl; since = since })
+            rw (e, shown-cleared holds long, head-fresh) (refl, record { head = sym head-fresh; lent = refl; since = inr (invariant holds long) })
+        go (suc k) e = rw (e, shown-same s l since) (refl, record { head = refl; lent = refl; since = since })

@@ -25,7 +25,7 @@ use Rattle.model.specs.Calls.{Quote, Outputs, Lent, bookSeen, headAfter,
 use Rattle.model.proofs.Quotes.{newest-after, quote-within, quote-new, rows-after-quote}
 use Rattle.model.proofs.Tables.{filled-again, filled-long}
 use Rattle.model.proofs.Sound.{Wide, rows-few, rows-wide}
-use Rattle.model.proofs.Joined.{Faithful, Agree, referenceWith, bookWith, long-tables, list-is, joined, some-capacity, shown-opened, shown-still, rows-read, watches-read, skyline-read, judged-watchful}
+use Rattle.model.proofs.Simulation.{Invariant, Agree, referenceWith, bookWith, long-tables, list-is, simulation, some-capacity, shown-opened, shown-still, rows-read, watches-read, skyline-read, judged-watchful}
 
 -- watches whose lists before and after are equal have equal changes
 changes-alike : (watched : List ℕ) (before before' after after' : ℕ → List ℕ) (N : ℕ) → rising 1 N watched ≡ true
@@ -36,7 +36,7 @@ changes-alike watched before before' after after' N risen b a =
     ap flat (map-same-mem (λ n. changes n (before n) (after n)) (λ n. changes n (before' n) (after' n)) watched
     (λ n m. let r = rising-bounds 1 N n watched risen m in ap₂ (changes n) (b n (r .0) (r .1)) (a n (r .0) (r .1))))
 
-module _ (s : Reference) (l : Lent) (f : Faithful s l) (x : List ℕ) where
+module _ (s : Reference) (l : Lent) (f : Invariant s l) (x : List ℕ) where
   -- the reference model with the quote
   abbrev s' : Reference
   s' = withQuote s x
@@ -89,10 +89,10 @@ module _ (s : Reference) (l : Lent) (f : Faithful s l) (x : List ℕ) where
   shown-after = shown-opened s' l (f .settings) ∙ rw (f .records, rows-are)
 
   module _ (wide : length x ≡ s .dimensions) (room : newest s < lastPosition) where
-    -- an accepted quote leaves what is lent faithful
-    faithful : Faithful s' relent
+    -- the invariant holds after an accepted quote
+    invariant : Invariant s' relent
     unfolding withQuote opened shortLoan
-    faithful =
+    invariant =
         let few = rows-few s' (some-capacity s l f) in
         let fit = rows-wide s' (wide-after wide) in
         rw rows-are record {
@@ -141,5 +141,5 @@ module _ (s : Reference) (l : Lent) (f : Faithful s l) (x : List ℕ) where
             let a = zero-passed _ _ _ (zero-passed _ _ _ e .1) in
             let wide = eqb-true (length x) (s .dimensions) (not-false (eqb (length x) (s .dimensions)) (a .0)) in
             let room = leb-false lastPosition (newest s) (zero-passed _ _ _ (a .1) .0) in
-            rw (answers, e, bytes-are room, head-is room, shown-after) (refl, record { head = refl; lent = refl; since = inr (faithful wide room) })
-        go (suc k) e = rw (answers, e, shown-still s l f) (refl, joined s l f)
+            rw (answers, e, bytes-are room, head-is room, shown-after) (refl, record { head = refl; lent = refl; since = inr (invariant wide room) })
+        go (suc k) e = rw (answers, e, shown-still s l f) (refl, simulation s l f)

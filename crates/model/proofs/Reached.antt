@@ -1,4 +1,4 @@
--- Books that lists of calls leave: the first one, the next one, the reference model that each stands joined with, and what follows:
+-- Books that lists of calls leave: the first one, the next one, the reference model that each simulates, and what follows:
 -- neither 11 nor 12 is said of them, and each lower end names a row.
 use mathlib.Core.Path.{_≡_, refl, sym, ap, subst, _∙_}
 use mathlib.Core.Logic.{_⊎_, inl, inr}
@@ -17,7 +17,7 @@ use Rattle.model.specs.Reference.{Reference, unopened, newest, over, row
 use Rattle.model.specs.Book.{bookRows, watchfulAnswer}
 use Rattle.model.specs.Calls.{Call, Outputs, Lending, Lent, Seen, World, bookStep, Expected, expectedStep, runs, worldFirst, expectedFirst, Reached}
 use Rattle.model.proofs.Sound.{positions-are}
-use Rattle.model.proofs.Joined.{Faithful, Joined, bookWith, joined-by, judged-watchful, joined-rows}
+use Rattle.model.proofs.Simulation.{Invariant, Simulation, bookWith, simulation-by, judged-watchful, simulation-rows}
 use Rattle.model.proofs.Replay.{replay-ends}
 
 -- a call behind a list of calls
@@ -43,17 +43,17 @@ reached-step c o r =
     }
 
 -- the reference model after the same calls
-abbrev expected : {w : World} → Reached w → Expected
+abbrev pub expected : {w : World} → Reached w → Expected
 expected r = runs expectedStep (r .calls) (expectedFirst (r .lent)) .1
 
--- it stands joined with the book
-pub reached-joined : {w : World} → Reached w → (k : Expected) × Joined k w
-reached-joined {w} r = (expected r, subst (Joined (expected r)) (r .ends) (replay-ends (r .calls) (r .lent)))
+-- the book simulates it
+pub reached-simulation : {w : World} (r : Reached w) → Simulation (expected r) w
+reached-simulation r = subst (Simulation (expected r)) (r .ends) (replay-ends (r .calls) (r .lent))
 
--- what holds before any opening and of what is faithful holds of it
-pub reached-by : (P : World → Type 0) → ((l : Lent) → P (bookWith unopened l)) → ((s : Reference) (l : Lent) → Faithful s l → P (bookWith s l)) → {w : World}
+-- what holds before any opening and by the invariant holds of it
+pub reached-by : (P : World → Type 0) → ((l : Lent) → P (bookWith unopened l)) → ((s : Reference) (l : Lent) → Invariant s l → P (bookWith s l)) → {w : World}
     → Reached w → P w
-reached-by P before after {w} r = let j = reached-joined r in joined-by (λ k v. P v) before after (j .0) w (j .1)
+reached-by P before after {w} r = simulation-by (λ k v. P v) before after (expected r) w (reached-simulation r)
 
 -- neither 11 nor 12 is said of it: a call is refused with 3, or answered by what it adds
 pub reached-judged : (more : List (Bool × ℕ)) {w : World} → Reached w
@@ -109,5 +109,4 @@ module _ (s : Reference) where
 pub reached-names : {w : World} → Reached w → (r : Row) → List·Memᴰ r (bookRows (w .head) (w .lent .tables))
     → (r .lowerEnd ≡ 0) ⊎ List·Memᴰ (r .lowerEnd) (map Row.position (bookRows (w .head) (w .lent .tables)))
 reached-names {w} g r =
-    let j = reached-joined g in
-    subst (λ (rs : List Row). List·Memᴰ r rs → NamesRow rs r) (sym (joined-rows (j .0) w (j .1))) (row-named (j .0 .reference) r)
+    subst (λ (rs : List Row). List·Memᴰ r rs → NamesRow rs r) (sym (simulation-rows (expected g) w (reached-simulation g))) (row-named (expected g .reference) r)

@@ -10,7 +10,7 @@ use Rattle.model.specs.Reference.{Reference, unopened, headOf, opened, t
 use Rattle.model.specs.Book.{answerOf, watchfulAnswer, replyOf, quoteAnswer, quoteReply, quoteTables, quoteOut, lookAnswer, lookReply, lookOut, watchAnswer, watchReply, watchWatches, watchOut, endAnswer, endReply, endWatches}
 use Rattle.model.specs.Calls.{Call, Open, Quote, Look, Watch, End, Outputs, Lending, Lent, Seen, World, bookSeen, headAfter, worldAfter, bookStep, lengthsOf, shown, Expected, expectedStep, runs, worldFirst, expectedFirst}
 use Rattle.model.proofs.Sound.{rows-none}
-use Rattle.model.proofs.Joined.{Faithful, Joined, Agree, referenceWith, bookWith, joined-by}
+use Rattle.model.proofs.Simulation.{Invariant, Simulation, Agree, referenceWith, bookWith, simulation-by}
 use Rattle.model.proofs.Opening.{opens}
 use Rattle.model.proofs.Quoting.{quotes}
 use Rattle.model.proofs.Watching.{looks, watches, ends}
@@ -24,19 +24,19 @@ unopened-agrees (Look n) o l = (refl, record { head = refl; lent = refl; since =
 unopened-agrees (Watch n) o l = (refl, record { head = refl; lent = refl; since = inl refl })
 unopened-agrees (End n) o l = (refl, record { head = refl; lent = refl; since = inl refl })
 
-faithful-agrees : (c : Call) (o : Outputs) (s : Reference) (l : Lent) → Faithful s l → Agree c o (referenceWith s l) (bookWith s l)
-faithful-agrees (Open d N directions) o s l f = opens d N directions l o s (inr f)
-faithful-agrees (Quote x) o s l f = quotes s l f x o
-faithful-agrees (Look n) o s l f = looks s l f n o
-faithful-agrees (Watch n) o s l f = watches s l f n o
-faithful-agrees (End n) o s l f = ends s l f n o
+opened-agrees : (c : Call) (o : Outputs) (s : Reference) (l : Lent) → Invariant s l → Agree c o (referenceWith s l) (bookWith s l)
+opened-agrees (Open d N directions) o s l f = opens d N directions l o s (inr f)
+opened-agrees (Quote x) o s l f = quotes s l f x o
+opened-agrees (Look n) o s l f = looks s l f n o
+opened-agrees (Watch n) o s l f = watches s l f n o
+opened-agrees (End n) o s l f = ends s l f n o
 
--- every call is seen alike in joined models, and leaves them joined
-pub call-agrees : (c : Call) (o : Outputs) (k : Expected) (w : World) → Joined k w → Agree c o k w
-call-agrees c o = joined-by (Agree c o) (unopened-agrees c o) (faithful-agrees c o)
+-- every call on a book that simulates the reference model is seen alike, and leaves such a book
+pub call-agrees : (c : Call) (o : Outputs) (k : Expected) (w : World) → Simulation k w → Agree c o k w
+call-agrees c o = simulation-by (Agree c o) (unopened-agrees c o) (opened-agrees c o)
 
 -- so is a list of calls
-pub run-agrees : (cs : List Lending) (k : Expected) (w : World) → Joined k w → (runs bookStep cs w .0 ≡ runs expectedStep cs k .0) × Joined (runs expectedStep cs k .1) (runs bookStep cs w .1)
+pub run-agrees : (cs : List Lending) (k : Expected) (w : World) → Simulation k w → (runs bookStep cs w .0 ≡ runs expectedStep cs k .0) × Simulation (runs expectedStep cs k .1) (runs bookStep cs w .1)
 unfolding runs
 run-agrees [] k w j = (refl, j)
 run-agrees (c ∷ cs) k w j =
@@ -44,7 +44,7 @@ run-agrees (c ∷ cs) k w j =
     let rest = run-agrees cs (expectedStep (c .call) (c .outputs) k .1) (bookStep (c .call) (c .outputs) w .1) (one .1) in
     (ap₂ {C = List Seen} (λ (s : Seen) (l : List Seen). s ∷ l) (one .0) (rest .0), rest .1)
 
-start : (l : Lent) → Joined (expectedFirst l) (worldFirst l)
+start : (l : Lent) → Simulation (expectedFirst l) (worldFirst l)
 unfolding headOf
 start l = record { head = rw (rows-none unopened refl); lent = refl; since = inl refl }
 
@@ -52,6 +52,6 @@ start l = record { head = rw (rows-none unopened refl); lent = refl; since = inl
 pub replay : (cs : List Lending) (l : Lent) → runs bookStep cs (worldFirst l) .0 ≡ runs expectedStep cs (expectedFirst l) .0
 replay cs l = run-agrees cs (expectedFirst l) (worldFirst l) (start l) .0
 
--- and stand joined at the end
-pub replay-ends : (cs : List Lending) (l : Lent) → Joined (runs expectedStep cs (expectedFirst l) .1) (runs bookStep cs (worldFirst l) .1)
+-- and the book simulates the reference model at the end
+pub replay-ends : (cs : List Lending) (l : Lent) → Simulation (runs expectedStep cs (expectedFirst l) .1) (runs bookStep cs (worldFirst l) .1)
 replay-ends cs l = run-agrees cs (expectedFirst l) (worldFirst l) (start l) .1

@@ -20,9 +20,9 @@ use Rattle.skyline.specs.Skyline.{windowStart, dominatedIn, undominated, rows, 
 use Rattle.skyline.proofs.Stabbing.{free-of, of-free}
 use Rattle.model.specs.Rows.{Row}
 use Rattle.model.specs.Reference.{quoteAt, dominatesAt, rowOf, rowsOf}
-use Rattle.model.specs.Audit.{isWorst, outdone, rightEnd, unexplained}
+use Rattle.model.specs.Audit.{Small, isWorst, outdone, rightEnd, unexplained}
 use Rattle.model.proofs.Tables.{Fit}
-use Rattle.model.proofs.Worst.{Small, worst, length-worst, worst-small, worst-dominates-none, dominates-worst}
+use Rattle.model.proofs.Worst.{worst, length-worst, worst-small, worst-dominates-none, dominates-worst}
 use Rattle.model.proofs.Rules.{Rules}
 use Rattle.model.proofs.Plays.{holding, WideAll}
 

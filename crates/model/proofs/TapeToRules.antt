@@ -19,10 +19,10 @@ use Rattle.skyline.proofs.Stabbing.{free-of, of-free}
 use Rattle.skyline.proofs.Listed.{into-rows}
 use Rattle.model.specs.Rows.{Row}
 use Rattle.model.specs.Reference.{Reference, quoteAt, dominatesAt, newest, over, rowOf, rowsOf}
-use Rattle.model.specs.Audit.{isWorst, outdone, rightEnd, unexplained}
+use Rattle.model.specs.Audit.{Small, isWorst, outdone, rightEnd, unexplained}
 use Rattle.model.proofs.Quotes.{at-transitive}
 use Rattle.model.proofs.Sound.{positions-are}
-use Rattle.model.proofs.Worst.{Small, dominator-not-worst}
+use Rattle.model.proofs.Worst.{dominator-not-worst}
 use Rattle.model.proofs.Rules.{Rules}
 
 -- a younger row that dominates p

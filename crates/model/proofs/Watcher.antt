@@ -9,19 +9,19 @@ use Rattle.head.proofs.Settings.{settings-within}
 use Rattle.model.specs.Reference.{Reference, unopened, opened}
 use Rattle.model.specs.Calls.{Lending, Lent, Seen, World, Expected, bookStep, expectedStep, runs, worldFirst, expectedFirst, referenceAtEnd}
 use Rattle.model.specs.Watcher.{Held, Nothing, watcherStep, watcher, heldBy}
-use Rattle.model.proofs.Joined.{Faithful, Joined}
+use Rattle.model.proofs.Simulation.{Invariant, Simulation}
 use Rattle.model.proofs.Replay.{call-agrees, replay-ends}
 use Rattle.model.proofs.Following.{Bounded, follows}
 
--- the reference model is bounded wherever the two models are joined
-pub bounded : (s : Reference) (l : Lent) → (s ≡ unopened) ⊎ Faithful s l → Bounded s
+-- the reference model is bounded wherever a book simulates it
+pub bounded : (s : Reference) (l : Lent) → (s ≡ unopened) ⊎ Invariant s l → Bounded s
 unfolding opened rising
 bounded s l (inl e) = rw e (record { short = omega arith; small = omega arith; risen = refl })
 bounded s l (inr f) =
     record { short = f .within; small = settings-within (s .dimensions) (s .capacity) (s .directions) (f .settings) .small-capacity; risen = f .risen }
 
 -- over a list of calls, from what it is to hold on
-holds-on : (n : ℕ) (cs : List Lending) (k : Expected) (w : World) → Joined k w
+holds-on : (n : ℕ) (cs : List Lending) (k : Expected) (w : World) → Simulation k w
     → watcher n cs (runs bookStep cs w .0) (heldBy n (k .reference)) ≡ heldBy n (runs expectedStep cs k .1 .reference)
 unfolding watcher runs
 holds-on n [] k w j = refl

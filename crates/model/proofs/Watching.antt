@@ -20,14 +20,14 @@ use Rattle.model.specs.Changes.{frames}
 use Rattle.model.specs.Reference.{Reference, skylineOf, rowOf, rowsOf, headOf, opened, outside, withWatched, tells, referenceStep}
 use Rattle.model.specs.Book.{shortLoan, bookRows, listOf, replyOf, outOfRange, lookCells, lookAnswer, lookReply, lookOut, watchBytes, watchAnswer, watchReply, watchWatches, watchOut, endAnswer, endReply, endWatches}
 use Rattle.model.specs.Calls.{Look, Watch, End, Outputs, Lent, bookSeen, headAfter, worldAfter, bookStep, lengthsOf, shown, expectedStep}
-use Rattle.model.proofs.Joined.{Faithful, Joined, Agree, referenceWith, bookWith, long-records, in-range, joined, shown-opened, shown-still, watches-read, skyline-read, judged, judged-watchful}
+use Rattle.model.proofs.Simulation.{Invariant, Simulation, Agree, referenceWith, bookWith, long-records, in-range, simulation, shown-opened, shown-still, watches-read, skyline-read, judged, judged-watchful}
 
 -- the watches are no part of the head
 head-rewatched : (s : Reference) (ns : List ℕ) → headOf (withWatched s ns) ≡ headOf s
 unfolding headOf withWatched rowsOf rowOf
 head-rewatched s ns = refl
 
-module _ (s : Reference) (l : Lent) (f : Faithful s l) (n : ℕ) where
+module _ (s : Reference) (l : Lent) (f : Invariant s l) (n : ℕ) where
   -- the output is too short for what is written
   abbrev short : List ℕ → List ℕ → List (Bool × ℕ)
   short out written = (ltb (length out) (length written), number ShortOutput) ∷ []
@@ -58,8 +58,8 @@ module _ (s : Reference) (l : Lent) (f : Faithful s l) (n : ℕ) where
     looks = go look-answer refl
       where
         go : (a : ℕ) → look-answer ≡ a → Agree (Look n) o (referenceWith s l) (bookWith s l)
-        go zero e = rw (look-answers, e, look-cells (zero-passed _ _ _ (zero-passed _ _ _ e .1) .0), shown-still s l f) (refl, joined s l f)
-        go (suc k) e = rw (look-answers, e, shown-still s l f) (refl, joined s l f)
+        go zero e = rw (look-answers, e, look-cells (zero-passed _ _ _ (zero-passed _ _ _ e .1) .0), shown-still s l f) (refl, simulation s l f)
+        go (suc k) e = rw (look-answers, e, shown-still s l f) (refl, simulation s l f)
 
   -- ---- other watches
 
@@ -68,8 +68,8 @@ module _ (s : Reference) (l : Lent) (f : Faithful s l) (n : ℕ) where
     abbrev relent : Lent
     relent = record { tables = l .tables; watches = padded 8 ns (l .watches) }
 
-    -- other watches leave what is lent faithful
-    rewatched : Faithful (withWatched s ns) relent
+    -- the invariant holds with other watches
+    rewatched : Invariant (withWatched s ns) relent
     unfolding withWatched opened rowsOf rowOf shortLoan
     rewatched = record {
       settings = f .settings;
@@ -86,8 +86,8 @@ module _ (s : Reference) (l : Lent) (f : Faithful s l) (n : ℕ) where
     unfolding withWatched opened rowsOf rowOf
     shown-rewatched = shown-opened (withWatched s ns) l (f .settings) ∙ rw (f .tables)
 
-    joined-rewatched : Joined (referenceWith (withWatched s ns) relent) (bookWith s relent)
-    joined-rewatched = record { head = sym (head-rewatched s ns); lent = refl; since = inr rewatched }
+    simulation-rewatched : Simulation (referenceWith (withWatched s ns) relent) (bookWith s relent)
+    simulation-rewatched = record { head = sym (head-rewatched s ns); lent = refl; since = inr rewatched }
 
   -- ---- watch
 
@@ -133,8 +133,8 @@ module _ (s : Reference) (l : Lent) (f : Faithful s l) (n : ℕ) where
             let few : length (insert n (s .watched)) ≤ 8 = omega (arith, length-insert n (s .watched)) in
             let risen = rising-insert 1 (s .capacity) n (s .watched) (r .0) (r .1) (b .0) (f .risen) in
             rw (watch-answers, e, watch-bytes (a .0), watches-read s l f, shown-rewatched (insert n (s .watched)) few risen, head-rewatched s (insert n (s .watched)))
-            (refl, joined-rewatched (insert n (s .watched)) few risen)
-        go (suc k) e = rw (watch-answers, e, shown-still s l f) (refl, joined s l f)
+            (refl, simulation-rewatched (insert n (s .watched)) few risen)
+        go (suc k) e = rw (watch-answers, e, shown-still s l f) (refl, simulation s l f)
 
   -- ---- end
 
@@ -161,5 +161,5 @@ module _ (s : Reference) (l : Lent) (f : Faithful s l) (n : ℕ) where
       risen = rising-filter (λ m. not (eqb n m)) 1 (s .capacity) (s .watched) (f .risen)
 
       go : (a : ℕ) → end-answer ≡ a → Agree (End n) o (referenceWith s l) (bookWith s l)
-      go zero e = rw (end-answers, e, watches-read s l f, shown-rewatched ns few risen, head-rewatched s ns) (refl, joined-rewatched ns few risen)
-      go (suc k) e = rw (end-answers, e, shown-still s l f) (refl, joined s l f)
+      go zero e = rw (end-answers, e, watches-read s l f, shown-rewatched ns few risen, head-rewatched s ns) (refl, simulation-rewatched ns few risen)
+      go (suc k) e = rw (end-answers, e, shown-still s l f) (refl, simulation s l f)

@@ -14,11 +14,7 @@ use Rattle.lists.proofs.Booleans.{clash, refute, not-of}
 use Rattle.lists.proofs.Runs.{length-run, getD-run, any-true, any-at}
 use Rattle.dominance.specs.Dominance.{higher, better, betterAt, dominates}
 use Rattle.dominance.proofs.Columns.{dominates-columns, columns-dominate}
-use Rattle.model.specs.Audit.{largest, worstAt, isWorst}
-
--- each column holds what a cell can
-abbrev pub Small : List ℕ → Type 0
-Small x = (i : ℕ) → getD x i 0 ≤ largest
+use Rattle.model.specs.Audit.{largest, Small, worstAt, isWorst}
 
 module _ (d directions : ℕ) where
   -- the worst quote of d columns

@@ -2,7 +2,7 @@
 use mathlib.Core.Path.{_≡_}
 use Prim.Native.Nat.{ℕ, zero, suc, _-_, _*_, _≤_}
 use mathlib.Core.Bool.{Bool, true, false, _&&_, not, cond}
-use mathlib.Core.List.{List, [], _∷_, map}
+use mathlib.Core.List.{List, [], _∷_, map, List·Memᴰ}
 use lib.Dec.{ltb, eqb}
 use lib.ListN.{length, getD, take, drop}
 use Rattle.lists.specs.Lists.{filter, any, lastOr, run, between, contains}
@@ -14,12 +14,21 @@ use Rattle.head.specs.Refusals.{number, firstOf}
 use Rattle.head.specs.Replies.{Finding, yes, no, refused}
 use Rattle.head.specs.Heads.{settingsHold}
 use Rattle.model.specs.Rows.{Row, Tables, filled}
-use Rattle.model.specs.Reference.{Reference, unopened, Open, Quote, ample, Told, headOf, rowsOf, referenceStep}
+use Rattle.model.specs.Reference.{Reference, unopened, ample, Told, headOf, rowsOf, referenceStep}
 use Rattle.model.specs.Book.{shortTables, tornRows, bookRows}
+use Rattle.model.specs.Calls.{Open, Quote, Lending}
 
 -- the largest value of a column
 abbrev pub largest : ℕ
 largest = 4294967295
+
+-- each column holds what a cell can
+abbrev pub Small : List ℕ → Type 0
+Small x = (i : ℕ) → getD x i 0 ≤ largest
+
+-- every quote of a list of calls holds what cells can
+abbrev pub SmallQuotes : List Lending → Type 0
+SmallQuotes cs = (c : Lending) (x : List ℕ) → List·Memᴰ c cs → c .call ≡ Quote x → Small x
 
 -- the worst value of column i
 unfoldable pub worstAt : ℕ → ℕ → ℕ
@@ -84,7 +93,7 @@ plays (x ∷ xs) s = plays xs (referenceStep (Quote x) ample s .next)
 -- newest position is M says that every quote was accepted
 pub record Tape (h : Head) (t : Tables) : Type 0 where
   pub quotes : List (List ℕ)
-  pub values : (k i : ℕ) → getD (getD quotes k []) i 0 ≤ largest
+  pub values : (k : ℕ) → Small (getD quotes k [])
   pub accepted : tapeOpening h .number ≡ 0
   pub count : length quotes ≡ h .newest
   pub head : headOf (plays quotes (tapeOpening h .next)) ≡ h

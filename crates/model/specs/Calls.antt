@@ -141,9 +141,13 @@ module _ (cs : List Lending) (l : Lent) where
   abbrev pub worldAtEnd : World
   worldAtEnd = runs bookStep cs (worldFirst l) .1
 
+  -- the reference model and what is lent at the end of a list of calls
+  abbrev pub expectedAtEnd : Expected
+  expectedAtEnd = runs expectedStep cs (expectedFirst l) .1
+
   -- the reference model at the end of a list of calls
   abbrev pub referenceAtEnd : Reference
-  referenceAtEnd = runs expectedStep cs (expectedFirst l) .1 .reference
+  referenceAtEnd = expectedAtEnd .reference
 
 -- the positions of the rows that the head and the tables of a book hold
 abbrev pub positionsIn : World → List ℕ

@@ -7,4 +7,5 @@ pub mod Calls
 pub mod Promises
 pub mod Watcher
 pub mod Audit
+pub mod Claims
 pub mod Marked

@@ -12,7 +12,7 @@ use Rattle.lists.proofs.Booleans.{and-left, and-right, none-left, none-right}
 use Rattle.head.specs.declared.Head.{Head}
 use Rattle.head.specs.declared.Refusal.the-variants.{Settings}
 use Rattle.head.specs.Refusals.{number, firstOf}
-use Rattle.head.specs.Heads.{lastPosition}
+use Rattle.head.specs.Heads.{settingsHold, lastPosition}
 use Rattle.head.proofs.Settings.{settings-within}
 use Rattle.model.specs.Rows.{Tables, rowsIn, filled}
 use Rattle.model.specs.Reference.{Reference, unopened, newest, skylineOf, rowsOf, headOf, opened, outside}
@@ -24,7 +24,7 @@ use Rattle.model.proofs.Sound.{Wide, rows-none, rows-few, rows-wide, ro
 
 -- from the first accepted opening on: what is lent is filled from the reference model, whose settings hold, whose quotes have d
 -- columns each and are not too many, and whose watched n rise from 1 to N and are at most eight
-pub record Faithful (s : Reference) (l : Lent) : Type 0 where
+pub record Invariant (s : Reference) (l : Lent) : Type 0 where
   pub settings : opened s ≡ true
   pub wide : Wide s
   pub within : newest s ≤ lastPosition
@@ -35,11 +35,11 @@ pub record Faithful (s : Reference) (l : Lent) : Type 0 where
   pub eight : length (s .watched) ≤ 8
 
 -- between two calls: the head is the reference model's, both models are lent the same, and either no opening was accepted or what
--- is lent is faithful
-pub record Joined (k : Expected) (w : World) : Type 0 where
+-- is lent keeps the invariant
+pub record Simulation (k : Expected) (w : World) : Type 0 where
   pub head : w .head ≡ headOf (k .reference)
   pub lent : w .lent ≡ k .lent
-  pub since : (k .reference ≡ unopened) ⊎ Faithful (k .reference) (k .lent)
+  pub since : (k .reference ≡ unopened) ⊎ Invariant (k .reference) (k .lent)
 
 -- what is lent is long enough: the tables
 pub long-tables : (t : Tables) (ws : List ℕ) (d N : ℕ) → shortLoan t ws d N ≡ false → shortTables t d N ≡ false
@@ -51,9 +51,9 @@ pub long-records : (t : Tables) (ws : List ℕ) (d N : ℕ) → shortLoan t ws d
 unfolding shortLoan
 long-records t ws d N e = ltb-false (length ws) 8 (none-right (shortTables t d N) (ltb (length ws) 8) e)
 
--- what is seen of a call is the same in both models, and they stand joined after it
+-- what is seen of a call is the same in both models, and the book simulates the reference model after it
 abbrev pub Agree : Call → Outputs → Expected → World → Type 0
-Agree c o k w = (bookStep c o w .0 ≡ expectedStep c o k .0) × Joined (expectedStep c o k .1) (bookStep c o w .1)
+Agree c o k w = (bookStep c o w .0 ≡ expectedStep c o k .0) × Simulation (expectedStep c o k .1) (bookStep c o w .1)
 
 -- the reference model, with what is lent
 abbrev pub referenceWith : Reference → Lent → Expected
@@ -81,10 +81,10 @@ pub shown-opened : (s : Reference) (l : Lent) → opened s ≡ true
 unfolding shown
 shown-opened s l e = rw e
 
-module _ (s : Reference) (l : Lent) (f : Faithful s l) where
-  -- the two models then stand joined
-  pub joined : Joined (referenceWith s l) (bookWith s l)
-  joined = record { head = refl; lent = refl; since = inr f }
+module _ (s : Reference) (l : Lent) (f : Invariant s l) where
+  -- then the book simulates the reference model
+  pub simulation : Simulation (referenceWith s l) (bookWith s l)
+  simulation = record { head = refl; lent = refl; since = inr f }
 
   -- what is lent is as the reference model shows it
   pub shown-still : shown s l ≡ l
@@ -125,19 +125,25 @@ module _ (s : Reference) (l : Lent) (f : Faithful s l) where
   unfolding watchfulAnswer firstOf headOf opened
   judged-watchful more more' e = rw (f .settings, f .long, rows-read, rows-whole, watches-whole) e
 
--- what holds before any opening and of what is faithful holds wherever the two models stand joined
-pub joined-by : (P : Expected → World → Type 0) → ((l : Lent) → P (referenceWith unopened l) (bookWith unopened l))
-    → ((s : Reference) (l : Lent) → Faithful s l → P (referenceWith s l) (bookWith s l)) → (k : Expected) (w : World) → Joined k w → P k w
-joined-by P before after k w j = rw same (go (k .reference) (j .since))
+-- what holds before any opening and by the invariant holds of every simulation
+pub simulation-by : (P : Expected → World → Type 0) → ((l : Lent) → P (referenceWith unopened l) (bookWith unopened l))
+    → ((s : Reference) (l : Lent) → Invariant s l → P (referenceWith s l) (bookWith s l)) → (k : Expected) (w : World) → Simulation k w → P k w
+simulation-by P before after k w j = rw same (go (k .reference) (j .since))
   where
     same : w ≡ bookWith (k .reference) (k .lent)
     same = ap₂ (λ (h : Head) (l : Lent). let v : World = record { head = h; lent = l } in v) (j .head) (j .lent)
 
-    go : (s : Reference) → (s ≡ unopened) ⊎ Faithful s (k .lent) → P (referenceWith s (k .lent)) (bookWith s (k .lent))
+    go : (s : Reference) → (s ≡ unopened) ⊎ Invariant s (k .lent) → P (referenceWith s (k .lent)) (bookWith s (k .lent))
     go s (inl e) = rw e (before (k .lent))
     go s (inr f) = after s (k .lent) f
 
+-- what is lent is as the reference model shows it, opened or not
+pub shown-same : (s : Reference) (l : Lent) → (s ≡ unopened) ⊎ Invariant s l → shown s l ≡ l
+unfolding shown opened settingsHold
+shown-same s l (inl e) = rw e
+shown-same s l (inr f) = shown-still s l f
+
 -- the book model reads the reference model's rows, opened or not
-pub joined-rows : (k : Expected) (w : World) → Joined k w → bookRows (w .head) (w .lent .tables) ≡ rowsOf (k .reference)
+pub simulation-rows : (k : Expected) (w : World) → Simulation k w → bookRows (w .head) (w .lent .tables) ≡ rowsOf (k .reference)
 unfolding bookRows headOf rowsIn run
-joined-rows = joined-by (λ k w. bookRows (w .head) (w .lent .tables) ≡ rowsOf (k .reference)) (λ l. rw (rows-none unopened refl)) rows-read
+simulation-rows = simulation-by (λ k w. bookRows (w .head) (w .lent .tables) ≡ rowsOf (k .reference)) (λ l. rw (rows-none unopened refl)) rows-read

@@ -1,0 +1,64 @@
+-- The one theorem of demand 3: calls that were made, each on what the one before left and each meeting its promise, refine the reference
+-- model.
+use mathlib.Core.Path.{_≡_, refl, sym, ap, subst, _∙_}
+use Prim.Native.Nat.{ℕ, zero, suc, zero-le}
+use mathlib.Core.List.{List, [], _∷_}
+use lib.ListN.{take}
+use Rattle.model.specs.Calls.{Call, Outputs, Lending, Lent, Seen, World, bookSeen, worldAfter, bookStep, runs, worldFirst, expectedFirst, expectedAtEnd, worldAtEnd, referenceAtEnd}
+use Rattle.model.specs.Watcher.{Nothing, watcher}
+use Rattle.model.specs.Claims.{Made, opened, quoted, looked, watched, ended, AllMade, none, next, lastHead, Refines}
+use Rattle.model.proofs.Simulation.{shown-same}
+use Rattle.model.proofs.Replay.{replay, replay-ends}
+use Rattle.model.proofs.Kept.{kept-iff-listed, dropped-never-listed}
+use Rattle.model.proofs.Watcher.{watcher-holds-skyline}
+use Rattle.model.proofs.Passing.{small-runs, simulation-passes}
+
+-- what is seen of a call that met its promise is what the book model says
+made-seen : {c : Call} {o : Outputs} {w : World} {s : Seen} → Made c o w s → s ≡ bookSeen c o w
+unfolding bookSeen
+made-seen (opened m) = rw (m .reply, m .lent, m .watches)
+made-seen (quoted m) = rw (m .reply, m .lent, m .out)
+made-seen (looked m) = rw (m .reply, m .out)
+made-seen (watched m) = rw (m .reply, m .watches, m .out)
+made-seen (ended m) = rw (m .reply, m .watches)
+
+-- so is what is seen of a list of calls, and the book at its end
+all-made : {cs : List Lending} {w : World} {ss : List Seen} {end : World} → AllMade cs w ss end → (ss ≡ runs bookStep cs w .0) × (end ≡ runs bookStep cs w .1)
+unfolding runs bookStep
+all-made none = (refl, refl)
+all-made (next {c} {cs} {w} {s} {ss} {end} m rest) =
+    let r = all-made rest in
+    subst (λ (v : Seen). let on = runs bookStep cs (worldAfter (c .call) v w) in (_≡_ {A = List Seen} (s ∷ ss) (v ∷ on .0)) × (end ≡ on .1)) (made-seen m)
+    (ap (λ (l : List Seen). s ∷ l) (r .0), r .1)
+
+-- the head at the end is the one last handed back by a call that was no refused opening
+head-made : {cs : List Lending} {w : World} {ss : List Seen} {end : World} → AllMade cs w ss end → end .head ≡ lastHead cs ss (w .head)
+unfolding lastHead worldAfter
+head-made none = refl
+head-made (next m rest) = head-made rest
+
+-- what is seen of the first calls of a list
+first-seen : (k : ℕ) (cs : List Lending) (w : World) → runs bookStep (take k cs) w .0 ≡ take k (runs bookStep cs w .0)
+unfolding runs
+first-seen zero cs w = refl
+first-seen (suc k) [] w = refl
+first-seen (suc k) (c ∷ cs) w =
+    let one = bookStep (c .call) (c .outputs) w in
+    ap (λ (l : List Seen). one .0 ∷ l) (first-seen k cs (one .1))
+
+-- calls that were made from a head of zeros on anything lent refine the reference model
+pub calls-refine : (cs : List Lending) (l : Lent) (ss : List Seen) (end : World) → AllMade cs (worldFirst l) ss end → Refines cs l ss end
+calls-refine cs l ss end m =
+    let made = all-made m in
+    let j = replay-ends cs l in
+    rw (made .0, made .1) record {
+      seen-alike = replay cs l;
+      head-alike = j .head;
+      head-last = rw (made .0, made .1) at (head-made m);
+      lent-alike = j .lent;
+      lent-filled = rw (j .lent) (shown-same (referenceAtEnd cs l) (expectedAtEnd cs l .lent) (j .since));
+      kept-iff-listed = kept-iff-listed cs l;
+      dropped-never-listed = dropped-never-listed cs l;
+      watcher-holds-list = λ n k. ap (λ (seen : List Seen). watcher n (take k cs) seen Nothing) (sym (first-seen k cs (worldFirst l))) ∙ watcher-holds-skyline n (take k cs) l;
+      passes-audit = λ small e. simulation-passes (expectedAtEnd cs l) (worldAtEnd cs l) j (small-runs cs (expectedFirst l) small (λ i j. zero-le)) e;
+    }

@@ -1,0 +1,70 @@
+-- Calls that were made, each meeting its promise on what the one before left, and all that demand 3 says of a list of them.
+use mathlib.Core.Path.{_≡_}
+use mathlib.Core.Logic.{_↔_}
+use Prim.Native.Nat.{ℕ, _≤_}
+use mathlib.Core.Bool.{true}
+use mathlib.Core.List.{List, [], _∷_, List·Memᴰ}
+use lib.ListN.{take}
+use Rattle.head.specs.declared.Head.{Head}
+use Rattle.head.specs.declared.Reply.{Reply}
+use Rattle.head.specs.Heads.{freshHead}
+use Rattle.head.specs.Replies.{outcome, yes}
+use Rattle.model.specs.Rows.{Tables}
+use Rattle.model.specs.Reference.{newest, skylineOf, headOf, opened as isOpened, withQuotes}
+use Rattle.model.specs.Calls.{Call, Open, Quote, Look, Watch, End, Outputs, Lending, Lent, Seen, World, headAfter, worldAfter, shown, expectedStep, runs, expectedFirst, expectedAtEnd, referenceAtEnd, positionsIn}
+use Rattle.model.specs.Promises.{world, Opened, Quoted, Looked, Watched, Ended}
+use Rattle.model.specs.Watcher.{Nothing, watcher, heldBy}
+use Rattle.model.specs.Audit.{SmallQuotes, auditFinding}
+
+-- what is seen of a call that left this reply, these outputs, these tables and these watches
+abbrev pub seen : Reply → Outputs → Tables → List ℕ → Seen
+seen r o t ws = record { outcome = outcome r; outputs = o; lent = record { tables = t; watches = ws } }
+
+-- a call was made on a book, met its promise, and left this to be seen
+pub data Made : Call → Outputs → World → Seen → Type 0 where
+  opened : {d N directions : ℕ} {o : Outputs} {h : Head} {t : Tables} {ws : List ℕ} {r : Reply} {t' : Tables} {ws' : List ℕ}
+      → Opened d N directions t ws r t' ws' → Made (Open d N directions) o (world h t ws) (seen r o t' ws')
+  quoted : {x : List ℕ} {o : Outputs} {h : Head} {t : Tables} {ws : List ℕ} {r : Reply} {t' : Tables} {bytes : List ℕ}
+      → Quoted h x t ws (o .bytes) r t' bytes → Made (Quote x) o (world h t ws) (seen r (record { bytes = bytes; cells = o .cells }) t' ws)
+  looked : {n : ℕ} {o : Outputs} {h : Head} {t : Tables} {ws : List ℕ} {r : Reply} {cells : List ℕ}
+      → Looked h n t (o .cells) r cells → Made (Look n) o (world h t ws) (seen r (record { bytes = o .bytes; cells = cells }) t ws)
+  watched : {n : ℕ} {o : Outputs} {h : Head} {t : Tables} {ws : List ℕ} {r : Reply} {ws' bytes : List ℕ}
+      → Watched h n t ws (o .bytes) r ws' bytes → Made (Watch n) o (world h t ws) (seen r (record { bytes = bytes; cells = o .cells }) t ws')
+  ended : {n : ℕ} {o : Outputs} {h : Head} {t : Tables} {ws : List ℕ} {r : Reply} {ws' : List ℕ}
+      → Ended h n t ws r ws' → Made (End n) o (world h t ws) (seen r o t ws')
+
+-- a list of calls was made on a book, each on what the one before left (it gets the head handed back, unless by a refused opening), and
+-- left this to be seen after each, and this book at the end
+pub data AllMade : List Lending → World → List Seen → World → Type 0 where
+  none : {w : World} → AllMade [] w [] w
+  next : {c : Lending} {cs : List Lending} {w : World} {s : Seen} {ss : List Seen} {end : World}
+      → Made (c .call) (c .outputs) w s → AllMade cs (worldAfter (c .call) s w) ss end → AllMade (c ∷ cs) w (s ∷ ss) end
+
+-- the head handed back by the last call that was no refused opening, or this one where there was none
+unfoldable pub lastHead : List Lending → List Seen → Head → Head
+lastHead [] ss h = h
+lastHead (c ∷ cs) [] h = h
+lastHead (c ∷ cs) (s ∷ ss) h = lastHead cs ss (headAfter (c .call) (s .outcome) h)
+
+-- all that demand 3 says of a list of calls from a head of zeros on anything lent, of what was seen after each, and of the book at the end
+pub record Refines (cs : List Lending) (l : Lent) (ss : List Seen) (end : World) : Type 0 where
+  -- refusal, count, head, every byte and cell of the outputs, tables, records and all else lent: after each call as the reference
+  -- model shows
+  pub seen-alike : ss ≡ runs expectedStep cs (expectedFirst l) .0
+  -- the head that stands at the end is the reference model's: its settings, M and number of rows, or zeros where no opening was accepted
+  pub head-alike : end .head ≡ headOf (referenceAtEnd cs l)
+  -- and the one last handed back by a call that was no refused opening, or the zeros where there was none
+  pub head-last : end .head ≡ lastHead cs ss (freshHead 0 0 0)
+  -- everything lent is at the end as the reference model shows
+  pub lent-alike : end .lent ≡ expectedAtEnd cs l .lent
+  -- from the first accepted opening on the N places of each table are filled from its rows, and the eight records from its watched n
+  pub lent-filled : shown (referenceAtEnd cs l) (end .lent) ≡ end .lent
+  -- a position has a row at the end exactly if some n from 1 to N lists it
+  pub kept-iff-listed : (p : ℕ) → List·Memᴰ p (positionsIn end) ↔ ((n : ℕ) × (1 ≤ n) × (n ≤ referenceAtEnd cs l .capacity) × List·Memᴰ p (skylineOf (referenceAtEnd cs l) n))
+  -- one without a row is listed by no n up to N, then or after any further quotes
+  pub dropped-never-listed : (more : List (List ℕ)) (p n : ℕ) → p ≤ newest (referenceAtEnd cs l) → n ≤ referenceAtEnd cs l .capacity
+      → (List·Memᴰ p (positionsIn end) → ⊥) → List·Memᴰ p (skylineOf (withQuotes (referenceAtEnd cs l) more) n) → ⊥
+  -- after each call a watcher of n who applied the changes holds the list of n, and nothing while n is not watched
+  pub watcher-holds-list : (n k : ℕ) → watcher n (take k cs) (take k ss) Nothing ≡ heldBy n (referenceAtEnd (take k cs) l)
+  -- once an opening was accepted the book passes the audit, where the quotes are numbers of 32 bits
+  pub passes-audit : SmallQuotes cs → isOpened (referenceAtEnd cs l) ≡ true → auditFinding (end .head) (end .lent .tables) ≡ yes
