@@ -57,14 +57,14 @@ listOf h rs n = listed (windowStart (h .newest) n) rs
 -- the answer of a call on the tables alone, 0 if accepted: 3, 11, 12, then what the call adds
 unfoldable pub answerOf : Head → Tables → List (Bool × ℕ) → ℕ
 answerOf h t more =
-    firstOf ((not (settingsHold (h .dimensions) (h .capacity) (h .directions)), number Settings) ∷ (shortTables t (h .dimensions) (h .capacity), number ShortLoan)
-    ∷ (tornRows h (bookRows h t), number Torn) ∷ more)
+    firstOf ((not (settingsHold (h .dimensions) (h .capacity) (h .directions)), number Settings)
+    ∷ (shortTables t (h .dimensions) (h .capacity), number ShortLoan) ∷ (tornRows h (bookRows h t), number Torn) ∷ more)
 
 -- the answer of a call on the tables and the watches, 0 if accepted: 3, 11, 12, then what the call adds
 unfoldable pub watchfulAnswer : Head → Tables → List ℕ → List (Bool × ℕ) → ℕ
 watchfulAnswer h t ws more =
-    firstOf ((not (settingsHold (h .dimensions) (h .capacity) (h .directions)), number Settings) ∷ (shortLoan t ws (h .dimensions) (h .capacity), number ShortLoan)
-    ∷ (tornRows h (bookRows h t) || tornWatches (h .capacity) ws, number Torn) ∷ more)
+    firstOf ((not (settingsHold (h .dimensions) (h .capacity) (h .directions)), number Settings)
+    ∷ (shortLoan t ws (h .dimensions) (h .capacity), number ShortLoan) ∷ (tornRows h (bookRows h t) || tornWatches (h .capacity) ws, number Torn) ∷ more)
 
 -- what a call hands back: if accepted the next head and the count, else the head as it came and 0
 unfoldable pub replyOf : ℕ → Head → Head → ℕ → Outcome
@@ -158,8 +158,8 @@ module _ (h : Head) (n : ℕ) (t : Tables) (ws : List ℕ) where
   -- the answer of a watch with this room for its joins: 3, 11, 12, then 5, 8, 9, 13
   unfoldable pub watchAnswer : ℕ → ℕ
   watchAnswer room =
-      watchfulAnswer h t ws ((outOfRange h n, number WindowSize) ∷ (contains n (standing ws), number AlreadyWatched) ∷ (leb 8 (length (standing ws)), number NoFreeRecord)
-      ∷ (ltb room (length watchBytes), number ShortOutput) ∷ [])
+      watchfulAnswer h t ws ((outOfRange h n, number WindowSize) ∷ (contains n (standing ws), number AlreadyWatched)
+      ∷ (leb 8 (length (standing ws)), number NoFreeRecord) ∷ (ltb room (length watchBytes), number ShortOutput) ∷ [])
 
   -- what a watch hands back
   unfoldable pub watchReply : ℕ → Outcome

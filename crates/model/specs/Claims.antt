@@ -60,7 +60,8 @@ pub record Refines (cs : List Lending) (l : Lent) (ss : List Seen) (end : World)
   -- from the first accepted opening on the N places of each table are filled from its rows, and the eight records from its watched n
   pub lent-filled : shown (referenceAtEnd cs l) (end .lent) ≡ end .lent
   -- a position has a row at the end exactly if some n from 1 to N lists it
-  pub kept-iff-listed : (p : ℕ) → List·Memᴰ p (positionsIn end) ↔ ((n : ℕ) × (1 ≤ n) × (n ≤ referenceAtEnd cs l .capacity) × List·Memᴰ p (skylineOf (referenceAtEnd cs l) n))
+  pub kept-iff-listed : (p : ℕ)
+      → List·Memᴰ p (positionsIn end) ↔ ((n : ℕ) × (1 ≤ n) × (n ≤ referenceAtEnd cs l .capacity) × List·Memᴰ p (skylineOf (referenceAtEnd cs l) n))
   -- one without a row is listed by no n up to N, then or after any further quotes
   pub dropped-never-listed : (more : List (List ℕ)) (p n : ℕ) → p ≤ newest (referenceAtEnd cs l) → n ≤ referenceAtEnd cs l .capacity
       → (List·Memᴰ p (positionsIn end) → ⊥) → List·Memᴰ p (skylineOf (withQuotes (referenceAtEnd cs l) more) n) → ⊥

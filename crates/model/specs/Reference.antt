@@ -121,38 +121,40 @@ pub record Told : Type 0 where
 unfoldable pub tooShort : Lengths → ℕ → ℕ → Bool
 tooShort l d N = ltb (l .columns) (N * d) || ltb (l .positions) N || ltb (l .lowerEnds) N || ltb (l .watches) 8
 
--- a call with this number: if accepted it tells the next model, the count, and what is written as bytes and as cells; a refused one
--- leaves the model as it is
-unfoldable pub tells : ℕ → Head → ℕ → List ℕ → List ℕ → Reference → Reference → Told
-tells number refusedHead count bytes cells next s = record {
-  number = number;
-  head = granted number (headOf next) refusedHead;
-  count = granted number count 0;
-  bytes = granted number bytes [];
-  cells = granted number cells [];
-  next = granted number next s;
-}
+-- a call with these refusals, tried in order: if accepted it tells the next model, the count, and what is written as bytes and as
+-- cells; a refused one leaves the model as it is
+unfoldable pub tells : List (Bool × ℕ) → Head → ℕ → List ℕ → List ℕ → Reference → Reference → Told
+tells refusals refusedHead count bytes cells next s =
+    let refusal = firstOf refusals in
+    record {
+      number = refusal;
+      head = granted refusal (headOf next) refusedHead;
+      count = granted refusal count 0;
+      bytes = granted refusal bytes [];
+      cells = granted refusal cells [];
+      next = granted refusal next s;
+    }
 
 -- one call of the reference model, its refusals in 01's order
 unfoldable pub referenceStep : Call → Lengths → Reference → Told
 referenceStep (Open d N directions) l s =
-    let refusal = firstOf ((not (settingsHold d N directions), number Settings) ∷ (tooShort l d N, number ShortLoan) ∷ []) in
-    tells refusal (freshHead 0 0 0) 0 [] [] (opening d N directions) s
+    tells ((not (settingsHold d N directions), number Settings) ∷ (tooShort l d N, number ShortLoan) ∷ [])
+    (freshHead 0 0 0) 0 [] [] (opening d N directions) s
 referenceStep (Quote x) l s =
     let next = withQuote s x in
     let written = frames (allChanges (s .watched) (skylineOf s) (skylineOf next)) in
-    let refusal = firstOf ((not (opened s), number Settings) ∷ (not (eqb (length x) (s .dimensions)), number ColumnCount)
-    ∷ (leb lastPosition (newest s), number TapeFull) ∷ (ltb (l .bytes) (length written), number ShortOutput) ∷ []) in
-    tells refusal (headOf s) (length written) written [] next s
+    tells ((not (opened s), number Settings) ∷ (not (eqb (length x) (s .dimensions)), number ColumnCount)
+    ∷ (leb lastPosition (newest s), number TapeFull) ∷ (ltb (l .bytes) (length written), number ShortOutput) ∷ [])
+    (headOf s) (length written) written [] next s
 referenceStep (Look n) l s =
     let written = skylineOf s n in
-    let refusal = firstOf ((not (opened s), number Settings) ∷ (outside s n, number WindowSize) ∷ (ltb (l .cells) (length written), number ShortOutput) ∷ []) in
-    tells refusal (headOf s) (length written) [] written s s
+    tells ((not (opened s), number Settings) ∷ (outside s n, number WindowSize) ∷ (ltb (l .cells) (length written), number ShortOutput) ∷ [])
+    (headOf s) (length written) [] written s s
 referenceStep (Watch n) l s =
     let written = frames (map (Join n) (skylineOf s n)) in
-    let refusal = firstOf ((not (opened s), number Settings) ∷ (outside s n, number WindowSize) ∷ (contains n (s .watched), number AlreadyWatched)
-    ∷ (leb 8 (length (s .watched)), number NoFreeRecord) ∷ (ltb (l .bytes) (length written), number ShortOutput) ∷ []) in
-    tells refusal (headOf s) (length written) written [] (withWatched s (insert n (s .watched))) s
+    tells ((not (opened s), number Settings) ∷ (outside s n, number WindowSize) ∷ (contains n (s .watched), number AlreadyWatched)
+    ∷ (leb 8 (length (s .watched)), number NoFreeRecord) ∷ (ltb (l .bytes) (length written), number ShortOutput) ∷ [])
+    (headOf s) (length written) written [] (withWatched s (insert n (s .watched))) s
 referenceStep (End n) l s =
-    let refusal = firstOf ((not (opened s), number Settings) ∷ (outside s n, number WindowSize) ∷ (not (contains n (s .watched)), number NotWatched) ∷ []) in
-    tells refusal (headOf s) 0 [] [] (withWatched s (without n (s .watched))) s
+    tells ((not (opened s), number Settings) ∷ (outside s n, number WindowSize) ∷ (not (contains n (s .watched)), number NotWatched) ∷ [])
+    (headOf s) 0 [] [] (withWatched s (without n (s .watched))) s
