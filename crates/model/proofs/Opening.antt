@@ -1,6 +1,6 @@
 -- An opening is answered alike by both models, whatever stood before.
 use mathlib.Core.Path.{_≡_, refl, sym, _∙_}
-use mathlib.Core.Logic.{_⊎_, inl, inr}
+use mathlib.Core.Logic.{_⊎_, inr}
 use Prim.Native.Nat.{ℕ, zero, suc, zero-le}
 use native.Mathlib.Omega.{arith}
 use mathlib.Core.Bool.{true, false}

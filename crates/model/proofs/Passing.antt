@@ -12,7 +12,7 @@ use Rattle.head.specs.Heads.{settingsHold}
 use Rattle.model.specs.Reference.{Reference, Lengths, unopened, headOf, opened, withQuote, withWatched, opening, tells, referenceStep}
 use Rattle.model.specs.Calls.{Call, Open, Quote, Look, Watch, End, Lending, Lent, World, Expected, lengthsOf, expectedStep, runs, Reached}
 use Rattle.model.specs.Audit.{Small, SmallQuotes, auditFinding}
-use Rattle.model.proofs.Simulation.{Invariant, Simulation, bookWith, some-capacity, simulation-by}
+use Rattle.model.proofs.Simulation.{Invariant, Simulation, some-capacity, simulation-by}
 use Rattle.model.proofs.Reached.{expected, reached-simulation}
 use Rattle.model.proofs.Rules.{yes-iff-passed}
 use Rattle.model.proofs.Audit.{left-passes}

@@ -5,7 +5,7 @@ use mathlib.Core.Logic.{inl, inr}
 use mathlib.Core.List.{List, [], _∷_}
 use Rattle.lists.specs.Lists.{laid}
 use Rattle.head.specs.Refusals.{firstOf, granted}
-use Rattle.head.specs.Heads.{freshHead, settingsHold}
+use Rattle.head.specs.Heads.{settingsHold}
 use Rattle.model.specs.Reference.{Reference, unopened, headOf, opened, tells, referenceStep}
 use Rattle.model.specs.Book.{answerOf, watchfulAnswer, replyOf, quoteAnswer, quoteReply, quoteTables, quoteOut, lookAnswer, lookReply, lookOut, watchAnswer, watchReply, watchWatches, watchOut, endAnswer, endReply, endWatches}
 use Rattle.model.specs.Calls.{Call, Open, Quote, Look, Watch, End, Outputs, Lending, Lent, Seen, World, bookSeen, headAfter, worldAfter, bookStep, lengthsOf, shown, Expected, expectedStep, runs, worldFirst, expectedFirst}

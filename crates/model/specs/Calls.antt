@@ -10,7 +10,7 @@ use Rattle.head.specs.Heads.{freshHead}
 use Rattle.head.specs.Refusals.{granted}
 use Rattle.head.specs.Replies.{Outcome}
 use Rattle.model.specs.Rows.{Row, Tables, filled}
-use Rattle.model.specs.Reference.{Reference, unopened, Lengths, Told, rowsOf, opened, referenceStep}
+use Rattle.model.specs.Reference.{Reference, unopened, Lengths, rowsOf, opened, referenceStep}
 pub use Rattle.model.specs.Reference.{Call, Open, Quote, Look, Watch, End}
 use Rattle.model.specs.Book
 
