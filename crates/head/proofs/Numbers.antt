@@ -2,9 +2,12 @@
 use mathlib.Core.Path.{_≡_, refl, sym, ap, _∙_}
 use Prim.Native.Nat.{ℕ, zero, suc, _≤_}
 use native.Mathlib.Omega.{arith}
-use mathlib.Core.Bool.{Bool, true, false}
+use mathlib.Core.Bool.{Bool, true, false, _&&_}
 use mathlib.Core.List.{List, [], _∷_, _++_}
+use lib.Dec.{ltb}
 use lib.ListN.{getD}
+use borrow.Author.Tests.{ltb-true}
+use Rattle.lists.proofs.Booleans.{and-left, and-right}
 use Rattle.head.specs.declared.Refusal.{Refusal}
 use Rattle.head.specs.declared.Refusal.the-variants.{UnknownKind, CutFrame, Settings, ColumnCount, WindowSize, TapeFull, OutOfPlace, AlreadyWatched, NoFreeRecord, NotWatched, ShortLoan, Torn, ShortOutput}
 use Rattle.head.specs.declared.Answer.{Answer}
@@ -124,6 +127,28 @@ unfolding granted settled
 granted-settled Accepted a r = refl
 granted-settled (Refused k) a r = refused-granted k a r
 
+-- ---- conditions behind others
+
+-- no condition has the number 0
+abbrev pub positive : List (Bool × ℕ) → Bool
+positive [] = true
+positive (c ∷ cs) = ltb 0 (c .1) && positive cs
+
+-- where none of the first conditions holds the ones behind them count
+pub firstOf-append : (cs more : List (Bool × ℕ)) → positive cs ≡ true → firstOf (cs ++ more) ≡ granted (firstOf cs) (firstOf more) (firstOf cs)
+unfolding firstOf granted
+firstOf-append [] more p = refl
+firstOf-append (c ∷ cs) more p =
+    let above = ltb-true 0 (c .1) (and-left (ltb 0 (c .1)) (positive cs) p) in
+    go (c .0) (firstOf-append cs more (and-right (ltb 0 (c .1)) (positive cs) p)) above
+  where
+    go : (b : Bool) → firstOf (cs ++ more) ≡ granted (firstOf cs) (firstOf more) (firstOf cs) → 1 ≤ c .1
+        → firstOf ((b, c .1) ∷ (cs ++ more)) ≡ granted (firstOf ((b, c .1) ∷ cs)) (firstOf more) (firstOf ((b, c .1) ∷ cs))
+    go true r above = sym (granted-refused (c .1) above (firstOf more) (c .1))
+    go false r above = r
+
+-- ---- from refusals to their numbers
+
 -- conditions with the numbers of their refusals
 abbrev pub numbered : List (Bool × Refusal) → List (Bool × ℕ)
 numbered [] = []
@@ -137,15 +162,4 @@ first-number (c ∷ cs) = go (c .0) (first-number cs)
   where
     go : (b : Bool) → numberOf (first cs) ≡ firstOf (numbered cs) → numberOf (first ((b, c .1) ∷ cs)) ≡ firstOf ((b, number (c .1)) ∷ numbered cs)
     go true r = refl
-    go false r = r
-
--- conditions and more behind them: where none of the first holds the others count
-pub firstOf-append : (cs : List (Bool × Refusal)) (more : List (Bool × ℕ)) → firstOf (numbered cs ++ more) ≡ granted (firstOf (numbered cs)) (firstOf more) (firstOf (numbered cs))
-unfolding firstOf granted
-firstOf-append [] more = refl
-firstOf-append (c ∷ cs) more = go (c .0) (firstOf-append cs more)
-  where
-    go : (b : Bool) → firstOf (numbered cs ++ more) ≡ granted (firstOf (numbered cs)) (firstOf more) (firstOf (numbered cs))
-        → firstOf ((b, number (c .1)) ∷ (numbered cs ++ more)) ≡ granted (firstOf ((b, number (c .1)) ∷ numbered cs)) (firstOf more) (firstOf ((b, number (c .1)) ∷ numbered cs))
-    go true r = sym (refused-granted (c .1) (firstOf more) (number (c .1)))
     go false r = r

@@ -1,4 +1,5 @@
 -- The theorems of the crate.
+pub mod Replying
 pub mod Quotes
 pub mod Tables
 pub mod Sound
