@@ -1,4 +1,5 @@
 -- The laws of the crate.
+pub mod Shapes
 pub mod Reading
 pub mod RoundTrips
 pub mod ReadCases

@@ -1,3 +1,5 @@
 -- The definitions of the crate.
+pub mod Kinds
 pub mod Frames
 pub mod Writing
+pub mod Messages

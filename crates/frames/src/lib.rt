@@ -1,22 +1,39 @@
 // Frames: reading a message from a tape at a place, and writing one into a lent output.
+mod kinds;
 mod lengths;
 mod reader;
 mod writer;
 
 use head::Answer;
 use head::Refusal;
+pub use kinds::JOIN;
+pub use kinds::LEAVE;
+pub use kinds::LOOK;
+pub use kinds::OPEN;
+pub use kinds::UNWATCH;
+pub use kinds::WATCH;
 pub use lengths::body_length;
 pub use reader::read_at;
 pub use writer::write;
 
+// What stands in the body of a frame: columns; n; n and a position; the settings of an opening; or the kind is unknown.
+pub enum Shape {
+    Columns,
+    Size,
+    SizePosition,
+    Settings,
+    Unknown,
+}
+
 // A message: what a frame says, or that there is none to read. A quote's columns stand beside it.
 pub enum Message {
+    // How many columns.
     Quote(u8),
-    Look(u16),
-    Watch(u16),
-    Unwatch(u16),
-    Leave(u16, u32),
-    Join(u16, u32),
+    // A kind, and n.
+    Sized(u8, u16),
+    // A kind, n and a position.
+    Change(u8, u16, u32),
+    // An opening: d, N and directions.
     Open(u8, u16, u8),
     End,
     Refused(Refusal),
