@@ -6,3 +6,4 @@ pub mod ReadCases
 pub mod ReadColumns
 pub mod WriteCases
 pub mod WriteColumns
+pub mod Moving

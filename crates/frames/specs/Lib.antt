@@ -3,3 +3,4 @@ pub mod Kinds
 pub mod Frames
 pub mod Writing
 pub mod Messages
+pub mod Moved

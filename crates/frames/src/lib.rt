@@ -1,6 +1,7 @@
-// Frames: reading a message from a tape at a place, and writing one into a lent output.
+// Frames: reading a message from a tape, at a place or by a lent one, and writing one into a lent output.
 mod kinds;
 mod lengths;
+mod places;
 mod reader;
 mod writer;
 
@@ -13,6 +14,7 @@ pub use kinds::OPEN;
 pub use kinds::UNWATCH;
 pub use kinds::WATCH;
 pub use lengths::body_length;
+pub use places::read_next;
 pub use reader::read_at;
 pub use writer::write;
 
@@ -44,6 +46,11 @@ pub struct Read {
     pub message: Message,
     pub columns: [u32; 6],
     pub next: usize,
+}
+
+// A place of a tape: how many bytes stand before it.
+pub struct Place {
+    pub at: usize,
 }
 
 // What was written: the answer, and how many bytes.
