@@ -9,14 +9,14 @@ use Rattle.frames.specs.declared.Place.{Place}
 use Rattle.frames.specs.declared.Read.{Read}
 use Rattle.frames.specs.Frames.{frame, told, saying, Reading, stays, readAt}
 use Rattle.frames.specs.Moved.{Moved}
-use Rattle.frames.proofs.Reading.{Found, beyond, at-end, unknown, cut, whole, found}
+use Rattle.frames.proofs.Reading.{read-says, read-columns, Found, beyond, at-end, unknown, cut, whole, found}
 use Rattle.frames.proofs.RoundTrips.{write-after-read}
 
 -- where no message is told, but the end or a refusal, the place is as it was
 pub place-stays : {tape : List ℕ} {before after : Place} {r : Read} → Moved tape before r after → ((m : Message) → saying (r .message) ≡ told m → ⊥) → after ≡ before
 unfolding stays
 place-stays {tape} {before} {after} {r} moved none =
-    moved .moved ∙ ap (λ (n : ℕ). record { at = n }) (go (readAt tape place) (found tape place) (λ m e. none m (ap (λ (g : Reading). g .says) (moved .found) ∙ e)))
+    moved .moved ∙ ap (λ (n : ℕ). record { at = n }) (go (readAt tape place) (found tape place) (λ m e. none m (read-says r (moved .found) ∙ e)))
   where
     place : ℕ
     place = before .at
@@ -38,5 +38,5 @@ pub record Past (tape : List ℕ) (before : Place) (m : Message) (columns : List
 pub place-moves : {tape : List ℕ} {before after : Place} {r : Read} (m : Message) → Moved tape before r after → ((i : ℕ) → getD tape i 0 < 256) → saying (r .message) ≡ told m
     → Past tape before m (r .columns) after
 place-moves {tape} {before} {after} {r} m moved bytes e =
-    let w = write-after-read tape (before .at) m bytes (ap (λ (g : Reading). g .says) (sym (moved .found)) ∙ e) in
-    rw (moved .moved, ap (λ (g : Reading). g .columns) (moved .found)) (record { onward = w .onward; inside = w .inside; passed = w .same-bytes })
+    let w = write-after-read tape (before .at) m bytes (sym (read-says r (moved .found)) ∙ e) in
+    rw (moved .moved, read-columns r (moved .found)) (record { onward = w .onward; inside = w .inside; passed = w .same-bytes })

@@ -5,50 +5,51 @@ use native.Mathlib.Omega.{arith}
 use mathlib.Core.List.{List}
 use lib.ListN.{length, getD}
 use borrow.Author.Tests.{lt-ltb, le-ltb, eq-eqb, ne-eqb}
-use Rattle.head.specs.declared.Refusal.the-variants.{UnknownKind}
+use Rattle.head.specs.declared.Refusal.the-variants.{UnknownKind, CutFrame}
 use Rattle.octets.specs.Bytes.{number2, number4}
 use Rattle.frames.specs.declared.Shape.{Shape}
 use Rattle.frames.specs.declared.Shape.the-variants.{Columns, Size, SizePosition, Settings, Unknown}
-use Rattle.frames.specs.declared.Message.the-variants.{Quote, Sized, Change, Open, Refused}
+use Rattle.frames.specs.declared.Message.{Message}
+use Rattle.frames.specs.declared.Message.the-variants.{Quote, Sized, Change, Open, End, Refused}
 use Rattle.frames.specs.Kinds.{shapeOf, codeOf, bodyLength}
-use Rattle.frames.specs.Frames.{messageBy, messageAt, columnsAt, Saying, told, ended, refused, saying, stays, readAt}
+use Rattle.frames.specs.Frames.{messageBy, messageAt, columnsAt, told, saying, reading, stays, readAt}
 use Rattle.frames.proofs.Shapes.{Known, quote-shape}
 
 module _ (tape : List ℕ) (place : ℕ) where
-  pub beyond : length tape < place → stays (refused 2) place ≡ readAt tape place
-  unfolding readAt
+  pub beyond : length tape < place → stays (saying (Refused CutFrame)) place ≡ readAt tape place
+  unfolding readAt saying
   beyond h = simp (lt-ltb (length tape) place h)
 
-  pub at-end : place ≡ length tape → stays ended place ≡ readAt tape place
-  unfolding readAt
+  pub at-end : place ≡ length tape → stays (saying End) place ≡ readAt tape place
+  unfolding readAt saying
   at-end h = simp (le-ltb (length tape) place (omega arith), eq-eqb place (length tape) h)
 
   module _ (inside : place < length tape) where
-    pub unknown : bodyLength (getD tape place 0) ≡ 255 → stays (refused 1) place ≡ readAt tape place
-    unfolding readAt
+    pub unknown : bodyLength (getD tape place 0) ≡ 255 → stays (saying (Refused UnknownKind)) place ≡ readAt tape place
+    unfolding readAt saying
     unknown u =
         simp
         (le-ltb (length tape) place (omega arith), ne-eqb place (length tape) (λ e. omega arith), eq-eqb (bodyLength (getD tape place 0)) 255 u)
 
     module _ (known : bodyLength (getD tape place 0) ≡ 255 → ⊥) where
-      pub cut : length tape < place + 1 + bodyLength (getD tape place 0) → stays (refused 2) place ≡ readAt tape place
-      unfolding readAt
+      pub cut : length tape < place + 1 + bodyLength (getD tape place 0) → stays (saying (Refused CutFrame)) place ≡ readAt tape place
+      unfolding readAt saying
       cut h =
           simp
           (le-ltb (length tape) place (omega arith), ne-eqb place (length tape) (λ e. omega arith), ne-eqb (bodyLength (getD tape place 0)) 255 known, lt-ltb (length tape) (place + 1 + bodyLength (getD tape place 0)) h)
 
-      pub whole : (says : Saying) (columns : List ℕ) (next : ℕ) → next ≡ place + 1 + bodyLength (getD tape place 0) → next ≤ length tape
-          → says ≡ told (messageAt tape (place + 1) (getD tape place 0)) → columns ≡ columnsAt tape (place + 1) (getD tape place 0)
-          → record { says = says; columns = columns; next = next } ≡ readAt tape place
-      unfolding readAt
-      whole says columns next n h e f =
+      pub whole : (m : Message) (columns : List ℕ) (next : ℕ) → next ≡ place + 1 + bodyLength (getD tape place 0) → next ≤ length tape
+          → saying m ≡ told (messageAt tape (place + 1) (getD tape place 0)) → columns ≡ columnsAt tape (place + 1) (getD tape place 0)
+          → reading (record { message = m; columns = columns; next = next }) ≡ readAt tape place
+      unfolding readAt reading
+      whole m columns next n h e f =
           rw (n, e, f)
           (simp
           (le-ltb (length tape) place (omega arith), ne-eqb place (length tape) (λ e. omega arith), ne-eqb (bodyLength (getD tape place 0)) 255 known, le-ltb (length tape) (place + 1 + bodyLength (getD tape place 0)) (omega arith)))
 
 -- the message of a known kind says itself
 pub message-told : (tape : List ℕ) (body kind : ℕ) → Known kind → saying (messageAt tape body kind) ≡ told (messageAt tape body kind)
-unfolding messageAt messageBy
+unfolding messageAt messageBy saying
 message-told tape body kind known = go (shapeOf kind) known
   where
     go : (shape : Shape) → codeOf shape < 4 → saying (messageBy shape tape body kind) ≡ told (messageBy shape tape body kind)
@@ -59,8 +60,8 @@ message-told tape body kind known = go (shapeOf kind) known
     go Unknown l = absurd (omega arith)
 
 -- a quote says itself
-pub quote-told : (tape : List ℕ) (body kind : ℕ) → 1 ≤ kind → kind ≤ 6 → told (Quote kind) ≡ told (messageAt tape body kind)
-unfolding messageAt messageBy
+pub quote-told : (tape : List ℕ) (body kind : ℕ) → 1 ≤ kind → kind ≤ 6 → saying (Quote kind) ≡ told (messageAt tape body kind)
+unfolding messageAt messageBy saying
 quote-told tape body kind some few = rw (quote-shape kind some few)
 
 -- the message of each shape

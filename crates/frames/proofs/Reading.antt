@@ -18,9 +18,28 @@ use Rattle.lists.proofs.Cells.{map-run, map-one}
 use Rattle.octets.specs.Bytes.{number2, number4}
 use Rattle.frames.specs.declared.Shape.{Shape}
 use Rattle.frames.specs.declared.Shape.the-variants.{Columns, Size, SizePosition, Settings, Unknown}
+use Rattle.frames.specs.declared.Read.{Read}
 use Rattle.frames.specs.Kinds.{within, shapeOf, bodyLength}
-use Rattle.frames.specs.Frames.{messageBy, messageAt, columnsAt, told, ended, refused, Reading, stays, readAt}
+use Rattle.frames.specs.Frames.{messageBy, messageAt, columnsAt, told, ended, refused, saying, Reading, reading, stays, readAt}
 use Rattle.frames.proofs.Shapes.{Known, kind-known}
+
+-- ---- the parts of what was read
+
+module _ (r : Read) {found : Reading} (e : reading r ≡ found) where
+  -- what it says
+  pub read-says : saying (r .message) ≡ found .says
+  unfolding reading
+  read-says = ap (λ (g : Reading). g .says) e
+
+  -- its columns
+  pub read-columns : r .columns ≡ found .columns
+  unfolding reading
+  read-columns = ap (λ (g : Reading). g .columns) e
+
+  -- the place behind it
+  pub read-next : r .next ≡ found .next
+  unfolding reading
+  read-next = ap (λ (g : Reading). g .next) e
 
 -- ---- what is read at a place is what is read at the front of the rest
 

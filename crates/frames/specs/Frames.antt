@@ -56,7 +56,7 @@ pub data Saying : Type 0 where
   refused : ℕ → Saying
 
 -- what a message that was read says
-abbrev pub saying : Message → Saying
+unfoldable pub saying : Message → Saying
 saying (Quote k) = told (Quote k)
 saying (Sized k n) = told (Sized k n)
 saying (Change k n p) = told (Change k n p)
@@ -71,7 +71,7 @@ pub record Reading : Type 0 where
   pub next : ℕ
 
 -- what the reader hands back
-abbrev pub reading : Read → Reading
+unfoldable pub reading : Read → Reading
 reading r = record { says = saying (r .message); columns = r .columns; next = r .next }
 
 -- nothing read: this is said, without columns, and the place stays

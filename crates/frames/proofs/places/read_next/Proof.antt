@@ -42,6 +42,7 @@ use denote.Triple.Walked.{says, Stays, stay-ref, stay-none-slice, walkOf, goes-r
 use denote.Exit.{yes}
 use Rattle.frames.specs.Frames.{Reading, reading, readAt}
 use Rattle.frames.specs.declared.Read.{Read}
+use Rattle.frames.proofs.Reading.{read-next}
 use Rattle.frames.proofs.Read as R
 use Rattle.frames.proofs.Read.Laws as R′
 use Rattle.frames.proofs.reader.read_at as reader
@@ -117,7 +118,7 @@ module _ {M : Type 1} (𝓤 : URA M) (H : Heap 𝓤) (A : Atoms 𝓤) (W : Given
   exits r e =
       qed W (Left r) ∵
       suffices ! _ (ends-at 𝓤 H A f.ended stayed (f.clauses 𝓤 H A mem run) W (((κ, (κ′, tt)), (q, (q′, tt)), tt, args, at), tt) (only (machines r)) r (tt, (standing (r .next), tt)) (tt, (tt, tt))) $
-      says ! (record { found = e; moved = ap (λ (g : Reading). standing (g .next)) e }) $
+      says ! (record { found = e; moved = ap standing (read-next r e) }) $
       move ! (4 ∷ []) $ split ! $ move ! (5 ∷ 1 ∷ []) $ join ! $ move ! (1 ∷ 0 ∷ []) $ join ! $ frame ! $
       move ! (1 ∷ 2 ∷ []) $ feqI ! (List Val) (vptr b o ∷ []) (vptr b o ∷ []) refl $ fjoin3 ! $ nothing ! $ move ! (1 ∷ 0 ∷ []) $ fjoin ! $ move ! (2 ∷ 0 ∷ []) $ fjoin ! $ frame ! $ done !
 
