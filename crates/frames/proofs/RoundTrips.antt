@@ -20,7 +20,7 @@ use Rattle.frames.specs.declared.Shape.{Shape}
 use Rattle.frames.specs.declared.Shape.the-variants.{Columns, Size, SizePosition, Settings, Unknown}
 use Rattle.frames.specs.declared.Message.{Message}
 use Rattle.frames.specs.declared.Message.the-variants.{Quote, Sized, Change, Open, End, Refused}
-use Rattle.frames.specs.Kinds.{openKind, shapeOf, codeOf, hasShape, lengthOf, bodyLength}
+use Rattle.frames.specs.Kinds.{leaveKind, joinKind, openKind, kinds, shapeIn, shapeOf, codeOf, hasShape, lengthOf, bodyLength}
 use Rattle.frames.specs.Frames.{framed, frame, messageBy, messageAt, columnsAt, Saying, told, ended, refused, Reading, stays, readAt}
 use Rattle.frames.specs.Messages.{columnCount, columnsOf, Typed, Writable, Exact}
 use Rattle.frames.proofs.Shapes.{Known, quote-kinds, open-kind, open-shape, no-quote, shape-told, shape-tells, body-by, quote-body, known-body}
@@ -132,6 +132,15 @@ read-after-write before after (Refused k) cs w = absurd (clash false (w .has-fra
 pub change-writable : (k n p : ℕ) → hasShape SizePosition k ≡ true → k < 256 → n < 65536 → p < 4294967296 → Writable (Change k n p) []
 unfolding framed
 change-writable k n p f t u v = record { has-frame = f; typed = (t, u, v); enough = omega arith; fits = λ i h. absurd (omega arith) }
+
+module _ (n p : ℕ) (u : n < 65536) (v : p < 4294967296) where
+  pub leave-writable : Writable (Change leaveKind n p) []
+  unfolding hasShape shapeOf shapeIn kinds
+  leave-writable = change-writable leaveKind n p refl (omega arith) u v
+
+  pub join-writable : Writable (Change joinKind n p) []
+  unfolding hasShape shapeOf shapeIn kinds
+  join-writable = change-writable joinKind n p refl (omega arith) u v
 
 -- ---- two messages with one frame
 

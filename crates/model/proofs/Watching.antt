@@ -18,8 +18,7 @@ use Rattle.head.specs.declared.Refusal.{Refusal}
 use Rattle.head.specs.declared.Refusal.the-variants.{Settings, WindowSize, AlreadyWatched, NoFreeRecord, NotWatched, ShortOutput}
 use Rattle.head.specs.Refusals.{first, settled}
 use Rattle.head.proofs.Answers.{accepted-passed, first-alike}
-use Rattle.frames.specs.declared.Message.the-variants.{Join}
-use Rattle.model.specs.Changes.{frames}
+use Rattle.model.specs.Changes.{join, frames}
 use Rattle.model.specs.Reference.{Reference, skylineOf, rowOf, rowsOf, headOf, opened, outside, withWatched, tells, referenceStep}
 use Rattle.model.specs.Book.{shortLoan, bookRows, listOf, replyOf, outOfRange, lookCells, lookAnswer, lookReply, lookOut, watchBytes, watchAnswer, watchReply, watchWatches, watchOut, endAnswer, endReply, endWatches}
 use Rattle.model.specs.Calls.{Look, Watch, End, Lent, bookStep, expectedStep, fed, outputOf, shown}
@@ -97,7 +96,7 @@ module _ (s : Reference) (l : Lent) (f : Faithful s l) (n : ℕ) where
   module _ (out : List ℕ) where
     -- what the reference model writes
     abbrev joins : List ℕ
-    joins = frames (map (Join n) (skylineOf s n))
+    joins = frames (map (join n) (skylineOf s n))
 
     -- the reference model's answer
     abbrev watch-answer : Answer

@@ -13,9 +13,8 @@ use Rattle.head.specs.declared.Refusal.{Refusal}
 use Rattle.head.specs.declared.Refusal.the-variants.{Settings, ColumnCount, WindowSize, TapeFull, AlreadyWatched, NoFreeRecord, NotWatched, ShortLoan, Torn, ShortOutput}
 use Rattle.head.specs.Refusals.{first, settled}
 use Rattle.head.specs.Heads.{freshHead, settingsHold, afterQuote, lastPosition}
-use Rattle.frames.specs.declared.Message.the-variants.{Join}
 use Rattle.model.specs.Rows.{Row, Tables, rowsIn, filled, listed, rowsAfter}
-use Rattle.model.specs.Changes.{allChanges, frames}
+use Rattle.model.specs.Changes.{join, allChanges, frames}
 
 -- a table is shorter than these settings ask
 unfoldable pub shortTables : Tables → ℕ → ℕ → Bool
@@ -138,7 +137,7 @@ module _ (h : Head) (n : ℕ) (t : Tables) where
 module _ (h : Head) (n : ℕ) (t : Tables) (ws : List ℕ) where
   -- a join for each position of the list of n, as frames
   unfoldable pub watchBytes : List ℕ
-  watchBytes = frames (map (Join n) (listOf h (bookRows h t) n))
+  watchBytes = frames (map (join n) (listOf h (bookRows h t) n))
 
   unfoldable pub watchAnswer : ℕ → Answer
   watchAnswer room =

@@ -12,9 +12,8 @@ use Rattle.head.specs.declared.Answer.{Answer}
 use Rattle.head.specs.declared.Refusal.the-variants.{Settings, ColumnCount, WindowSize, TapeFull, AlreadyWatched, NoFreeRecord, NotWatched, ShortLoan, ShortOutput}
 use Rattle.head.specs.Refusals.{first, settled}
 use Rattle.head.specs.Heads.{freshHead, settingsHold, lastPosition}
-use Rattle.frames.specs.declared.Message.the-variants.{Join}
 use Rattle.model.specs.Rows.{Row}
-use Rattle.model.specs.Changes.{allChanges, frames}
+use Rattle.model.specs.Changes.{join, allChanges, frames}
 
 -- what the reference model holds: the settings (zeros at first), every quote accepted since they were taken, the watched n
 pub record Reference : Type 0 where
@@ -134,7 +133,7 @@ referenceStep (Look n room) s =
     let answer = first ((not (opened s), Settings) ∷ (outside s n, WindowSize) ∷ (ltb room (length written), ShortOutput) ∷ []) in
     tells answer (headOf s) written s s
 referenceStep (Watch n room) s =
-    let written = frames (map (Join n) (skylineOf s n)) in
+    let written = frames (map (join n) (skylineOf s n)) in
     let answer = first ((not (opened s), Settings) ∷ (outside s n, WindowSize) ∷ (contains n (s .watched), AlreadyWatched) ∷ (leb 8 (length (s .watched)), NoFreeRecord) ∷ (ltb room (length written), ShortOutput) ∷ []) in
     tells answer (headOf s) written (withWatched s (insert n (s .watched))) s
 referenceStep (End n) s =
