@@ -9,19 +9,11 @@ use borrow.Rule.Slice.PartMut.{midOf, putMid}
 use Rattle.lists.specs.Lists.{flat, laid}
 use Rattle.lists.proofs.Filters.{flat-append, map-append, map-map}
 use Rattle.frames.specs.declared.Message.{Message}
-use Rattle.frames.specs.declared.Message.the-variants.{Leave, Join}
-use Rattle.octets.specs.Bytes.{bytes2, bytes4}
 use Rattle.frames.specs.Frames.{frame}
-use Rattle.model.specs.Changes.{frames}
+use Rattle.frames.specs.Kinds.{joinKind, leaveKind}
+use Rattle.frames.proofs.RoundTrips.{change-length}
+use Rattle.model.specs.Changes.{leave, join, frames}
 use Rattle.changes.proofs.Writing.{cells, Writing, writing-fits, writing-more}
-
-pub leave-length : (n p : ℕ) → length (frame (Leave n p) []) ≡ 7
-unfolding frame bytes2 bytes4
-leave-length n p = refl
-
-pub join-length : (n p : ℕ) → length (frame (Join n p) []) ≡ 7
-unfolding frame bytes2 bytes4
-join-length n p = refl
 
 pub frames-append : (a b : List Message) → frames (a ++ b) ≡ frames a ++ frames b
 unfolding frames
@@ -42,11 +34,11 @@ module _ (m : ℕ → Message) where
   cells-length e (p ∷ l) = rw (length-append, e p, cells-length e l) (omega arith)
 
 -- seven bytes for each position
-pub leaves-length : (n : ℕ) (l : List ℕ) → length (frames (map (Leave n) l)) ≡ 7 * length l
-leaves-length n l = ap length (frames-cells (Leave n) l) ∙ cells-length (Leave n) (leave-length n) l
+pub leaves-length : (n : ℕ) (l : List ℕ) → length (frames (map (leave n) l)) ≡ 7 * length l
+leaves-length n l = ap length (frames-cells (leave n) l) ∙ cells-length (leave n) (change-length leaveKind n) l
 
-pub joins-length : (n : ℕ) (l : List ℕ) → length (frames (map (Join n) l)) ≡ 7 * length l
-joins-length n l = ap length (frames-cells (Join n) l) ∙ cells-length (Join n) (join-length n) l
+pub joins-length : (n : ℕ) (l : List ℕ) → length (frames (map (join n) l)) ≡ 7 * length l
+joins-length n l = ap length (frames-cells (join n) l) ∙ cells-length (join n) (change-length joinKind n) l
 
 -- a turn of a loop that writes the frame of each position it picks; e says that each has seven bytes
 module _ (m : ℕ → Message) (e : (p : ℕ) → length (framing m p) ≡ 7) {test : ℕ → Bool} {positions : List ℕ} {count : ℕ} {entry out : List ℕ} {at i : ℕ} {b : Bool}

@@ -10,9 +10,8 @@ use mir.Val.{boolByte}
 use borrow.Author.Tests.{lt-ltb, le-ltb}
 use Rattle.lists.specs.Lists.{keep, filter, flat, run}
 use Rattle.lists.proofs.Filters.{map-append}
-use Rattle.frames.specs.declared.Message.the-variants.{Leave, Join}
 use Rattle.frames.specs.Frames.{frame}
-use Rattle.model.specs.Changes.{frames}
+use Rattle.model.specs.Changes.{leave, join, frames}
 use Rattle.changes.specs.declared.Shift.{Shift}
 use Rattle.changes.specs.Picked.{picked}
 use Rattle.changes.specs.Flagged.{Flagged, wasListed, nowListed, moves, moving, joining, changed}
@@ -80,17 +79,17 @@ module _ (s : Flagged) (w : Shift) where
 module _ (s : Flagged) (w : Shift) (newest lower n : ℕ) where
   -- the frames of the rows that leave, and of those that join
   abbrev pub leaveFrames : List ℕ
-  leaveFrames = frames (map (Leave n) (moving s w false))
+  leaveFrames = frames (map (leave n) (moving s w false))
 
   abbrev pub joinFrames : List ℕ
-  joinFrames = frames (map (Join n) (moving s w true))
+  joinFrames = frames (map (join n) (moving s w true))
 
   -- the frames of the changes: the rows' leaves and joins, then the new row's join, if it is listed
-  changed-frames : frames (changed s w newest lower n) ≡ (leaveFrames ++ joinFrames) ++ frames (map (Join n) (keep (ltb lower (w .after)) newest []))
+  changed-frames : frames (changed s w newest lower n) ≡ (leaveFrames ++ joinFrames) ++ frames (map (join n) (keep (ltb lower (w .after)) newest []))
   unfolding changed joining
-  changed-frames = rw (frames-append, map-append, frames-append) (sym (append-assoc leaveFrames joinFrames (frames (map (Join n) (keep (ltb lower (w .after)) newest [])))))
+  changed-frames = rw (frames-append, map-append, frames-append) (sym (append-assoc leaveFrames joinFrames (frames (map (join n) (keep (ltb lower (w .after)) newest [])))))
 
-  pub changed-listed : lower < w .after → frames (changed s w newest lower n) ≡ (leaveFrames ++ joinFrames) ++ frame (Join n newest) []
+  pub changed-listed : lower < w .after → frames (changed s w newest lower n) ≡ (leaveFrames ++ joinFrames) ++ frame (join n newest) []
   unfolding frames flat
   changed-listed h = changed-frames ∙ rw (lt-ltb lower (w .after) h, append-nil)
 

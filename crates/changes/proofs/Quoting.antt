@@ -19,7 +19,7 @@ use Rattle.head.specs.declared.Head.{Head}
 use Rattle.head.specs.Heads.{lastPosition}
 use Rattle.frames.specs.declared.Message.{Message}
 use Rattle.model.specs.Rows.{Row, Tables, rowAt, rowsIn, expiring, renamedRow, listed, remains, remaining, lowerEndAmong, rowsAfter}
-use Rattle.model.specs.Changes.{missing, changes, allChanges, frames}
+use Rattle.model.specs.Changes.{missing, changesBy, changes, allChanges, frames}
 use Rattle.model.specs.Book.{tornRows, bookRows, standing, listOf, quoteRows, quoteHead, quoteBytes}
 use Rattle.changes.specs.declared.Shift.{Shift}
 use Rattle.changes.specs.Picked.{picked}
@@ -107,7 +107,7 @@ module _ {d directions N newest count gone lower : ℕ} {x : List ℕ} {kept : L
 
       -- the changes told by flags are those of the model, from the list before to the list after
       pub changed-is : after ≤ newest + 1 → (n : ℕ) → changed s w (newest + 1) lower n ≡ changes n (listed before rs) (listed after (rowsAfter d directions N newest x rs))
-      unfolding changed changes
+      unfolding changed changes changesBy
       changed-is h n = rw (list-before, list-after h, leaves-missing, joins-missing)
 
 rows-positions : (d count : ℕ) (t : Tables) → map Row.position (rowsIn d count t) ≡ map (λ i. getD (t .positions) i 0) (run 0 count)

@@ -8,7 +8,7 @@ use lib.ListN.{getD, take}
 use Rattle.lists.specs.Lists.{keep}
 use Rattle.skyline.specs.Skyline.{stabbed}
 use Rattle.frames.specs.declared.Message.{Message}
-use Rattle.frames.specs.declared.Message.the-variants.{Leave, Join}
+use Rattle.model.specs.Changes.{leave, join}
 use Rattle.model.specs.Rows.{Row, expiring, renamed, remains, remaining, lowerEndAmong}
 use Rattle.changes.specs.declared.Shift.{Shift}
 use Rattle.changes.specs.Picked.{picked}
@@ -63,4 +63,4 @@ module _ (s : Flagged) (w : Shift) where
 
   -- the changes of the watch of n, where the new row has this position and lower end: the leaves, then the joins
   unfoldable pub changed : ℕ → ℕ → ℕ → List Message
-  changed newest lower n = map (Leave n) (moving false) ++ map (Join n) (joining newest lower)
+  changed newest lower n = map (leave n) (moving false) ++ map (join n) (joining newest lower)

@@ -6,14 +6,14 @@ ghost use mathlib.Core.Bool.{false};
 ghost use mathlib.Core.List.{map};
 ghost use lib.ListN.{length};
 ghost use Rattle.lists.specs.Lists.{laid};
-ghost use Rattle.frames.specs.declared.Message.the-variants.{Leave};
-ghost use Rattle.model.specs.Changes.{frames};
+ghost use Rattle.model.specs.Changes.{leave, frames};
 ghost use Rattle.cells.specs.Removed.{removedPlaces};
 ghost use Rattle.changes.specs.Flagged.{flagged, fallen, moving};
 ghost use Rattle.changes.specs.Sought.{placeOf, listedOf, Below, Rises, Steps};
 use crate::Shift;
 use crate::listing::is_listed;
 use crate::moves::stays_listed;
+use frames::LEAVE;
 use octets::lay_change;
 
 // Writes the leave of the row that stays and leaves the list of n, if there is one: it stands at place, that of the window's old
@@ -34,9 +34,9 @@ fn write_fallen(
     requires { ⌜ Rises (now positions) count ⌝ }
     requires { ⌜ Steps shift ⌝ }
     requires { ⌜ place ≡ placeOf (now positions) (shift .before) count ⌝ }
-    requires { ⌜ length (frames (map (Leave n) (fallen (flagged (now keep) (now positions) (now «lower_ends») count) shift))) ≤ length (now out) ⌝ }
-    ensures { λ r. ⌜ r ≡ length (frames (map (Leave n) (fallen (flagged (now (keep .entry)) (now (positions .entry)) (now («lower_ends» .entry)) count) shift))) ⌝ }
-    ensures { λ r. ⌜ now (out .exit) ≡ laid (frames (map (Leave n) (fallen (flagged (now (keep .entry)) (now (positions .entry)) (now («lower_ends» .entry)) count) shift))) (now (out .entry)) ⌝ }
+    requires { ⌜ length (frames (map (leave n) (fallen (flagged (now keep) (now positions) (now «lower_ends») count) shift))) ≤ length (now out) ⌝ }
+    ensures { λ r. ⌜ r ≡ length (frames (map (leave n) (fallen (flagged (now (keep .entry)) (now (positions .entry)) (now («lower_ends» .entry)) count) shift))) ⌝ }
+    ensures { λ r. ⌜ now (out .exit) ≡ laid (frames (map (leave n) (fallen (flagged (now (keep .entry)) (now (positions .entry)) (now («lower_ends» .entry)) count) shift))) (now (out .entry)) ⌝ }
 {
     if count <= place {
         return 0;
@@ -47,7 +47,7 @@ fn write_fallen(
     let was = is_listed(shift.before, lower_end, position);
     let is = stays_listed(stays, shift.gone, shift.after, lower_end, position);
     if stays & (was & !is) {
-        lay_change(32, n, position, out);
+        lay_change(LEAVE, n, position, out);
         return 7;
     }
     0
@@ -67,9 +67,9 @@ fn write_removed(
     requires { ⌜ count ≤ length (now positions) ⌝ }
     requires { ⌜ count ≤ length (now «lower_ends») ⌝ }
     requires { ⌜ Below (now removed) count ⌝ }
-    requires { ⌜ length (frames (map (Leave n) (listedOf start (now positions) (now «lower_ends») (now removed)))) ≤ length (now out) ⌝ }
-    ensures { λ r. ⌜ r ≡ length (frames (map (Leave n) (listedOf start (now (positions .entry)) (now («lower_ends» .entry)) (now (removed .entry))))) ⌝ }
-    ensures { λ r. ⌜ now (out .exit) ≡ laid (frames (map (Leave n) (listedOf start (now (positions .entry)) (now («lower_ends» .entry)) (now (removed .entry))))) (now (out .entry)) ⌝ }
+    requires { ⌜ length (frames (map (leave n) (listedOf start (now positions) (now «lower_ends») (now removed)))) ≤ length (now out) ⌝ }
+    ensures { λ r. ⌜ r ≡ length (frames (map (leave n) (listedOf start (now (positions .entry)) (now («lower_ends» .entry)) (now (removed .entry))))) ⌝ }
+    ensures { λ r. ⌜ now (out .exit) ≡ laid (frames (map (leave n) (listedOf start (now (positions .entry)) (now («lower_ends» .entry)) (now (removed .entry))))) (now (out .entry)) ⌝ }
 {
     let mut at: usize = 0;
     let mut k = 0;
@@ -79,7 +79,7 @@ fn write_removed(
         let lower_end = lower_ends[i];
         k += 1;
         if is_listed(start, lower_end, position) {
-            lay_change(32, n, position, &mut out[at..]);
+            lay_change(LEAVE, n, position, &mut out[at..]);
             at += 7;
         }
     }
@@ -106,9 +106,9 @@ pub fn write_leaves(
     requires { ⌜ Rises (now positions) count ⌝ }
     requires { ⌜ Steps shift ⌝ }
     requires { ⌜ place ≡ placeOf (now positions) (shift .before) count ⌝ }
-    requires { ⌜ length (frames (map (Leave n) (moving (flagged (now keep) (now positions) (now «lower_ends») count) shift false))) ≤ length (now out) ⌝ }
-    ensures { λ r. ⌜ r ≡ length (frames (map (Leave n) (moving (flagged (now (keep .entry)) (now (positions .entry)) (now («lower_ends» .entry)) count) shift false))) ⌝ }
-    ensures { λ r. ⌜ now (out .exit) ≡ laid (frames (map (Leave n) (moving (flagged (now (keep .entry)) (now (positions .entry)) (now («lower_ends» .entry)) count) shift false))) (now (out .entry)) ⌝ }
+    requires { ⌜ length (frames (map (leave n) (moving (flagged (now keep) (now positions) (now «lower_ends») count) shift false))) ≤ length (now out) ⌝ }
+    ensures { λ r. ⌜ r ≡ length (frames (map (leave n) (moving (flagged (now (keep .entry)) (now (positions .entry)) (now («lower_ends» .entry)) count) shift false))) ⌝ }
+    ensures { λ r. ⌜ now (out .exit) ≡ laid (frames (map (leave n) (moving (flagged (now (keep .entry)) (now (positions .entry)) (now («lower_ends» .entry)) count) shift false))) (now (out .entry)) ⌝ }
 {
     let at = write_fallen(n, keep, positions, lower_ends, count, place, shift, out);
     let used = write_removed(

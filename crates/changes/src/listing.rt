@@ -5,10 +5,10 @@ ghost use mathlib.Core.List.{map};
 ghost use lib.ListN.{length};
 ghost use Rattle.lists.specs.Lists.{laid};
 ghost use Rattle.skyline.specs.Skyline.{stabbed};
-ghost use Rattle.frames.specs.declared.Message.the-variants.{Join};
 ghost use Rattle.model.specs.Rows.{listed};
-ghost use Rattle.model.specs.Changes.{frames};
+ghost use Rattle.model.specs.Changes.{join, frames};
 ghost use Rattle.changes.specs.Picked.{bareRows};
+use frames::JOIN;
 use octets::lay_change;
 
 // Whether a row is on the list of the window that starts at start.
@@ -73,8 +73,8 @@ pub fn write_joins(
     requires { ⌜ count ≤ length (now positions) ⌝ }
     requires { ⌜ count ≤ length (now «lower_ends») ⌝ }
     requires { ⌜ 7 * length (listed start (bareRows (now positions) (now «lower_ends») count)) ≤ length (now out) ⌝ }
-    ensures { λ r. ⌜ r ≡ length (frames (map (Join n) (listed start (bareRows (now (positions .entry)) (now («lower_ends» .entry)) count)))) ⌝ }
-    ensures { λ r. ⌜ now (out .exit) ≡ laid (frames (map (Join n) (listed start (bareRows (now (positions .entry)) (now («lower_ends» .entry)) count)))) (now (out .entry)) ⌝ }
+    ensures { λ r. ⌜ r ≡ length (frames (map (join n) (listed start (bareRows (now (positions .entry)) (now («lower_ends» .entry)) count)))) ⌝ }
+    ensures { λ r. ⌜ now (out .exit) ≡ laid (frames (map (join n) (listed start (bareRows (now (positions .entry)) (now («lower_ends» .entry)) count)))) (now (out .entry)) ⌝ }
 {
     let mut at: usize = 0;
     let mut i = 0;
@@ -83,7 +83,7 @@ pub fn write_joins(
         let lower = lower_ends[i];
         i += 1;
         if is_listed(start, lower, position) {
-            lay_change(33, n, position, &mut out[at..]);
+            lay_change(JOIN, n, position, &mut out[at..]);
             at += 7;
         }
     }

@@ -6,9 +6,8 @@ ghost use mathlib.Core.List.{map};
 ghost use lib.ListN.{length};
 ghost use Rattle.lists.specs.Lists.{laid};
 ghost use Rattle.skyline.specs.Skyline.{stabbed};
-ghost use Rattle.frames.specs.declared.Message.the-variants.{Join};
 ghost use Rattle.model.specs.Rows.{renamed};
-ghost use Rattle.model.specs.Changes.{frames};
+ghost use Rattle.model.specs.Changes.{join, frames};
 ghost use Rattle.cells.specs.Removed.{removedPlaces};
 ghost use Rattle.changes.specs.Flagged.{flagged, moving, joining, changed};
 ghost use Rattle.changes.specs.Sought.{placeOf, Rises, Named, Steps};
@@ -18,6 +17,7 @@ use crate::listing::is_listed;
 use crate::seeking::first_lower_end;
 use crate::seeking::next_equal;
 use crate::seeking::place_of;
+use frames::JOIN;
 use octets::lay_change;
 
 // A lower end once position gone has expired: 0 if it named that position.
@@ -85,9 +85,9 @@ fn write_row_joins(
     requires { ⌜ (named ≡ true → Named (now positions) (now «lower_ends») count) ⌝ }
     requires { ⌜ Steps shift ⌝ }
     requires { ⌜ place ≡ placeOf (now positions) (shift .before) count ⌝ }
-    requires { ⌜ length (frames (map (Join n) (moving (flagged (now keep) (now positions) (now «lower_ends») count) shift true))) ≤ length (now out) ⌝ }
-    ensures { λ r. ⌜ r ≡ length (frames (map (Join n) (moving (flagged (now (keep .entry)) (now (positions .entry)) (now («lower_ends» .entry)) count) shift true))) ⌝ }
-    ensures { λ r. ⌜ now (out .exit) ≡ laid (frames (map (Join n) (moving (flagged (now (keep .entry)) (now (positions .entry)) (now («lower_ends» .entry)) count) shift true))) (now (out .entry)) ⌝ }
+    requires { ⌜ length (frames (map (join n) (moving (flagged (now keep) (now positions) (now «lower_ends») count) shift true))) ≤ length (now out) ⌝ }
+    ensures { λ r. ⌜ r ≡ length (frames (map (join n) (moving (flagged (now (keep .entry)) (now (positions .entry)) (now («lower_ends» .entry)) count) shift true))) ⌝ }
+    ensures { λ r. ⌜ now (out .exit) ≡ laid (frames (map (join n) (moving (flagged (now (keep .entry)) (now (positions .entry)) (now («lower_ends» .entry)) count) shift true))) (now (out .entry)) ⌝ }
 {
     let mut at: usize = 0;
     let mut i = first_lower_end(lower_ends, count, place, shift.before, named);
@@ -98,7 +98,7 @@ fn write_row_joins(
         let is = stays_listed(keep[i], shift.gone, shift.after, lower_end, position);
         i = next_equal(lower_ends, i + 1, count, shift.before);
         if is & !was {
-            lay_change(33, n, position, &mut out[at..]);
+            lay_change(JOIN, n, position, &mut out[at..]);
             at += 7;
         }
     }
@@ -158,6 +158,6 @@ pub fn write_changes(
     if shift.after <= lower {
         return at;
     }
-    lay_change(33, n, newest, &mut out[at..]);
+    lay_change(JOIN, n, newest, &mut out[at..]);
     at + 7
 }

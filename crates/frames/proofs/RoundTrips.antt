@@ -1,15 +1,14 @@
 -- Round trips: a frame that is written reads as its message, and a frame that is read is written as the same bytes.
 use mathlib.Core.Path.{_≡_, refl, sym, ap, ap₂, _∙_}
 use mathlib.Core.Logic.{_↔_}
-use Prim.Native.Nat.{ℕ, suc, _+_, _-_, _*_, _≤_, _<_, zero-le}
+use Prim.Native.Nat.{ℕ, suc, _+_, _-_, _*_, _≤_, _<_}
 use native.Mathlib.Numerals.{add-one}
 use native.Mathlib.Omega.{arith}
 use mathlib.Core.Bool.{true, false}
 use mathlib.Core.List.{List, [], _∷_, _++_, map}
-use lib.Dec.{eqb}
 use lib.ListN.{length, getD, take, drop, replicate, length-append, length-drop, length-map, take-append-drop}
 use lib.Seq.{getD-drop, getD-take, getD-append-seam, drop-append-add, drop-cons, take-at, take-all, length-take-le}
-use borrow.Author.Tests.{le-leb, le-ltb, eq-eqb, ne-eqb}
+use borrow.Author.Tests.{le-ltb, eq-eqb, ne-eqb}
 use Rattle.lists.specs.Lists.{flat, run}
 use Rattle.lists.proofs.Booleans.{clash}
 use Rattle.lists.proofs.Runs.{length-run}
@@ -17,103 +16,32 @@ use Rattle.lists.proofs.Cells.{cells-part, map-run, map-one}
 use Rattle.octets.specs.Bytes.{bytes2, bytes4, number2, number4}
 use Rattle.octets.proofs.Numbers.{two-bytes, four-bytes, bytes2-again, bytes4-again}
 use Rattle.octets.proofs.Cells.{length-cells, cell-again, cells-again}
-use Rattle.frames.specs.Frames.{bodyLength, framed, frame, messageAt, columnsAt, stays, readAt}
+use Rattle.frames.specs.declared.Shape.{Shape}
+use Rattle.frames.specs.declared.Shape.the-variants.{Columns, Size, SizePosition, Settings, Unknown}
 use Rattle.frames.specs.declared.Message.{Message}
-use Rattle.frames.specs.declared.Message.the-variants.{Quote, Look, Watch, Unwatch, Leave, Join, Open, End, Refused}
-use Rattle.frames.specs.declared.Read.{Read}
-use Rattle.frames.proofs.Reading.{message-drop, columns-drop, quote-columns, quote-body, within-bounds, Kind, quotes, looks, watches, unwatches, leaves, joins, opens, Found, beyond, at-end, unknown, cut, whole, found}
-
--- ---- what can be written
-
--- how many columns stand beside a message
-abbrev pub columnCount : Message → ℕ
-columnCount (Quote k) = k
-columnCount (Look n) = 0
-columnCount (Watch n) = 0
-columnCount (Unwatch n) = 0
-columnCount (Leave n p) = 0
-columnCount (Join n p) = 0
-columnCount (Open d N directions) = 0
-columnCount End = 0
-columnCount (Refused k) = 0
-
--- the columns of a message as they are read: those that it has, then zeros up to six
-abbrev pub columnsOf : Message → List ℕ → List ℕ
-columnsOf m cs = take (columnCount m) cs ++ replicate (6 - columnCount m) 0
-
--- the fields of a message fit their types
-abbrev pub Typed : Message → Type 0
-Typed (Quote k) = k < 256
-Typed (Look n) = n < 65536
-Typed (Watch n) = n < 65536
-Typed (Unwatch n) = n < 65536
-Typed (Leave n p) = (n < 65536) × (p < 4294967296)
-Typed (Join n p) = (n < 65536) × (p < 4294967296)
-Typed (Open d N directions) = (d < 256) × (N < 65536) × (directions < 256)
-Typed End = Unit {0}
-Typed (Refused k) = Unit {0}
-
--- a message that has a frame, with the columns that stand beside it
-pub record Writable (m : Message) (cs : List ℕ) : Type 0 where
-  pub has-frame : framed m ≡ true
-  pub typed : Typed m
-  pub enough : columnCount m ≤ length cs
-  pub fits : (i : ℕ) → i < columnCount m → getD cs i 0 < 4294967296
-
--- the columns of a quote that has a frame
-quote-range : (k : ℕ) → framed (Quote k) ≡ true → (1 ≤ k) × (k ≤ 6)
-unfolding framed
-quote-range k h = within-bounds 1 6 k h
-
--- a message that has a frame has at most six columns
-column-range : (m : Message) → framed m ≡ true → columnCount m ≤ 6
-unfolding framed
-column-range (Quote k) h = quote-range k h .1
-column-range (Look n) h = zero-le
-column-range (Watch n) h = zero-le
-column-range (Unwatch n) h = zero-le
-column-range (Leave n p) h = zero-le
-column-range (Join n p) h = zero-le
-column-range (Open d N directions) h = zero-le
-column-range End h = zero-le
-column-range (Refused k) h = zero-le
+use Rattle.frames.specs.declared.Message.the-variants.{Quote, Sized, Change, Open, End, Refused}
+use Rattle.frames.specs.Kinds.{leaveKind, joinKind, openKind, kinds, shapeIn, shapeOf, codeOf, hasShape, lengthOf, bodyLength}
+use Rattle.frames.specs.Frames.{framed, frame, messageBy, messageAt, columnsAt, Saying, told, ended, refused, Reading, stays, readAt}
+use Rattle.frames.specs.Messages.{columnCount, columnsOf, Typed, Writable, Exact}
+use Rattle.frames.proofs.Shapes.{Known, quote-kinds, open-kind, open-shape, no-quote, shape-told, shape-tells, body-by, quote-body, known-body}
+use Rattle.frames.proofs.Reading.{message-drop, columns-drop, quote-columns, Found, beyond, at-end, unknown, cut, whole, found}
+use Rattle.frames.proofs.WriteCases.{column-range}
 
 -- a message that has a frame can be written with any six cells
 pub six-writable : (m : Message) (cs : List ℕ) → framed m ≡ true → Typed m → length cs ≡ 6 → ((i : ℕ) → getD cs i 0 < 4294967296) → Writable m cs
 six-writable m cs h t l f = record { has-frame = h; typed = t; enough = omega (arith, column-range m h); fits = λ i u. f i }
 
--- ---- the length of a frame
-
--- a frame is its kind and the body of that kind
-pub frame-length : (m : Message) (cs : List ℕ) → framed m ≡ true → columnCount m ≤ length cs → length (frame m cs) ≡ 1 + bodyLength (getD (frame m cs) 0 0)
-unfolding frame framed bytes2 bytes4 bodyLength
-frame-length (Quote k) cs h e =
-    let r = quote-range k h in
-    omega (arith, length-cells (take k cs), length-take-le k cs e, quote-body k (r .0) (r .1))
-frame-length (Look n) cs h e = refl
-frame-length (Watch n) cs h e = refl
-frame-length (Unwatch n) cs h e = refl
-frame-length (Leave n p) cs h e = refl
-frame-length (Join n p) cs h e = refl
-frame-length (Open d N directions) cs h e = refl
-frame-length End cs h e = absurd (clash false h refl)
-frame-length (Refused k) cs h e = absurd (clash false h refl)
-
 -- the frame of a change has seven bytes
-pub leave-length : (n p : ℕ) → length (frame (Leave n p) []) ≡ 7
+pub change-length : (k n p : ℕ) → length (frame (Change k n p) []) ≡ 7
 unfolding frame bytes2 bytes4
-leave-length n p = refl
-
-pub join-length : (n p : ℕ) → length (frame (Join n p) []) ≡ 7
-unfolding frame bytes2 bytes4
-join-length n p = refl
+change-length k n p = refl
 
 -- ---- a frame that is written reads as its message
 
--- a kind and a body that reads as a message and columns, read where they stand
-read-body : (before after body : List ℕ) (kind : ℕ) {m : Message} {columns : List ℕ} → eqb (bodyLength kind) 255 ≡ false → bodyLength kind ≡ length body
+-- a known kind and a body that reads as a message and columns, read where they stand
+read-body : (before after body : List ℕ) (kind : ℕ) {m : Message} {columns : List ℕ} → Known kind → bodyLength kind ≡ length body
     → messageAt (body ++ after) 0 kind ≡ m → columnsAt (body ++ after) 0 kind ≡ columns
-    → readAt (before ++ ((kind ∷ body) ++ after)) (length before) ≡ record { message = m; columns = columns; next = length before + suc (length body) }
+    → readAt (before ++ ((kind ∷ body) ++ after)) (length before) ≡ record { says = told m; columns = columns; next = length before + suc (length body) }
 unfolding readAt
 read-body before after body kind known size message columns =
     let next : length before + 1 + bodyLength kind ≡ length before + suc (length body) = omega arith in
@@ -121,7 +49,7 @@ read-body before after body kind known size message columns =
       getD-append-seam before kind (body ++ after) 0,
       le-ltb (length tape) (length before) (omega (arith, long)),
       ne-eqb (length before) (length tape) (omega (arith, long)),
-      known,
+      ne-eqb (bodyLength kind) 255 (omega (arith, known-body kind known)),
       le-ltb (length tape) (length before + 1 + bodyLength kind) (omega (arith, long)),
       message-drop tape (length before + 1) kind,
       columns-drop tape (length before + 1) kind,
@@ -136,6 +64,19 @@ read-body before after body kind known size message columns =
 
     long : length tape ≡ length before + suc (length body + length after)
     long = simp length-append (omega arith)
+
+-- a kind that has a shape is known, its message is by that shape, and a kind other than a quote's has no columns
+module _ (shape : Shape) (kind : ℕ) (f : hasShape shape kind ≡ true) where
+  shape-known : codeOf shape < 4 → Known kind
+  shape-known l = rw (shape-told shape kind f) l
+
+  message-by : (tape : List ℕ) (body : ℕ) → messageAt tape body kind ≡ messageBy shape tape body kind
+  unfolding messageAt
+  message-by tape body = rw (shape-told shape kind f)
+
+  no-columns-by : (tape : List ℕ) (body : ℕ) → 0 < codeOf shape → columnsAt tape body kind ≡ replicate 6 0
+  unfolding columnsAt run
+  no-columns-by tape body l = rw (no-quote shape kind (shape-told shape kind f) l)
 
 -- the columns of a quote, read from their bytes
 quote-again : (k : ℕ) (cs after : List ℕ) → 1 ≤ k → k ≤ 6 → k ≤ length cs → ((i : ℕ) → i < k → getD cs i 0 < 4294967296)
@@ -154,59 +95,60 @@ quote-again k cs after u v e f =
 
 -- a frame that is written reads as its message, whatever stands before and after it
 pub read-after-write : (before after : List ℕ) (m : Message) (cs : List ℕ) → Writable m cs
-    → readAt (before ++ (frame m cs ++ after)) (length before) ≡ record { message = m; columns = columnsOf m cs; next = length before + length (frame m cs) }
-unfolding frame framed bytes2 bytes4 number2 number4 bodyLength messageAt columnsAt run
+    → readAt (before ++ (frame m cs ++ after)) (length before) ≡ record { says = told m; columns = columnsOf m cs; next = length before + length (frame m cs) }
+unfolding frame framed bytes2 bytes4 number2 number4 messageBy lengthOf
 read-after-write before after (Quote k) cs w =
-    let r = quote-range k (w .has-frame) in
-    let size = quote-body k (r .0) (r .1) in
+    let shape = w .has-frame in
+    let r = quote-kinds k (shape-told Columns k shape) in
     read-body
     before
     after
     (flat (map bytes4 (take k cs)))
     k
-    (ne-eqb (bodyLength k) 255 (omega arith))
-    (omega (arith, length-cells (take k cs), length-take-le k cs (w .enough)))
-    (rw (le-leb 1 k (r .0), le-leb k 6 (r .1)))
+    (shape-known Columns k shape (omega arith))
+    (omega (arith, quote-body k (r .0) (r .1), length-cells (take k cs), length-take-le k cs (w .enough)))
+    (message-by Columns k shape (flat (map bytes4 (take k cs)) ++ after) 0)
     (quote-again k cs after (r .0) (r .1) (w .enough) (w .fits))
-read-after-write before after (Look n) cs w = read-body before after (bytes2 n) 16 refl refl (ap Look (two-bytes n (w .typed))) refl
-read-after-write before after (Watch n) cs w = read-body before after (bytes2 n) 17 refl refl (ap Watch (two-bytes n (w .typed))) refl
-read-after-write before after (Unwatch n) cs w = read-body before after (bytes2 n) 18 refl refl (ap Unwatch (two-bytes n (w .typed))) refl
-read-after-write before after (Leave n p) cs w =
-    read-body before after (bytes2 n ++ bytes4 p) 32 refl refl (ap₂ Leave (two-bytes n (w .typed .0)) (four-bytes p (w .typed .1))) refl
-read-after-write before after (Join n p) cs w =
-    read-body before after (bytes2 n ++ bytes4 p) 33 refl refl (ap₂ Join (two-bytes n (w .typed .0)) (four-bytes p (w .typed .1))) refl
+read-after-write before after (Sized k n) cs w =
+    let shape = w .has-frame in
+    read-body before after (bytes2 n) k (shape-known Size k shape (omega arith)) (body-by Size k (shape-told Size k shape))
+    (message-by Size k shape (bytes2 n ++ after) 0 ∙ ap (Sized k) (two-bytes n (w .typed .1)))
+    (no-columns-by Size k shape (bytes2 n ++ after) 0 (omega arith))
+read-after-write before after (Change k n p) cs w =
+    let shape = w .has-frame in
+    let body : List ℕ = bytes2 n ++ bytes4 p in
+    read-body before after body k (shape-known SizePosition k shape (omega arith)) (body-by SizePosition k (shape-told SizePosition k shape))
+    (message-by SizePosition k shape (body ++ after) 0 ∙ ap₂ (Change k) (two-bytes n (w .typed .1)) (four-bytes p (w .typed .2)))
+    (no-columns-by SizePosition k shape (body ++ after) 0 (omega arith))
 read-after-write before after (Open d N directions) cs w =
-    read-body before after (d ∷ (bytes2 N ++ (directions ∷ []))) 48 refl refl (ap (λ (n : ℕ). Open d n directions) (two-bytes N (w .typed .1))) refl
+    let body : List ℕ = d ∷ (bytes2 N ++ (directions ∷ [])) in
+    read-body before after body openKind (shape-known Settings openKind open-shape (omega arith)) (body-by Settings openKind (shape-told Settings openKind open-shape))
+    (message-by Settings openKind open-shape (body ++ after) 0 ∙ ap (λ (n : ℕ). Open d n directions) (two-bytes N (w .typed .1)))
+    (no-columns-by Settings openKind open-shape (body ++ after) 0 (omega arith))
 read-after-write before after End cs w = absurd (clash false (w .has-frame) refl)
 read-after-write before after (Refused k) cs w = absurd (clash false (w .has-frame) refl)
 
 -- changes are written without columns
-pub leave-writable : (n p : ℕ) → n < 65536 → p < 4294967296 → Writable (Leave n p) []
+pub change-writable : (k n p : ℕ) → hasShape SizePosition k ≡ true → k < 256 → n < 65536 → p < 4294967296 → Writable (Change k n p) []
 unfolding framed
-leave-writable n p u v = record { has-frame = refl; typed = (u, v); enough = omega arith; fits = λ i h. absurd (omega arith) }
+change-writable k n p f t u v = record { has-frame = f; typed = (t, u, v); enough = omega arith; fits = λ i h. absurd (omega arith) }
 
-pub join-writable : (n p : ℕ) → n < 65536 → p < 4294967296 → Writable (Join n p) []
-unfolding framed
-join-writable n p u v = record { has-frame = refl; typed = (u, v); enough = omega arith; fits = λ i h. absurd (omega arith) }
+module _ (n p : ℕ) (u : n < 65536) (v : p < 4294967296) where
+  pub leave-writable : Writable (Change leaveKind n p) []
+  unfolding hasShape shapeOf shapeIn kinds
+  leave-writable = change-writable leaveKind n p refl (omega arith) u v
 
--- the frame of a leave, read where it stands
-pub read-leave : (before after : List ℕ) (n p : ℕ) → n < 65536 → p < 4294967296
-    → readAt (before ++ (frame (Leave n p) [] ++ after)) (length before) ≡ record { message = Leave n p; columns = replicate 6 0; next = length before + 7 }
-unfolding frame bytes2 bytes4
-read-leave before after n p u v = read-after-write before after (Leave n p) [] (leave-writable n p u v)
-
--- the frame of a join, read where it stands
-pub read-join : (before after : List ℕ) (n p : ℕ) → n < 65536 → p < 4294967296
-    → readAt (before ++ (frame (Join n p) [] ++ after)) (length before) ≡ record { message = Join n p; columns = replicate 6 0; next = length before + 7 }
-unfolding frame bytes2 bytes4
-read-join before after n p u v = read-after-write before after (Join n p) [] (join-writable n p u v)
+  pub join-writable : Writable (Change joinKind n p) []
+  unfolding hasShape shapeOf shapeIn kinds
+  join-writable = change-writable joinKind n p refl (omega arith) u v
 
 -- ---- two messages with one frame
 
--- six columns, zeros beyond those that the message has
-pub record Exact (m : Message) (cs : List ℕ) : Type 0 where
-  pub six : length cs ≡ 6
-  pub zeros : (i : ℕ) → columnCount m ≤ i → getD cs i 0 ≡ 0
+-- the message that is told
+toldMessage : Saying → Message
+toldMessage (told m) = m
+toldMessage ended = End
+toldMessage (refused k) = End
 
 -- such columns are read as they are
 pub exact-columns : (m : Message) (cs : List ℕ) → columnCount m ≤ length cs → Exact m cs → columnsOf m cs ≡ cs
@@ -223,24 +165,26 @@ exact-columns m cs h x =
 
 -- a frame belongs to one message and its columns
 pub one-frame : (m m' : Message) (cs cs' : List ℕ) → Writable m cs → Writable m' cs' → Exact m cs → Exact m' cs' → frame m cs ≡ frame m' cs' → (m ≡ m') × (cs ≡ cs')
+unfolding toldMessage
 one-frame m m' cs cs' w w' x x' e =
-    (ap (λ (r : Read). r .message) same, sym (exact-columns m cs (w .enough) x) ∙ ap (λ (r : Read). r .columns) same ∙ exact-columns m' cs' (w' .enough) x')
+    (ap (λ (r : Reading). toldMessage (r .says)) same, sym (exact-columns m cs (w .enough) x) ∙ ap (λ (r : Reading). r .columns) same ∙ exact-columns m' cs' (w' .enough) x')
   where
-    same : _≡_ {A = Read} (record { message = m; columns = columnsOf m cs; next = 0 + length (frame m cs) }) (record { message = m'; columns = columnsOf m' cs'; next = 0 + length (frame m' cs') })
+    same : _≡_ {A = Reading} (record { says = told m; columns = columnsOf m cs; next = 0 + length (frame m cs) }) (record { says = told m'; columns = columnsOf m' cs'; next = 0 + length (frame m' cs') })
     same = sym (read-after-write [] [] m cs w) ∙ ap (λ (f : List ℕ). readAt (f ++ []) 0) e ∙ read-after-write [] [] m' cs' w'
 
 -- ---- a frame that is read is written as the same bytes
 
 -- a message of a kind that has frames has one
-pub kind-framed : (tape : List ℕ) (body kind : ℕ) → Kind kind → framed (messageAt tape body kind) ≡ true
-unfolding messageAt framed
-kind-framed tape body kind (quotes u v) = simp (le-leb 1 kind u, le-leb kind 6 v)
-kind-framed tape body _ looks = refl
-kind-framed tape body _ watches = refl
-kind-framed tape body _ unwatches = refl
-kind-framed tape body _ leaves = refl
-kind-framed tape body _ joins = refl
-kind-framed tape body _ opens = refl
+pub kind-framed : (tape : List ℕ) (body kind : ℕ) → Known kind → framed (messageAt tape body kind) ≡ true
+unfolding messageAt messageBy framed
+kind-framed tape body kind known = go (shapeOf kind) refl known
+  where
+    go : (shape : Shape) → shapeOf kind ≡ shape → codeOf shape < 4 → framed (messageBy shape tape body kind) ≡ true
+    go Columns e l = shape-tells Columns kind e
+    go Size e l = shape-tells Size kind e
+    go SizePosition e l = shape-tells SizePosition kind e
+    go Settings e l = refl
+    go Unknown e l = absurd (omega arith)
 
 -- the bodies of a kind, written again
 module _ (l : List ℕ) (bytes : (i : ℕ) → getD l i 0 < 256) where
@@ -261,25 +205,26 @@ module _ (l : List ℕ) (bytes : (i : ℕ) → getD l i 0 < 256) where
       ap (λ (r : List ℕ). flat (map bytes4 r)) (ap (take k) (quote-columns l k u v) ∙ take-at (map (λ i. number4 l (4 * i)) (run 0 k)) (replicate (6 - k) 0) k (length-map (run 0 k) (λ i. number4 l (4 * i)) ∙ length-run 0 k))
       ∙ cells-again l 0 k bytes (omega arith)
 
-  body-again : (kind : ℕ) → Kind kind → bodyLength kind ≤ length l → frame (messageAt l 0 kind) (columnsAt l 0 kind) ≡ kind ∷ take (bodyLength kind) l
-  unfolding frame messageAt bodyLength
-  body-again kind (quotes u v) h =
-      rw (le-leb 1 kind u, le-leb kind 6 v) (ap (λ (r : List ℕ). kind ∷ r) (quote-written kind u v (omega (arith, h, quote-body kind u v))))
-  body-again _ looks h = ap (λ (r : List ℕ). 16 ∷ r) (two-again h)
-  body-again _ watches h = ap (λ (r : List ℕ). 17 ∷ r) (two-again h)
-  body-again _ unwatches h = ap (λ (r : List ℕ). 18 ∷ r) (two-again h)
-  body-again _ leaves h = ap (λ (r : List ℕ). 32 ∷ r) (six-again h)
-  body-again _ joins h = ap (λ (r : List ℕ). 33 ∷ r) (six-again h)
-  body-again _ opens h = ap (λ (r : List ℕ). 48 ∷ r) (open-again h)
+  body-again : (kind : ℕ) → Known kind → bodyLength kind ≤ length l → frame (messageAt l 0 kind) (columnsAt l 0 kind) ≡ kind ∷ take (bodyLength kind) l
+  unfolding frame messageAt messageBy bodyLength lengthOf
+  body-again kind known h = go (shapeOf kind) refl known h
+    where
+      go : (shape : Shape) → shapeOf kind ≡ shape → codeOf shape < 4 → lengthOf shape kind ≤ length l
+          → frame (messageBy shape l 0 kind) (columnsAt l 0 kind) ≡ kind ∷ take (lengthOf shape kind) l
+      go Columns e c h = let r = quote-kinds kind e in ap (λ (r : List ℕ). kind ∷ r) (quote-written kind (r .0) (r .1) h)
+      go Size e c h = ap (λ (r : List ℕ). kind ∷ r) (two-again h)
+      go SizePosition e c h = ap (λ (r : List ℕ). kind ∷ r) (six-again h)
+      go Settings e c h = rw (open-kind kind e) (ap (λ (r : List ℕ). openKind ∷ r) (open-again h))
+      go Unknown e c h = absurd (omega arith)
 
 -- what was read at a place is a frame of the tape, and the same bytes when written again
-pub record Rewritten (tape : List ℕ) (place : ℕ) (read : Read) : Type 0 where
-  pub same-bytes : frame (read .message) (read .columns) ≡ take (read .next - place) (drop place tape)
+pub record Rewritten (tape : List ℕ) (place : ℕ) (m : Message) (read : Reading) : Type 0 where
+  pub same-bytes : frame m (read .columns) ≡ take (read .next - place) (drop place tape)
   pub onward : place < read .next
   pub inside : read .next ≤ length tape
 
 -- a whole frame, written again
-frame-again : (tape : List ℕ) (place : ℕ) → ((i : ℕ) → getD tape i 0 < 256) → Kind (getD tape place 0) → place + 1 + bodyLength (getD tape place 0) ≤ length tape
+frame-again : (tape : List ℕ) (place : ℕ) → ((i : ℕ) → getD tape i 0 < 256) → Known (getD tape place 0) → place + 1 + bodyLength (getD tape place 0) ≤ length tape
     → frame (messageAt tape (place + 1) (getD tape place 0)) (columnsAt tape (place + 1) (getD tape place 0))
     ≡ take (place + 1 + bodyLength (getD tape place 0) - place) (drop place tape)
 frame-again tape place bytes k t =
@@ -289,25 +234,30 @@ frame-again tape place bytes k t =
     (body-again (drop (place + 1) tape) (λ i. rw getD-drop (bytes (place + 1 + i))) kind k (simp length-drop (omega arith)))
 
 -- a frame that is read is written as the same bytes
-pub write-after-read : (tape : List ℕ) (place : ℕ) → ((i : ℕ) → getD tape i 0 < 256) → framed (readAt tape place .message) ≡ true → Rewritten tape place (readAt tape place)
-unfolding framed stays
-write-after-read tape place bytes h = go (readAt tape place) (found tape place) h
+pub write-after-read : (tape : List ℕ) (place : ℕ) (m : Message) → ((i : ℕ) → getD tape i 0 < 256) → readAt tape place .says ≡ told m → Rewritten tape place m (readAt tape place)
+unfolding stays toldMessage
+write-after-read tape place m bytes h = go (readAt tape place) (found tape place) h
   where
-    go : (read : Read) → Found tape place read → framed (read .message) ≡ true → Rewritten tape place read
-    go _ (beyond t) e = absurd (clash false e refl)
-    go _ (at-end t) e = absurd (clash false e refl)
-    go _ unknown e = absurd (clash false e refl)
-    go _ cut e = absurd (clash false e refl)
-    go _ (whole k t) e = record { same-bytes = frame-again tape place bytes k t; onward = omega arith; inside = t }
+    none : (k : ℕ) → refused k ≡ told m → ⊥
+    none k e = let z : _≡_ {A = ℕ} 0 1 = cc in omega arith
+
+    go : (read : Reading) → Found tape place read → read .says ≡ told m → Rewritten tape place m read
+    go _ (beyond t) e = absurd (none 2 e)
+    go _ (at-end t) e = absurd (let z : _≡_ {A = ℕ} 0 1 = cc in omega arith)
+    go _ unknown e = absurd (none 1 e)
+    go _ cut e = absurd (none 2 e)
+    go _ (whole k t) e =
+        let same : messageAt tape (place + 1) (getD tape place 0) ≡ m = ap toldMessage e in
+        rw (← same) (record { same-bytes = frame-again tape place bytes k t; onward = omega arith; inside = t })
 
 -- the end is read at the end of the tape and at no other place
-pub end-only-at-end : (tape : List ℕ) (place : ℕ) → (readAt tape place .message ≡ End) ↔ (place ≡ length tape)
-unfolding readAt stays framed
+pub end-only-at-end : (tape : List ℕ) (place : ℕ) → (readAt tape place .says ≡ ended) ↔ (place ≡ length tape)
+unfolding readAt stays
 end-only-at-end tape place = (λ e. go (readAt tape place) (found tape place) e, λ e. simp (le-ltb (length tape) place (omega arith), eq-eqb place (length tape) e))
   where
-    go : (read : Read) → Found tape place read → read .message ≡ End → place ≡ length tape
+    go : (read : Reading) → Found tape place read → read .says ≡ ended → place ≡ length tape
     go _ (beyond t) e = cc
     go _ (at-end t) e = t
     go _ unknown e = cc
     go _ cut e = cc
-    go _ (whole k t) e = absurd (clash (framed (messageAt tape (place + 1) (getD tape place 0))) (kind-framed tape (place + 1) (getD tape place 0) k) (ap framed e))
+    go _ (whole k t) e = cc

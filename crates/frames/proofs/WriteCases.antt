@@ -1,110 +1,127 @@
--- The cases of the writer: which messages have a frame, how long it is, and what is promised of each answer.
-use mathlib.Core.Path.{_≡_, refl, ap, _∙_}
-use Prim.Native.Nat.{ℕ, suc, _+_, _*_, _≤_, _<_}
+-- The cases of the writer: how long the frame of a message is, and what is promised of each answer.
+use mathlib.Core.Path.{_≡_, refl, sym, ap, _∙_}
+use Prim.Native.Nat.{ℕ, suc, _+_, _*_, _≤_, _<_, zero-le}
 use native.Mathlib.Omega.{arith}
-use mathlib.Core.Bool.{Bool, true, false, _&&_, cond}
+use mathlib.Core.Bool.{true, false, not}
 use mathlib.Core.List.{List}
-use lib.Dec.{leb}
 use lib.ListN.{length, take}
 use lib.Seq.{length-take-le}
-use borrow.Author.Tests.{leb-true, lt-ltb, le-ltb, lt-leb, le-leb}
+use borrow.Author.Tests.{lt-ltb, le-ltb, not-true, not-false}
 use Rattle.lists.specs.Lists.{laid}
-use Rattle.lists.proofs.Booleans.{and-right, and-false, clash}
+use Rattle.lists.proofs.Booleans.{clash, refute}
 use Rattle.head.specs.declared.Answer.the-variants.{Accepted, Refused}
 use Rattle.head.specs.declared.Refusal.the-variants.{UnknownKind, ShortOutput}
-use Rattle.head.specs.Refusals.{first, settled}
+use Rattle.head.specs.Refusals.{firstOf, granted}
 use Rattle.octets.specs.Bytes.{bytes2, bytes4}
 use Rattle.octets.proofs.Cells.{length-cells}
-use Rattle.frames.specs.Frames.{within, framed, frame, writeAnswer, writeReply, writeOut}
-use Rattle.frames.specs.Writing.{frameLength, Wrote}
+use Rattle.frames.specs.declared.Shape.{Shape}
+use Rattle.frames.specs.declared.Shape.the-variants.{Columns, Size, SizePosition}
 use Rattle.frames.specs.declared.Message.{Message}
-use Rattle.frames.specs.declared.Message.the-variants.{Quote, Look, Watch, Unwatch, Leave, Join, Open, End, Refused as NotRead}
+use Rattle.frames.specs.declared.Message.the-variants.{Quote, Sized, Change, Open, End, Refused as NotRead}
+use Rattle.frames.specs.Kinds.{kinds, shapeIn, shapeOf, hasShape, lengthOf, bodyLength}
+use Rattle.frames.specs.Frames.{framed, frame}
+use Rattle.frames.specs.Writing.{kindOf, frameLength, writeAnswer, Wrote}
+use Rattle.frames.specs.Messages.{columnCount}
+use Rattle.frames.proofs.Shapes.{quote-kinds, shape-told, body-by}
 
--- the frame of a quote
-module _ {m : Message} (k : ℕ) (e : m ≡ Quote k) where
-  pub no-column : k < 1 → 0 ≡ frameLength m
-  no-column h = rw e (simp (lt-leb 1 k h))
+-- a message that has a frame has at most six columns
+pub column-range : (m : Message) → framed m ≡ true → columnCount m ≤ 6
+unfolding framed
+column-range (Quote k) f = quote-kinds k (shape-told Columns k f) .1
+column-range (Sized k n) f = zero-le
+column-range (Change k n p) f = zero-le
+column-range (Open d N directions) f = zero-le
+column-range End f = zero-le
+column-range (NotRead r) f = zero-le
 
-  pub many-columns : 6 < k → 0 ≡ frameLength m
-  many-columns h = rw e (simp (lt-leb k 6 h, and-false))
+-- ---- the length of a frame
 
-  pub length-quote : 1 ≤ k → k ≤ 6 → 1 + 4 * k ≡ frameLength m
-  length-quote some few = rw e (simp (le-leb 1 k some, le-leb k 6 few))
+-- the body of a kind that has a shape
+sized : (shape : Shape) (kind : ℕ) → hasShape shape kind ≡ true → lengthOf shape kind ≡ bodyLength kind
+sized shape kind f = sym (body-by shape kind (shape-told shape kind f))
 
-  pub quote-fits : (room : ℕ) → framed m ≡ true → frameLength m ≤ room → (k ≤ 6) × (1 + 4 * k ≤ room)
-  unfolding framed
-  quote-fits room f h =
-      let some : leb 1 k && leb k 6 ≡ true = rw e at f in
-      (leb-true k 6 (and-right (leb 1 k) (leb k 6) some), rw some at (rw e at h))
+-- a message with a frame has as many bytes behind its kind as that kind's body
+pub frame-size : (m : Message) (cs : List ℕ) → framed m ≡ true → columnCount m ≤ length cs → length (frame m cs) ≡ suc (bodyLength (kindOf m))
+unfolding framed frame bytes2 bytes4 lengthOf bodyLength shapeOf shapeIn kinds
+frame-size (Quote k) cs f e = ap suc (length-cells (take k cs) ∙ ap (λ (n : ℕ). 4 * n) (length-take-le k cs e) ∙ sized Columns k f)
+frame-size (Sized k n) cs f e = ap suc (sized Size k f)
+frame-size (Change k n p) cs f e = ap suc (sized SizePosition k f)
+frame-size (Open d N directions) cs f e = refl
+frame-size End cs f e = absurd (clash false f refl)
+frame-size (NotRead r) cs f e = absurd (clash false f refl)
 
-length-frame : (m : Message) (columns : List ℕ) → length columns ≡ 6 → framed m ≡ true → length (frame m columns) ≡ frameLength m
-unfolding framed frame bytes2 bytes4
-length-frame (Quote k) columns six f =
-    let few : k ≤ 6 = leb-true k 6 (and-right (leb 1 k) (leb k 6) f) in
-    let taken : length (take k columns) ≡ k = length-take-le k columns (omega arith) in
-    rw f (ap suc (length-cells (take k columns) ∙ ap (λ (n : ℕ). 4 * n) taken) ∙ omega arith)
-length-frame (Look n) columns six f = refl
-length-frame (Watch n) columns six f = refl
-length-frame (Unwatch n) columns six f = refl
-length-frame (Leave n p) columns six f = refl
-length-frame (Join n p) columns six f = refl
-length-frame (Open d N directions) columns six f = refl
-length-frame End columns six f = absurd (clash false f refl)
-length-frame (NotRead r) columns six f = absurd (clash false f refl)
+-- the length that the writer works out
+length-framed : (m : Message) → framed m ≡ true → suc (bodyLength (kindOf m)) ≡ frameLength m
+unfolding frameLength
+length-framed m f = rw f
+
+pub length-found : (m : Message) → framed m ≡ true → {kind body : ℕ} → kind ≡ kindOf m → body ≡ bodyLength kind → body + 1 ≡ frameLength m
+length-found m f e b = rw (b, e) (omega (arith, length-framed m f))
+
+pub length-unframed : (m : Message) → framed m ≡ false → 0 ≡ frameLength m
+unfolding frameLength
+length-unframed m f = rw f
 
 -- a length other than 0 is that of a frame
 pub has-frame : (m : Message) → (frameLength m ≡ 0 → ⊥) → framed m ≡ true
-unfolding framed
-has-frame (Quote k) h = go (within 1 6 k) h
-  where
-    go : (b : Bool) → (cond b (1 + 4 * k) 0 ≡ 0 → ⊥) → b ≡ true
-    go true h = refl
-    go false h = absurd (h refl)
-has-frame (Look n) h = refl
-has-frame (Watch n) h = refl
-has-frame (Unwatch n) h = refl
-has-frame (Leave n p) h = refl
-has-frame (Join n p) h = refl
-has-frame (Open d N directions) h = refl
-has-frame End h = absurd (h refl)
-has-frame (NotRead r) h = absurd (h refl)
+has-frame m h = not-false (framed m) (refute (not (framed m)) (λ e. h (sym (length-unframed m (not-true (framed m) e)))))
 
 no-frame : (m : Message) → frameLength m ≡ 0 → framed m ≡ false
-unfolding framed
-no-frame (Quote k) h = go (within 1 6 k) h
-  where
-    go : (b : Bool) → cond b (1 + 4 * k) 0 ≡ 0 → b ≡ false
-    go true h = absurd (omega arith)
-    go false h = refl
-no-frame (Look n) h = absurd (omega arith)
-no-frame (Watch n) h = absurd (omega arith)
-no-frame (Unwatch n) h = absurd (omega arith)
-no-frame (Leave n p) h = absurd (omega arith)
-no-frame (Join n p) h = absurd (omega arith)
-no-frame (Open d N directions) h = absurd (omega arith)
-no-frame End h = refl
-no-frame (NotRead r) h = refl
+no-frame m h = refute (framed m) (λ e. let l = length-framed m e in omega arith)
+
+-- the room that the parts of the writer ask for
+module _ (m : Message) (room : ℕ) (f : framed m ≡ true) (h : frameLength m ≤ room) where
+  body-fits : suc (bodyLength (kindOf m)) ≤ room
+  body-fits = omega (arith, length-framed m f)
+
+  pub quote-fits : (k : ℕ) → m ≡ Quote k → (k ≤ 6) × (1 + 4 * k ≤ room)
+  unfolding framed lengthOf
+  quote-fits k e =
+      let t : hasShape Columns k ≡ true = rw e at f in
+      let size : suc (bodyLength k) ≤ room = rw e at body-fits in
+      (quote-kinds k (shape-told Columns k t) .1, omega (arith, sized Columns k t))
+
+  pub size-fits : (k n : ℕ) → m ≡ Sized k n → 3 ≤ room
+  unfolding framed lengthOf
+  size-fits k n e =
+      let size : suc (bodyLength k) ≤ room = rw e at body-fits in
+      omega (arith, sized Size k (rw e at f))
+
+  pub change-fits : (k n p : ℕ) → m ≡ Change k n p → 7 ≤ room
+  unfolding framed lengthOf
+  change-fits k n p e =
+      let size : suc (bodyLength k) ≤ room = rw e at body-fits in
+      omega (arith, sized SizePosition k (rw e at f))
+
+  pub open-fits : (d N directions : ℕ) → m ≡ Open d N directions → 5 ≤ room
+  unfolding bodyLength lengthOf shapeOf shapeIn kinds
+  open-fits d N directions e = rw e at body-fits
+
+-- ---- the answers
 
 module _ (m : Message) (columns before : List ℕ) where
   -- the refusals, which leave the output as it was
   pub refused-unframed : frameLength m ≡ 0 → Wrote m columns before (record { answer = Refused UnknownKind; count = 0 }) before
-  unfolding writeReply writeOut writeAnswer first settled
-  refused-unframed h = let f = no-frame m h in record { reply = simp f; bytes = simp f }
+  unfolding writeAnswer firstOf granted
+  refused-unframed h = let f = no-frame m h in record { answer = simp f; count = simp f; bytes = simp f }
 
-  pub refused-short : length columns ≡ 6 → (frameLength m ≡ 0 → ⊥) → length before < frameLength m → Wrote m columns before (record { answer = Refused ShortOutput; count = 0 }) before
-  unfolding writeReply writeOut writeAnswer first settled
-  refused-short six h short =
-      let f = has-frame m h in
-      let l = length-frame m columns six f in
-      let t = lt-ltb (length before) (frameLength m) short in
-      record { reply = simp (f, l, t); bytes = simp (f, l, t) }
+  module _ (six : length columns ≡ 6) (some : frameLength m ≡ 0 → ⊥) where
+    -- the length of the frame
+    long : length (frame m columns) ≡ frameLength m
+    long = frame-size m columns (has-frame m some) (omega (arith, column-range m (has-frame m some))) ∙ length-framed m (has-frame m some)
 
-  -- the frame is laid over the front
-  pub accepted : (after : List ℕ) → length columns ≡ 6 → (frameLength m ≡ 0 → ⊥) → frameLength m ≤ length before → after ≡ laid (frame m columns) before
-      → Wrote m columns before (record { answer = Accepted; count = frameLength m }) after
-  unfolding writeReply writeOut writeAnswer first settled
-  accepted after six h room e =
-      let f = has-frame m h in
-      let l = length-frame m columns six f in
-      let t = le-ltb (length before) (frameLength m) room in
-      record { reply = simp (f, l, t); bytes = simp (f, l, t) e }
+    pub refused-short : length before < frameLength m → Wrote m columns before (record { answer = Refused ShortOutput; count = 0 }) before
+    unfolding writeAnswer firstOf granted
+    refused-short short =
+        let f = has-frame m some in
+        let t = lt-ltb (length before) (frameLength m) short in
+        record { answer = simp (f, long, t); count = simp (f, long, t); bytes = simp (f, long, t) }
+
+    -- the frame is laid over the front
+    pub accepted : (after : List ℕ) → frameLength m ≤ length before → after ≡ laid (frame m columns) before
+        → Wrote m columns before (record { answer = Accepted; count = frameLength m }) after
+    unfolding writeAnswer firstOf granted
+    accepted after room e =
+        let f = has-frame m some in
+        let t = le-ltb (length before) (frameLength m) room in
+        record { answer = simp (f, long, t); count = simp (f, long, t); bytes = simp (f, long, t) e }

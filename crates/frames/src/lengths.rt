@@ -1,6 +1,6 @@
 // Body lengths: how many bytes follow the kind of a frame.
 ghost use mathlib.Core.Path.{_≡_};
-ghost use Rattle.frames.specs.Frames.{bodyLength};
+ghost use Rattle.frames.specs.Kinds.{bodyLength};
 
 // The body length of each kind; 255 for an unknown kind.
 const BODY_LENGTHS: [u8; 256] = [

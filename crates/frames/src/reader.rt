@@ -2,26 +2,28 @@
 ghost use mathlib.Core.Path.{_≡_};
 ghost use Prim.Native.Nat.{_+_, _*_, _≤_, _<_};
 ghost use lib.ListN.{length};
-ghost use Rattle.frames.specs.Frames.{bodyLength, messageAt, columnsAt, stays, readAt};
+ghost use Rattle.frames.specs.Kinds.{bodyLength};
+ghost use Rattle.frames.specs.Frames.{messageAt, columnsAt, saying, reading, stays, readAt};
 use crate::Message;
 use crate::Read;
+use crate::Shape;
+use crate::kinds::shape_of;
 use crate::lengths::body_length;
 use head::Refusal;
 use octets::four_at;
 use octets::two_at;
 
-// The message of a known kind that is no quote's, its whole body from a place on.
+// The message of a kind, its whole body from a place on.
 fn message_at(tape: &[u8], body: usize, kind: u8) -> Message
-    requires { ⌜ (6 < kind) × (body + bodyLength kind ≤ length (now tape)) ⌝ }
+    requires { ⌜ body + bodyLength kind ≤ length (now tape) ⌝ }
     ensures { λ r. ⌜ r ≡ messageAt (now (tape .entry)) body kind ⌝ }
 {
-    match kind {
-        16 => Message::Look(two_at(tape, body)),
-        17 => Message::Watch(two_at(tape, body)),
-        18 => Message::Unwatch(two_at(tape, body)),
-        32 => Message::Leave(two_at(tape, body), four_at(tape, body + 2)),
-        33 => Message::Join(two_at(tape, body), four_at(tape, body + 2)),
-        _ => Message::Open(tape[body], two_at(tape, body + 1), tape[body + 3]),
+    match shape_of(kind) {
+        Shape::Columns => Message::Quote(kind),
+        Shape::Size => Message::Sized(kind, two_at(tape, body)),
+        Shape::SizePosition => Message::Change(kind, two_at(tape, body), four_at(tape, body + 2)),
+        Shape::Settings => Message::Open(tape[body], two_at(tape, body + 1), tape[body + 3]),
+        Shape::Unknown => Message::Refused(Refusal::UnknownKind),
     }
 }
 
@@ -43,7 +45,7 @@ fn quote_at(tape: &[u8], body: usize, kind: u8) -> [u32; 6]
 
 // Nothing is read: this message, no columns, and the place stays.
 fn stay(message: Message, place: usize) -> Read
-    ensures { λ r. ⌜ r ≡ stays message place ⌝ }
+    ensures { λ r. ⌜ reading r ≡ stays (saying message) place ⌝ }
 {
     Read {
         message,
@@ -54,7 +56,7 @@ fn stay(message: Message, place: usize) -> Read
 
 // What is read at a place of a tape: 2 beyond the end, the end at the end, 1 for an unknown kind, 2 for a cut frame.
 pub fn read_at(tape: &[u8], place: usize) -> Read
-    ensures { λ r. ⌜ r ≡ readAt (now (tape .entry)) place ⌝ }
+    ensures { λ r. ⌜ reading r ≡ readAt (now (tape .entry)) place ⌝ }
 {
     if tape.len() < place {
         return stay(Message::Refused(Refusal::CutFrame), place);

@@ -6,9 +6,13 @@ ghost use mathlib.Core.Bool.{true};
 ghost use lib.ListN.{length};
 ghost use Rattle.lists.specs.Lists.{laid};
 ghost use Rattle.frames.specs.Frames.{framed, frame};
-ghost use Rattle.frames.specs.Writing.{frameLength, Wrote};
+ghost use Rattle.frames.specs.Writing.{kindOf, frameLength, Wrote};
 use crate::Message;
+use crate::Shape;
 use crate::Written;
+use crate::kinds::OPEN;
+use crate::kinds::has_shape;
+use crate::lengths::body_length;
 use head::Answer;
 use head::Refusal;
 use octets::lay_change;
@@ -21,7 +25,7 @@ fn lay_open(dimensions: u8, capacity: u16, directions: u8, out: &mut [u8])
     requires { ⌜ 5 ≤ length (now out) ⌝ }
     ensures { λ r. ⌜ now (out .exit) ≡ laid (frame (Message.Open dimensions capacity directions) []) (now (out .entry)) ⌝ }
 {
-    out[0] = 48;
+    out[0] = OPEN;
     out[1] = dimensions;
     put_two(capacity, 2, out);
     out[4] = directions;
@@ -42,29 +46,42 @@ fn lay_quote(kind: u8, columns: [u32; 6], out: &mut [u8])
     }
 }
 
+// Whether a message has a frame.
+fn framed(message: Message) -> bool
+    ensures { λ r. ⌜ r ≡ framed message ⌝ }
+{
+    match message {
+        Message::Quote(k) => has_shape(Shape::Columns, k),
+        Message::Sized(k, _) => has_shape(Shape::Size, k),
+        Message::Change(k, _, _) => has_shape(Shape::SizePosition, k),
+        Message::Open(_, _, _) => true,
+        Message::End => false,
+        Message::Refused(_) => false,
+    }
+}
+
+// The kind of a message; 0 for one that is no frame's.
+fn kind_of(message: Message) -> u8
+    ensures { λ r. ⌜ r ≡ kindOf message ⌝ }
+{
+    match message {
+        Message::Quote(k) => k,
+        Message::Sized(k, _) => k,
+        Message::Change(k, _, _) => k,
+        Message::Open(_, _, _) => OPEN,
+        Message::End => 0,
+        Message::Refused(_) => 0,
+    }
+}
+
 // How many bytes the frame of a message has; 0 for a message with no frame.
 fn frame_length(message: Message) -> usize
     ensures { λ r. ⌜ r ≡ frameLength message ⌝ }
 {
-    match message {
-        Message::Quote(k) => {
-            if k < 1 {
-                return 0;
-            }
-            if 6 < k {
-                return 0;
-            }
-            1 + 4 * (k as usize)
-        }
-        Message::Look(_) => 3,
-        Message::Watch(_) => 3,
-        Message::Unwatch(_) => 3,
-        Message::Leave(_, _) => 7,
-        Message::Join(_, _) => 7,
-        Message::Open(_, _, _) => 5,
-        Message::End => 0,
-        Message::Refused(_) => 0,
+    if !framed(message) {
+        return 0;
     }
+    body_length(kind_of(message)) as usize + 1
 }
 
 // Lays the frame of a message that has one.
@@ -74,11 +91,8 @@ fn lay(message: Message, columns: [u32; 6], out: &mut [u8])
 {
     match message {
         Message::Quote(k) => lay_quote(k, columns, out),
-        Message::Look(n) => lay_number(16, n, out),
-        Message::Watch(n) => lay_number(17, n, out),
-        Message::Unwatch(n) => lay_number(18, n, out),
-        Message::Leave(n, position) => lay_change(32, n, position, out),
-        Message::Join(n, position) => lay_change(33, n, position, out),
+        Message::Sized(k, n) => lay_number(k, n, out),
+        Message::Change(k, n, position) => lay_change(k, n, position, out),
         Message::Open(d, n, directions) => lay_open(d, n, directions, out),
         Message::End => {}
         Message::Refused(_) => {}

@@ -1,5 +1,5 @@
 -- The cases of the check and of the comparison, and dominance by the columns that are read from two whole quote frames.
-use mathlib.Core.Path.{_≡_, refl}
+use mathlib.Core.Path.{_≡_, refl, _∙_}
 use Prim.Native.Nat.{ℕ, _+_, _*_, _/_, _^_, _≤_, _<_}
 use native.Mathlib.Omega.{arith}
 use mathlib.Core.Bool.{Bool, _&&_, not, cond}
@@ -14,8 +14,10 @@ use Rattle.dominance.specs.Dominance.{dominates}
 use Rattle.dominance.specs.Compared.{compared}
 use Rattle.dominance.proofs.Comparing.{dominates-by}
 use Rattle.frames.specs.declared.Read.{Read}
-use Rattle.frames.specs.Frames.{bodyLength, readAt, columnsAt}
-use Rattle.frames.proofs.Reading.{quote-body}
+use Rattle.frames.specs.Kinds.{bodyLength}
+use Rattle.frames.specs.Frames.{reading, readAt, columnsAt}
+use Rattle.frames.proofs.Shapes.{quote-body}
+use Rattle.frames.proofs.Reading.{read-columns}
 use Rattle.host.specs.Host.{checkOf, columnsOf, compareOf, WholeQuote}
 
 module _ (s : List ℕ) where
@@ -68,18 +70,22 @@ module _ (s : List ℕ) where
         le-ltb (length s) (1 + bodyLength (getD s 0 0)) (let l = w .long in omega arith),
       )
 
+  -- the columns of what was read
+  columns-found : (kind : ℕ) → WholeQuote kind s → (r : Read) → reading r ≡ readAt s 0 → r .columns ≡ columnsOf s
+  columns-found kind w r e = read-columns r e ∙ whole-columns kind w
+
   columns-six : length (columnsOf s) ≡ 6
   unfolding columnsOf columnsAt run
   columns-six = refl
 
   -- what is read from a whole quote frame has the columns of its kind
-  pub columns-fit : (kind : ℕ) → WholeQuote kind s → (r : Read) → r ≡ readAt s 0 → kind ≤ length (r .columns)
-  columns-fit kind w r e = rw (e, whole-columns kind w, columns-six) (w .few)
+  pub columns-fit : (kind : ℕ) → WholeQuote kind s → (r : Read) → reading r ≡ readAt s 0 → kind ≤ length (r .columns)
+  columns-fit kind w r e = rw (columns-found kind w r e, columns-six) (w .few)
 
 -- the columns that are read from two whole quote frames decide dominance
-pub read-dominates : (kind directions : ℕ) (a b : List ℕ) → WholeQuote kind a → WholeQuote kind b → (p q : Read) → p ≡ readAt a 0 → q ≡ readAt b 0
+pub read-dominates : (kind directions : ℕ) (a b : List ℕ) → WholeQuote kind a → WholeQuote kind b → (p q : Read) → reading p ≡ readAt a 0 → reading q ≡ readAt b 0
     → (r : Comparison) → r ≡ compared kind directions (p .columns) (drop 0 (q .columns)) → r .better && not (r .worse) ≡ dominates kind directions (columnsOf a) (columnsOf b)
-read-dominates kind directions a b v w p q e f r h = rw (h, e, f, whole-columns a kind v, whole-columns b kind w, dominates-by)
+read-dominates kind directions a b v w p q e f r h = rw (h, columns-found a kind v p e, columns-found b kind w q f, dominates-by)
 
 module _ (a b : List ℕ) (directions : ℕ) where
   pub first-cut : checkOf a ≡ 2 → compareOf a b directions ≡ 2

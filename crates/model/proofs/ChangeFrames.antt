@@ -7,10 +7,10 @@ use lib.ListN.{length, length-append, length-map}
 use Rattle.lists.specs.Lists.{flat}
 use Rattle.lists.proofs.Filters.{flat-append, map-append}
 use Rattle.frames.specs.declared.Message.{Message}
-use Rattle.frames.specs.declared.Message.the-variants.{Leave, Join}
+use Rattle.frames.specs.Kinds.{leaveKind, joinKind}
 use Rattle.frames.specs.Frames.{frame}
-use Rattle.frames.proofs.RoundTrips.{leave-length, join-length}
-use Rattle.model.specs.Changes.{missing, changes, frames}
+use Rattle.frames.proofs.RoundTrips.{change-length}
+use Rattle.model.specs.Changes.{leave, join, missing, changesBy, changes, frames}
 
 pub frames-append : (ms ns : List Message) → frames (ms ++ ns) ≡ frames ms ++ frames ns
 unfolding frames
@@ -25,14 +25,14 @@ sevens message e (p ∷ l) = length-append (frame (message p) []) (frames (map m
 
 -- each change is a frame of seven bytes
 pub changes-bytes : (n : ℕ) (before after : List ℕ) → length (frames (changes n before after)) ≡ 7 * length (changes n before after)
-unfolding changes
+unfolding changes changesBy
 changes-bytes n before after =
     ap length (frames-append leaves joins)
     ∙ length-append (frames leaves) (frames joins)
-    ∙ omega (arith, sevens (Leave n) (leave-length n) (missing before after), sevens (Join n) (join-length n) (missing after before), length-append leaves joins, length-map (missing before after) (Leave n), length-map (missing after before) (Join n))
+    ∙ omega (arith, sevens (leave n) (change-length leaveKind n) (missing before after), sevens (join n) (change-length joinKind n) (missing after before), length-append leaves joins, length-map (missing before after) (leave n), length-map (missing after before) (join n))
   where
     leaves : List Message
-    leaves = map (Leave n) (missing before after)
+    leaves = map (leave n) (missing before after)
 
     joins : List Message
-    joins = map (Join n) (missing after before)
+    joins = map (join n) (missing after before)

@@ -23,9 +23,8 @@ use Rattle.head.specs.Refusals.{number, firstOf}
 use Rattle.head.specs.Heads.{settingsHold, lastPosition}
 use Rattle.head.proofs.Settings.{settings-within}
 use Rattle.frames.specs.declared.Message.{Message}
-use Rattle.frames.specs.declared.Message.the-variants.{Leave, Join}
 use Rattle.model.specs.Rows.{Row, Tables, rowAt, rowsIn, expiring, renamedRow, listed, remains, remaining, lowerEndAmong, rowsAfter}
-use Rattle.model.specs.Changes.{missing, changes, allChanges, frames}
+use Rattle.model.specs.Changes.{leave, join, missing, changesBy, changes, allChanges, frames}
 use Rattle.model.specs.Book.{shortLoan, tornRows, tornWatches, standing, bookRows, listOf, watchfulAnswer, quoteRows, quoteHead, quoteBytes, quoteAnswer, ChangesFit}
 use Rattle.model.proofs.Rules.{Whole, untorn-whole}
 use Rattle.model.proofs.ChangeFrames.{frames-append, changes-bytes}
@@ -34,13 +33,13 @@ use Rattle.model.proofs.ChangeFrames.{frames-append, changes-bytes}
 changes-among : (lo hi n : ℕ) (before after all : List ℕ) → rising lo hi before ≡ true → rising lo hi after ≡ true → rising lo hi all ≡ true
     → ((p : ℕ) → contains p before ≡ true → contains p all ≡ true) → ((p : ℕ) → contains p after ≡ true → contains p all ≡ true)
     → length (changes n before after) ≤ length all
-unfolding changes missing
+unfolding changes changesBy missing
 changes-among lo hi n before after all eb ea el pb pa =
     let fit = parts-fit lo hi leaves joins all (rising-filter (λ p. not (contains p after)) lo hi before eb) (rising-filter (λ p. not (contains p before)) lo hi after ea) el
     (λ p t. pb p (and-left (contains p before) (not (contains p after)) (sym (contains-filter (λ p. not (contains p after)) p before) ∙ t)))
     (λ p t. pa p (and-left (contains p after) (not (contains p before)) (sym (contains-filter (λ p. not (contains p before)) p after) ∙ t)))
     (λ p. simp contains-filter (apart (contains p before) (contains p after))) in
-    omega (arith, length-append (map (Leave n) leaves) (map (Join n) joins), length-map leaves (Leave n), length-map joins (Join n))
+    omega (arith, length-append (map (leave n) leaves) (map (join n) joins), length-map leaves (leave n), length-map joins (join n))
   where
     leaves : List ℕ
     leaves = missing before after

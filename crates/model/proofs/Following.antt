@@ -20,11 +20,11 @@ use Rattle.head.specs.Refusals.{granted}
 use Rattle.head.specs.Heads.{lastPosition}
 use Rattle.head.proofs.Numbers.{zero-passed}
 use Rattle.frames.specs.declared.Message.{Message}
-use Rattle.frames.specs.declared.Message.the-variants.{Join}
-use Rattle.model.specs.Changes.{allChanges, frames}
+use Rattle.frames.specs.Frames.{messagesFrom}
+use Rattle.model.specs.Changes.{join, allChanges, frames}
 use Rattle.model.specs.Reference.{Reference, newest, over, skylineOf, outside, withQuote, withWatched, opening, tells, referenceStep}
 use Rattle.model.specs.Calls.{Call, Open, Quote, Look, Watch, End, Outputs, Lent, Seen, lengthsOf, expectedStep}
-use Rattle.model.specs.Watcher.{Held, Nothing, Holding, messagesFrom, heedsAll, reads, watcherStep, heldBy}
+use Rattle.model.specs.Watcher.{Held, Nothing, Holding, heedsAll, reads, watcherStep, heldBy}
 use Rattle.model.proofs.Simulation.{in-range}
 use Rattle.model.proofs.Heeding.{first-heeded, other-joins, all-heeded}
 use Rattle.model.proofs.ReadBack.{Sent, read-back, sent-joins, sent-all}
@@ -82,7 +82,7 @@ module _ (s : Reference) (ok : Bounded s) where
   before-rises n = skyline-rises s n lastPosition (ok .short)
 
   -- the joins of a watch have frames
-  pub sent-watch : (n : ℕ) → outside s n ≡ false → Sent (map (Join n) (skylineOf s n))
+  pub sent-watch : (n : ℕ) → outside s n ≡ false → Sent (map (join n) (skylineOf s n))
   sent-watch n e =
       let r = in-range s n e in
       let small : n < 65536 = omega (arith, ok .small) in
@@ -145,7 +145,7 @@ module _ (n : ℕ) (s : Reference) (l : Lent) (ok : Bounded s) (o : Outputs) whe
   module _ (m : ℕ) where
     -- the joins of an accepted watch, and the model with it
     abbrev joins : List Message
-    joins = map (Join m) (skylineOf s m)
+    joins = map (join m) (skylineOf s m)
 
     abbrev watching : Reference
     watching = withWatched s (insert m (s .watched))

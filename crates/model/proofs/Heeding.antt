@@ -15,9 +15,8 @@ use Rattle.lists.proofs.Members.{contains-filter}
 use Rattle.lists.proofs.Rising.{Rises, rising-cons, rising-filter, rising-above, rising-ext, contains-insert, rising-insert}
 use Rattle.lists.proofs.Apart.{eqb-swap, contains-without}
 use Rattle.frames.specs.declared.Message.{Message}
-use Rattle.frames.specs.declared.Message.the-variants.{Leave, Join}
-use Rattle.model.specs.Changes.{missing, changes, allChanges}
-use Rattle.model.specs.Watcher.{heeds, heedsAll}
+use Rattle.model.specs.Changes.{leave, join, missing, changesBy, changes, allChanges}
+use Rattle.model.specs.Watcher.{applied, heeds, heedsAll}
 
 -- no message, and messages behind others
 heeds-none : (n : ℕ) (held : List ℕ) → heedsAll n held [] ≡ held
@@ -30,12 +29,12 @@ heeds-append n held [] ns = refl
 heeds-append n held (m ∷ ms) ns = heeds-append n (heeds n held m) ms ns
 
 -- its own leaves and joins are heeded
-heeds-leave : (n p : ℕ) (held : List ℕ) (ms : List Message) → heedsAll n held (Leave n p ∷ ms) ≡ heedsAll n (without p held) ms
-unfolding heedsAll heeds
+heeds-leave : (n p : ℕ) (held : List ℕ) (ms : List Message) → heedsAll n held (leave n p ∷ ms) ≡ heedsAll n (without p held) ms
+unfolding heedsAll heeds applied
 heeds-leave n p held ms = ap (λ (b : Bool). heedsAll n (cond b (without p held) held) ms) (eq-eqb n n refl)
 
-heeds-join : (n p : ℕ) (held : List ℕ) (ms : List Message) → heedsAll n held (Join n p ∷ ms) ≡ heedsAll n (insert p held) ms
-unfolding heedsAll heeds
+heeds-join : (n p : ℕ) (held : List ℕ) (ms : List Message) → heedsAll n held (join n p ∷ ms) ≡ heedsAll n (insert p held) ms
+unfolding heedsAll heeds applied
 heeds-join n p held ms = ap (λ (b : Bool). heedsAll n (cond b (insert p held) held) ms) (eq-eqb n n refl)
 
 -- a rising list with the members that a test tells
@@ -45,7 +44,7 @@ record Holds (lo hi : ℕ) (l : List ℕ) (member : ℕ → Bool) : Type 0 where
 
 module _ (lo hi n : ℕ) where
   -- leaves take their positions out
-  leaves-heeded : (l held : List ℕ) → rising lo hi held ≡ true → Holds lo hi (heedsAll n held (map (Leave n) l)) (λ p. contains p held && not (contains p l))
+  leaves-heeded : (l held : List ℕ) → rising lo hi held ≡ true → Holds lo hi (heedsAll n held (map (leave n) l)) (λ p. contains p held && not (contains p l))
   unfolding contains any without
   leaves-heeded [] held e = rw (heeds-none n held) (record { risen = e; members = λ p. stay (contains p held) })
     where
@@ -54,7 +53,7 @@ module _ (lo hi n : ℕ) where
       stay false = refl
   leaves-heeded (x ∷ xs) held e =
       let r = leaves-heeded xs (without x held) (rising-filter (λ y. not (eqb x y)) lo hi held e) in
-      rw (heeds-leave n x held (map (Leave n) xs)) (record { risen = r .risen; members = λ p. r .members p ∙ rw contains-without (gone (contains p held) (eqb p x) (contains p xs)) })
+      rw (heeds-leave n x held (map (leave n) xs)) (record { risen = r .risen; members = λ p. r .members p ∙ rw contains-without (gone (contains p held) (eqb p x) (contains p xs)) })
     where
       gone : (a b c : Bool) → (a && not b) && not c ≡ a && not (b || c)
       gone true true c = refl
@@ -63,7 +62,7 @@ module _ (lo hi n : ℕ) where
 
   -- joins that rise, and of which none is held, put their positions in
   joins-heeded : (a : ℕ) (l held : List ℕ) → lo ≤ a → rising a hi l ≡ true → rising lo hi held ≡ true → ((p : ℕ) → contains p l ≡ true → contains p held ≡ false)
-      → Holds lo hi (heedsAll n held (map (Join n) l)) (λ p. contains p held || contains p l)
+      → Holds lo hi (heedsAll n held (map (join n) l)) (λ p. contains p held || contains p l)
   unfolding contains any
   joins-heeded a [] held h e f new = rw (heeds-none n held) (record { risen = f; members = λ p. stay (contains p held) })
     where
@@ -75,7 +74,7 @@ module _ (lo hi n : ℕ) where
       let low = u .low in
       let free = new x (or-left (eqb x x) (contains x xs) (eq-eqb x x refl)) in
       let r = joins-heeded (suc x) xs (insert x held) (omega arith) (u .rest) (rising-insert lo hi x held (omega arith) (u .high) free f) (λ p t. rw contains-insert (neither (eqb p x) (contains p held) (apart p t (u .rest)) (new p (or-right (eqb p x) (contains p xs) t)))) in
-      rw (heeds-join n x held (map (Join n) xs)) (record { risen = r .risen; members = λ p. r .members p ∙ rw contains-insert (moved (eqb p x) (contains p held) (contains p xs)) })
+      rw (heeds-join n x held (map (join n) xs)) (record { risen = r .risen; members = λ p. r .members p ∙ rw contains-insert (moved (eqb p x) (contains p held) (contains p xs)) })
     where
       apart : (p : ℕ) → contains p xs ≡ true → rising (suc x) hi xs ≡ true → eqb p x ≡ false
       apart p t r = refute (eqb p x) (λ s. clash (contains p xs) t (rw (eqb-true p x s) (rising-above (suc x) hi x xs (le-refl (suc x)) r)))
@@ -87,14 +86,14 @@ module _ (lo hi n : ℕ) where
 
   -- the changes of its own n lead from the list before to the list after
   own-heeded : (before after : List ℕ) → rising lo hi before ≡ true → rising lo hi after ≡ true → heedsAll n before (changes n before after) ≡ after
-  unfolding changes missing
+  unfolding changes changesBy missing
   own-heeded before after e f =
       let out = leaves-heeded (missing before after) before e in
-      let kept = heedsAll n before (map (Leave n) (missing before after)) in
+      let kept = heedsAll n before (map (leave n) (missing before after)) in
       let risen = rising-filter (λ p. not (contains p before)) lo hi after f in
       let done = joins-heeded lo (missing after before) kept (le-refl lo) risen (out .risen) (λ p t. out .members p ∙ rw (new p t)) in
-      heeds-append n before (map (Leave n) (missing before after)) (map (Join n) (missing after before))
-      ∙ rising-ext lo hi (heedsAll n kept (map (Join n) (missing after before))) after (done .risen) f
+      heeds-append n before (map (leave n) (missing before after)) (map (join n) (missing after before))
+      ∙ rising-ext lo hi (heedsAll n kept (map (join n) (missing after before))) after (done .risen) f
       (λ p. done .members p ∙ rw (out .members p) (simp contains-filter (swapped (contains p before) (contains p after))))
     where
       new : (p : ℕ) → contains p (missing after before) ≡ true → contains p before ≡ false
@@ -107,11 +106,11 @@ module _ (lo hi n : ℕ) where
       swapped false false = refl
 
   -- the joins of a list lead to it from nothing
-  pub first-heeded : (l : List ℕ) → rising lo hi l ≡ true → heedsAll n [] (map (Join n) l) ≡ l
+  pub first-heeded : (l : List ℕ) → rising lo hi l ≡ true → heedsAll n [] (map (join n) l) ≡ l
   unfolding rising contains any
   first-heeded l e =
       let done = joins-heeded lo l [] (le-refl lo) e refl (λ p t. refl) in
-      rising-ext lo hi (heedsAll n [] (map (Join n) l)) l (done .risen) e (done .members)
+      rising-ext lo hi (heedsAll n [] (map (join n) l)) l (done .risen) e (done .members)
 
 -- ---- another n
 
@@ -123,19 +122,19 @@ unheeded n message e (p ∷ l) held = ap (λ (h : List ℕ). heedsAll n h (map m
 
 module _ (n m : ℕ) (other : eqb m n ≡ false) where
   -- the joins of another n are not heeded
-  pub other-joins : (l held : List ℕ) → heedsAll n held (map (Join m) l) ≡ held
+  pub other-joins : (l held : List ℕ) → heedsAll n held (map (join m) l) ≡ held
   unfolding heeds
-  other-joins = unheeded n (Join m) (λ p held. rw other)
+  other-joins = unheeded n (join m) (λ p held. rw other)
 
   -- nor its leaves, nor its changes
-  other-leaves : (l held : List ℕ) → heedsAll n held (map (Leave m) l) ≡ held
+  other-leaves : (l held : List ℕ) → heedsAll n held (map (leave m) l) ≡ held
   unfolding heeds
-  other-leaves = unheeded n (Leave m) (λ p held. rw other)
+  other-leaves = unheeded n (leave m) (λ p held. rw other)
 
   other-changes : (before after held : List ℕ) → heedsAll n held (changes m before after) ≡ held
-  unfolding changes
+  unfolding changes changesBy
   other-changes before after held =
-      heeds-append n held (map (Leave m) (missing before after)) (map (Join m) (missing after before))
+      heeds-append n held (map (leave m) (missing before after)) (map (join m) (missing after before))
       ∙ rw (other-leaves (missing before after) held) (other-joins (missing after before) held)
 
 -- ---- the changes of every watch

@@ -9,7 +9,7 @@ use Rattle.head.specs.Heads.{settingsHold, afterQuote}
 use Rattle.octets.specs.Bytes.{bytes2, bytes4}
 use Rattle.frames.specs.Frames.{frame}
 use Rattle.model.specs.Rows.{rowAt, rowsIn, filled, expiring, renamed, renamedRow, listed, remains, remaining, lowerEndAmong, rowsAfter}
-use Rattle.model.specs.Changes.{missing, changes, allChanges, frames}
+use Rattle.model.specs.Changes.{missing, changesBy, changes, allChanges, frames}
 use Rattle.model.specs.Reference.{quoteAt, dominatesAt, skylineOf, rowOf, rowsOf, headOf, opened, outside, withQuote, withWatched, opening, tooShort, tells, referenceStep}
 use Rattle.model.specs.Book.{shortTables, shortLoan, tornRows, ordered, tornWatches, standing, bookRows, listOf, answerOf, watchfulAnswer, replyOf, outOfRange, openAnswer, openReply, openTables, openWatches, quoteRows, quoteHead, quoteBytes, quoteAnswer, quoteReply, quoteTables, quoteOut, lookCells, lookAnswer, lookReply, lookOut, watchBytes, watchAnswer, watchReply, watchWatches, watchOut, endAnswer, endReply, endWatches}
 use Rattle.model.specs.Calls.{bookSeen, headAfter, worldAfter, bookStep, lengthsOf, shown, expectedStep, runs}
@@ -23,7 +23,7 @@ unfolding filter any lastOr flat run between contains rising insert without laid
     windowStart stabbed dominatedIn skyline undominated rows lowerEnd
     firstOf granted settingsHold afterQuote bytes2 bytes4 frame
     rowAt rowsIn filled expiring renamed renamedRow listed remains remaining lowerEndAmong rowsAfter
-    missing changes allChanges frames
+    missing changesBy changes allChanges frames
     quoteAt dominatesAt skylineOf rowOf rowsOf headOf opened outside withQuote withWatched opening tooShort tells referenceStep
     shortTables shortLoan tornRows ordered tornWatches standing bookRows listOf answerOf watchfulAnswer replyOf outOfRange
     openAnswer openReply openTables openWatches quoteRows quoteHead quoteBytes quoteAnswer quoteReply quoteTables quoteOut

@@ -10,11 +10,11 @@ use borrow.Author.Tests.{le-ltb, eq-eqb}
 use Rattle.lists.specs.Lists.{flat, contains, rising}
 use Rattle.lists.proofs.Rising.{rising-cons, rising-filter}
 use Rattle.frames.specs.declared.Message.{Message}
-use Rattle.frames.specs.declared.Message.the-variants.{Leave, Join}
-use Rattle.frames.specs.Frames.{framed, frame, stays, readAt}
-use Rattle.frames.proofs.RoundTrips.{Writable, frame-length, read-after-write, leave-writable, join-writable}
-use Rattle.model.specs.Changes.{missing, changes, allChanges, frames}
-use Rattle.model.specs.Watcher.{messagesFrom}
+use Rattle.frames.specs.Frames.{frame, stays, readAt, before as behind, messagesFrom}
+use Rattle.frames.specs.Messages.{Writable}
+use Rattle.frames.proofs.WriteCases.{frame-size}
+use Rattle.frames.proofs.RoundTrips.{read-after-write, leave-writable, join-writable}
+use Rattle.model.specs.Changes.{leave, join, missing, changesBy, changes, allChanges, frames}
 
 -- messages that have frames without columns
 pub data Sent : List Message → Type 0 where
@@ -23,26 +23,26 @@ pub data Sent : List Message → Type 0 where
 
 -- nothing is read at the end
 read-end : (tape : List ℕ) (k place : ℕ) → place ≡ length tape → messagesFrom k tape place ≡ []
-unfolding messagesFrom readAt stays framed
+unfolding messagesFrom readAt stays behind
 read-end tape zero place e = refl
 read-end tape (suc k) place e = rw (e, le-ltb (length tape) (length tape) (le-refl (length tape)), eq-eqb (length tape) (length tape) refl)
 
 -- a message is read, and the reading goes on behind its frame
 read-on : (k : ℕ) (before after : List ℕ) (m : Message) → Writable m []
     → messagesFrom (suc k) (before ++ (frame m [] ++ after)) (length before) ≡ m ∷ messagesFrom k (before ++ (frame m [] ++ after)) (length before + length (frame m []))
-unfolding messagesFrom
-read-on k before after m w = rw (read-after-write before after m [] w, w .has-frame)
+unfolding messagesFrom behind
+read-on k before after m w = rw (read-after-write before after m [] w)
 
 -- the messages that are read are those that were written
 pub read-back : (ms : List Message) → Sent ms → (before : List ℕ) (k : ℕ) → length (frames ms) ≤ k → messagesFrom k (before ++ frames ms) (length before) ≡ ms
 unfolding frames flat
 read-back _ none before k h = rw append-nil (read-end before k (length before) refl)
-read-back _ (more {m} {ms} w s) before zero h = absurd (omega (arith, frame-length m [] (w .has-frame) (w .enough), length-append (frame m []) (frames ms)))
+read-back _ (more {m} {ms} w s) before zero h = absurd (omega (arith, frame-size m [] (w .has-frame) (w .enough), length-append (frame m []) (frames ms)))
 read-back _ (more {m} {ms} w s) before (suc k) h =
     read-on k before (frames ms) m w
     ∙ ap (λ (l : List Message). m ∷ l)
     (rw (← (length-append before (frame m [])), ← (append-assoc before (frame m []) (frames ms)))
-    (read-back ms s (before ++ frame m []) k (omega (arith, frame-length m [] (w .has-frame) (w .enough), length-append (frame m []) (frames ms)))))
+    (read-back ms s (before ++ frame m []) k (omega (arith, frame-size m [] (w .has-frame) (w .enough), length-append (frame m []) (frames ms)))))
 
 -- ---- the messages of the calls have frames
 
@@ -57,14 +57,14 @@ sent-map message lo hi fits (p ∷ l) e = let r = rising-cons lo hi p l e in mor
 
 module _ (lo hi : ℕ) (short : hi < 4294967296) where
   -- joins, and the changes of one watch
-  pub sent-joins : (n : ℕ) (l : List ℕ) → n < 65536 → rising lo hi l ≡ true → Sent (map (Join n) l)
-  sent-joins n l h = sent-map (Join n) lo hi (λ p u. join-writable n p h (omega arith)) l
+  pub sent-joins : (n : ℕ) (l : List ℕ) → n < 65536 → rising lo hi l ≡ true → Sent (map (join n) l)
+  sent-joins n l h = sent-map (join n) lo hi (λ p u. join-writable n p h (omega arith)) l
 
   sent-changes : (n : ℕ) (before after : List ℕ) → n < 65536 → rising lo hi before ≡ true → rising lo hi after ≡ true → Sent (changes n before after)
-  unfolding changes missing
+  unfolding changes changesBy missing
   sent-changes n before after h e f =
       sent-append
-      (sent-map (Leave n) lo hi (λ p u. leave-writable n p h (omega arith)) (missing before after) (rising-filter (λ p. not (contains p after)) lo hi before e))
+      (sent-map (leave n) lo hi (λ p u. leave-writable n p h (omega arith)) (missing before after) (rising-filter (λ p. not (contains p after)) lo hi before e))
       (sent-joins n (missing after before) h (rising-filter (λ p. not (contains p before)) lo hi after f))
 
   -- the changes of every watch

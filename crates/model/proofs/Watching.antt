@@ -15,8 +15,7 @@ use Rattle.lists.proofs.Writing.{length-padded, padded-again}
 use Rattle.head.specs.declared.Refusal.the-variants.{Settings, WindowSize, AlreadyWatched, NoFreeRecord, NotWatched, ShortOutput}
 use Rattle.head.specs.Refusals.{number, firstOf, granted}
 use Rattle.head.proofs.Numbers.{zero-passed, firstOf-alike}
-use Rattle.frames.specs.declared.Message.the-variants.{Join}
-use Rattle.model.specs.Changes.{frames}
+use Rattle.model.specs.Changes.{join, frames}
 use Rattle.model.specs.Reference.{Reference, skylineOf, rowOf, rowsOf, headOf, opened, outside, withWatched, tells, referenceStep}
 use Rattle.model.specs.Book.{shortLoan, bookRows, listOf, replyOf, outOfRange, lookCells, lookAnswer, lookReply, lookOut, watchBytes, watchAnswer, watchReply, watchWatches, watchOut, endAnswer, endReply, endWatches}
 use Rattle.model.specs.Calls.{Look, Watch, End, Outputs, Lent, bookSeen, headAfter, worldAfter, bookStep, lengthsOf, shown, expectedStep}
@@ -94,7 +93,7 @@ module _ (s : Reference) (l : Lent) (f : Invariant s l) (n : ℕ) where
   module _ (o : Outputs) where
     -- what the reference model writes
     abbrev joins : List ℕ
-    joins = frames (map (Join n) (skylineOf s n))
+    joins = frames (map (join n) (skylineOf s n))
 
     -- the reference model's answer
     abbrev watch-answer : ℕ

@@ -11,9 +11,8 @@ use Rattle.head.specs.declared.Refusal.the-variants.{Settings, ColumnCount, Win
 use Rattle.head.specs.Refusals.{number, firstOf, granted}
 use Rattle.head.specs.Replies.{Outcome}
 use Rattle.head.specs.Heads.{freshHead, settingsHold, afterQuote, lastPosition}
-use Rattle.frames.specs.declared.Message.the-variants.{Join}
 use Rattle.model.specs.Rows.{Row, Tables, rowsIn, filled, listed, rowsAfter}
-use Rattle.model.specs.Changes.{changes, allChanges, frames}
+use Rattle.model.specs.Changes.{join, changes, allChanges, frames}
 
 -- a table is shorter than these settings ask
 unfoldable pub shortTables : Tables → ℕ → ℕ → Bool
@@ -153,7 +152,7 @@ module _ (h : Head) (n : ℕ) (t : Tables) where
 module _ (h : Head) (n : ℕ) (t : Tables) (ws : List ℕ) where
   -- a join for each position of the list of n, as frames
   unfoldable pub watchBytes : List ℕ
-  watchBytes = frames (map (Join n) (listOf h (bookRows h t) n))
+  watchBytes = frames (map (join n) (listOf h (bookRows h t) n))
 
   -- the answer of a watch with this room for its joins: 3, 11, 12, then 5, 8, 9, 13
   unfoldable pub watchAnswer : ℕ → ℕ

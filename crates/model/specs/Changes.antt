@@ -4,16 +4,30 @@ use mathlib.Core.Bool.{Bool, not}
 use mathlib.Core.List.{List, [], _∷_, _++_, map}
 use Rattle.lists.specs.Lists.{filter, flat, contains}
 use Rattle.frames.specs.declared.Message.{Message}
-use Rattle.frames.specs.declared.Message.the-variants.{Leave, Join}
+use Rattle.frames.specs.declared.Message.the-variants.{Change}
+use Rattle.frames.specs.Kinds.{leaveKind, joinKind}
 use Rattle.frames.specs.Frames.{frame}
+
+-- a position leaves the list of n
+abbrev pub leave : ℕ → ℕ → Message
+leave = Change leaveKind
+
+-- a position joins the list of n
+abbrev pub join : ℕ → ℕ → Message
+join = Change joinKind
 
 -- the positions of the first list that are not on the second
 unfoldable pub missing : List ℕ → List ℕ → List ℕ
 missing these those = filter (λ p. not (contains p those)) these
 
--- the changes of the watch of n from the list before to the list after: the leaves, then the joins, each rising
+-- the changes from the list before to the list after, by the messages of a position that leaves and of one that joins: the leaves,
+-- then the joins, each rising
+unfoldable pub changesBy : (ℕ → Message) → (ℕ → Message) → List ℕ → List ℕ → List Message
+changesBy leaves joins before after = map leaves (missing before after) ++ map joins (missing after before)
+
+-- the changes of the watch of n
 unfoldable pub changes : ℕ → List ℕ → List ℕ → List Message
-changes n before after = map (Leave n) (missing before after) ++ map (Join n) (missing after before)
+changes n before after = changesBy (leave n) (join n) before after
 
 -- the changes of every watch, n rising as the watches do
 unfoldable pub allChanges : List ℕ → (ℕ → List ℕ) → (ℕ → List ℕ) → List Message

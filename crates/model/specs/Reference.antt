@@ -11,9 +11,8 @@ use Rattle.head.specs.declared.Head.{Head}
 use Rattle.head.specs.declared.Refusal.the-variants.{Settings, ColumnCount, WindowSize, TapeFull, AlreadyWatched, NoFreeRecord, NotWatched, ShortLoan, ShortOutput}
 use Rattle.head.specs.Refusals.{number, firstOf, granted}
 use Rattle.head.specs.Heads.{freshHead, settingsHold, lastPosition}
-use Rattle.frames.specs.declared.Message.the-variants.{Join}
 use Rattle.model.specs.Rows.{Row}
-use Rattle.model.specs.Changes.{allChanges, frames}
+use Rattle.model.specs.Changes.{join, allChanges, frames}
 
 -- what the reference model holds: the settings (zeros at first), every quote accepted since they were taken, the watched n
 pub record Reference : Type 0 where
@@ -151,7 +150,7 @@ referenceStep (Look n) l s =
     tells ((not (opened s), number Settings) ∷ (outside s n, number WindowSize) ∷ (ltb (l .cells) (length written), number ShortOutput) ∷ [])
     (headOf s) (length written) [] written s s
 referenceStep (Watch n) l s =
-    let written = frames (map (Join n) (skylineOf s n)) in
+    let written = frames (map (join n) (skylineOf s n)) in
     tells ((not (opened s), number Settings) ∷ (outside s n, number WindowSize) ∷ (contains n (s .watched), number AlreadyWatched)
     ∷ (leb 8 (length (s .watched)), number NoFreeRecord) ∷ (ltb (l .bytes) (length written), number ShortOutput) ∷ [])
     (headOf s) (length written) written [] (withWatched s (insert n (s .watched))) s

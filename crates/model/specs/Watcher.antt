@@ -1,5 +1,5 @@
 -- A watcher of n: reads the frames that the calls write, and applies the changes of its n.
-use Prim.Native.Nat.{ℕ, zero, suc}
+use Prim.Native.Nat.{ℕ}
 use mathlib.Core.Bool.{cond}
 use mathlib.Core.List.{List, [], _∷_}
 use lib.Dec.{eqb}
@@ -7,26 +7,21 @@ use lib.ListN.{length, take}
 use Rattle.lists.specs.Lists.{contains, insert, without}
 use Rattle.head.specs.Refusals.{granted}
 use Rattle.frames.specs.declared.Message.{Message}
-use Rattle.frames.specs.declared.Message.the-variants.{Quote, Look, Watch, Unwatch, Leave, Join, Open, End, Refused}
-use Rattle.frames.specs.Frames.{framed, readAt}
+use Rattle.frames.specs.declared.Message.the-variants.{Quote, Sized, Change, Open, End, Refused}
+use Rattle.frames.specs.Kinds.{leaveKind, joinKind}
+use Rattle.frames.specs.Frames.{messagesFrom}
 use Rattle.model.specs.Reference.{Reference, skylineOf}
 use Rattle.model.specs.Calls.{Call, Lending, Seen}
 
--- the messages read from a place on, at most k, up to the end of the tape or what cannot be read
-unfoldable pub messagesFrom : ℕ → List ℕ → ℕ → List Message
-messagesFrom zero tape place = []
-messagesFrom (suc k) tape place =
-    let read = readAt tape place in
-    cond (framed (read .message)) (read .message ∷ messagesFrom k tape (read .next)) []
+-- a list after a change of this kind at a position: it is taken out by a leave and put in by a join
+unfoldable pub applied : ℕ → ℕ → List ℕ → List ℕ
+applied kind p held = cond (eqb kind leaveKind) (without p held) (cond (eqb kind joinKind) (insert p held) held)
 
 -- the list that the watcher of n holds after a message
 unfoldable pub heeds : ℕ → List ℕ → Message → List ℕ
 heeds n held (Quote k) = held
-heeds n held (Look m) = held
-heeds n held (Watch m) = held
-heeds n held (Unwatch m) = held
-heeds n held (Leave m p) = cond (eqb m n) (without p held) held
-heeds n held (Join m p) = cond (eqb m n) (insert p held) held
+heeds n held (Sized k m) = held
+heeds n held (Change k m p) = cond (eqb m n) (applied k p held) held
 heeds n held (Open d N directions) = held
 heeds n held End = held
 heeds n held (Refused k) = held

@@ -11,16 +11,13 @@ use lib.ListN.{length, getD, drop, length-drop, drop-of-length-le}
 use lib.Seq.{drop-cons}
 use borrow.Author.Tests.{lt-ltb, le-ltb, ltb-true, ltb-false, eq-eqb, ne-eqb, not-true, not-false}
 use Rattle.lists.proofs.Booleans.{and-left, and-right}
-use Rattle.head.specs.declared.Answer.{Answer}
-use Rattle.head.specs.declared.Answer.the-variants.{Accepted, Refused}
-use Rattle.head.specs.declared.Refusal.the-variants.{UnknownKind, ShortOutput}
-use Rattle.head.specs.Refusals.{settled}
-use Rattle.head.proofs.Answers.{accepted-passed}
-use Rattle.frames.specs.Frames.{framed, frame, writeAnswer, writeReply}
-use Rattle.frames.specs.Writing.{Wrote}
+use Rattle.head.specs.Refusals.{firstOf, granted}
+use Rattle.frames.specs.Kinds.{lookKind, watchKind, unwatchKind}
+use Rattle.frames.specs.Frames.{framed, frame}
+use Rattle.frames.specs.Writing.{writeAnswer, Wrote}
 use Rattle.frames.specs.declared.Written.{Written}
 use Rattle.frames.specs.declared.Message.{Message}
-use Rattle.frames.specs.declared.Message.the-variants.{Quote, Look, Watch, Unwatch, Open}
+use Rattle.frames.specs.declared.Message.the-variants.{Quote, Sized, Open}
 use Rattle.notation.specs.declared.Fields.{Fields}
 use Rattle.notation.specs.Fields.{noField, after, fieldsFrom}
 use Rattle.notation.specs.Lines.{nothing, opens, opening, quoteOf, fits, ofNumber, said, saidBy, lineLength}
@@ -92,15 +89,15 @@ module _ (f : Fields) where
 
 -- the letters of a number
 module _ (letter n : ℕ) where
-  pub of-look : letter ≡ 76 → Look n ≡ ofNumber letter n
+  pub of-look : letter ≡ 76 → Sized lookKind n ≡ ofNumber letter n
   unfolding ofNumber
   of-look e = rw (eq-eqb letter 76 e)
 
-  pub of-watch : letter ≡ 87 → Watch n ≡ ofNumber letter n
+  pub of-watch : letter ≡ 87 → Sized watchKind n ≡ ofNumber letter n
   unfolding ofNumber
   of-watch e = rw e
 
-  pub of-end : letter ≡ 85 → Unwatch n ≡ ofNumber letter n
+  pub of-end : letter ≡ 85 → Sized unwatchKind n ≡ ofNumber letter n
   unfolding ofNumber
   of-end e = rw e
 
@@ -176,11 +173,13 @@ end-inside text place h = omega (arith, line-inside (drop place text), length-dr
 
 -- the frame that was written fits the output
 pub wrote-fits : {m : Message} {numbers before after : List ℕ} {r : Written} → Wrote m numbers before r after → r .count ≤ length before
-unfolding writeReply writeAnswer settled
-wrote-fits {m} {numbers} {before} w = rw (w .reply) (go (writeAnswer m numbers (length before)) refl)
+unfolding writeAnswer firstOf granted
+wrote-fits {m} {numbers} {before} w = rw (w .count) (go (not (framed m)) (ltb (length before) size) (ltb-false (length before) size))
   where
-    go : (a : Answer) → writeAnswer m numbers (length before) ≡ a → settled a (length (frame m numbers)) 0 ≤ length before
-    go Accepted e =
-        let more = accepted-passed (not (framed m)) UnknownKind ((ltb (length before) (length (frame m numbers)), ShortOutput) ∷ []) e in
-        ltb-false (length before) (length (frame m numbers)) (accepted-passed (ltb (length before) (length (frame m numbers))) ShortOutput [] (more .1) .0)
-    go (Refused k) e = omega arith
+    size : ℕ
+    size = length (frame m numbers)
+
+    go : (a b : Bool) → (b ≡ false → size ≤ length before) → granted (cond a 1 (cond b 13 0)) size 0 ≤ length before
+    go true b h = omega arith
+    go false true h = omega arith
+    go false false h = h refl

@@ -14,7 +14,8 @@ use borrow.Author.Tests.{ltb-true, ltb-false, lt-ltb, le-ltb, ne-eqb}
 use Rattle.lists.specs.Lists.{flat}
 use Rattle.lists.proofs.Booleans.{either, and-left, and-right}
 use Rattle.text.specs.Text.{digitsUpTo, digits, field, line}
-use Rattle.frames.specs.declared.Message.the-variants.{Quote, Look, Watch, Unwatch, Open}
+use Rattle.frames.specs.declared.Message.the-variants.{Quote, Sized, Open}
+use Rattle.frames.specs.Kinds.{lookKind, watchKind, unwatchKind}
 use Rattle.notation.specs.declared.Fields.{Fields}
 use Rattle.notation.specs.Fields.{noField, begun, grown, after, fieldsFrom}
 use Rattle.notation.specs.declared.Said.{Said}
@@ -132,15 +133,15 @@ module _ (n : ℕ) (h : n < 65536) where
   zeros = 0 ∷ 0 ∷ 0 ∷ 0 ∷ 0 ∷ []
 
   -- the lines of a look, a watch and the end of a watch are read back
-  pub look-read : saidBy (spelled 76 (n ∷ [])) .message ≡ Look n
+  pub look-read : saidBy (spelled 76 (n ∷ [])) .message ≡ Sized lookKind n
   unfolding noField said fieldsOf fits ofNumber zeros
   look-read = ap (λ (s : Said). s .message) (line-read 76 (n ∷ []) zeros refl (omega arith) one-small) ∙ rw (lt-ltb n 65536 h)
 
-  pub watch-read : saidBy (spelled 87 (n ∷ [])) .message ≡ Watch n
+  pub watch-read : saidBy (spelled 87 (n ∷ [])) .message ≡ Sized watchKind n
   unfolding noField said fieldsOf fits ofNumber zeros
   watch-read = ap (λ (s : Said). s .message) (line-read 87 (n ∷ []) zeros refl (omega arith) one-small) ∙ rw (lt-ltb n 65536 h)
 
-  pub end-read : saidBy (spelled 85 (n ∷ [])) .message ≡ Unwatch n
+  pub end-read : saidBy (spelled 85 (n ∷ [])) .message ≡ Sized unwatchKind n
   unfolding noField said fieldsOf fits ofNumber zeros
   end-read = ap (λ (s : Said). s .message) (line-read 85 (n ∷ []) zeros refl (omega arith) one-small) ∙ rw (lt-ltb n 65536 h)
 

@@ -6,7 +6,8 @@ use lib.Dec.{ltb, eqb}
 use lib.ListN.{getD}
 use Rattle.head.specs.declared.Refusal.the-variants.{UnknownKind}
 use Rattle.frames.specs.declared.Message.{Message}
-use Rattle.frames.specs.declared.Message.the-variants.{Quote, Look, Watch, Unwatch, Open, Refused}
+use Rattle.frames.specs.declared.Message.the-variants.{Quote, Sized, Open, Refused}
+use Rattle.frames.specs.Kinds.{lookKind, watchKind, unwatchKind}
 use Rattle.notation.specs.declared.Fields.{Fields}
 use Rattle.notation.specs.declared.Said.{Said}
 use Rattle.notation.specs.Fields.{noField, fieldsFrom}
@@ -34,7 +35,10 @@ fits f = eqb (f .count) 1 && ltb (getD (f .numbers) 0 0) 65536
 
 -- the message of a letter and a number: L, W or U
 unfoldable pub ofNumber : ℕ → ℕ → Message
-ofNumber letter n = cond (eqb letter 76) (Look n) (cond (eqb letter 87) (Watch n) (cond (eqb letter 85) (Unwatch n) nothing))
+ofNumber letter n =
+    cond (eqb letter 76) (Sized lookKind n)
+    (cond (eqb letter 87) (Sized watchKind n)
+    (cond (eqb letter 85) (Sized unwatchKind n) nothing))
 
 -- the message of a letter and its fields: O, Q, L, W or U
 unfoldable pub said : ℕ → Fields → Message

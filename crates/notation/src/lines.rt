@@ -1,13 +1,16 @@
 // Reading a line as a message, and writing its frame.
 ghost use mathlib.Core.Path.{_≡_};
-ghost use Prim.Native.Nat.{_+_, _≤_};
-ghost use lib.ListN.{length, drop};
+ghost use Prim.Native.Nat.{_+_};
+ghost use lib.ListN.{drop};
 ghost use Rattle.frames.specs.Writing.{Wrote};
 ghost use Rattle.notation.specs.Lines.{opens, opening, quoteOf, fits, said, saidBy, lineLength};
 use crate::Fields;
 use crate::Said;
 use crate::scanning::fields_from;
+use frames::LOOK;
 use frames::Message;
+use frames::UNWATCH;
+use frames::WATCH;
 use frames::Written;
 use head::Refusal;
 
@@ -71,9 +74,9 @@ fn message_of(letter: u8, fields: Fields) -> Message
     }
     let n = numbers[0] as u16;
     match letter {
-        76 => Message::Look(n),
-        87 => Message::Watch(n),
-        85 => Message::Unwatch(n),
+        76 => Message::Sized(LOOK, n),
+        87 => Message::Sized(WATCH, n),
+        85 => Message::Sized(UNWATCH, n),
         _ => Message::Refused(Refusal::UnknownKind),
     }
 }
@@ -96,9 +99,8 @@ pub fn read_line(line: &[u8]) -> Said
     }
 }
 
-// The end of the line that begins at a place: where its newline stands, or the end of the text.
+// The end of the line that begins at a place: where its newline stands, or the end of the text. A place beyond the end is its own.
 pub fn line_end(text: &[u8], place: usize) -> usize
-    requires { ⌜ place ≤ length (now text) ⌝ }
     ensures { λ r. ⌜ r ≡ place + lineLength (drop place (now (text .entry))) ⌝ }
 {
     let mut at = place;

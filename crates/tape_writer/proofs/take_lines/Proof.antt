@@ -35,7 +35,7 @@ add-place : tie.Need-add-place Inv-loop μ-loop
 add-place c = omega arith
 
 line-end-requires-2 : tie.Need-line-end-requires-2 Inv-loop μ-loop
-line-end-requires-2 c κs = omega (arith, c .before .before .before .before .before .«loop-test» .taken)
+line-end-requires-2 c κs = search needs
 
 loop-less : tie.Need-loop-less Inv-loop μ-loop
 loop-less c = omega (arith, c .«line-end2» .ensures)

@@ -5,11 +5,11 @@ use mathlib.Core.List.{[], map}
 use lib.ListN.{getD}
 use denote.Ref.{now}
 use Rattle.lists.specs.Lists.{keep, laid}
-use Rattle.frames.specs.declared.Message.the-variants.{Leave}
 use Rattle.frames.specs.Frames.{frame}
-use Rattle.model.specs.Changes.{frames}
+use Rattle.frames.specs.Kinds.{leaveKind}
+use Rattle.frames.proofs.RoundTrips.{change-length}
+use Rattle.model.specs.Changes.{leave, frames}
 use Rattle.changes.specs.Flagged.{Flagged, flagged, wasListed, nowListed, fallen}
-use Rattle.changes.proofs.Framing.{leave-length}
 use Rattle.changes.proofs.Stepping.{fallen-none, fallen-at}
 use Rattle.changes.proofs.Leaving.{fallen-frame, fallen-nothing}
 use borrow.Author.Needs.{needs}
@@ -37,7 +37,7 @@ fell c =
     fallen-at (rows (start c)) (start c .args .shift) (start c .pre .1 .1 .1 .1 .0) (start c .pre .1 .1 .1 .0) (start c .pre .1 .1 .1 .1 .1 .0) (c .before .before .before .before .before .if1 .left) refl (c .before .is-listed .ensures) (c .stays-listed .ensures)
 
 -- where it leaves, its leave is all that is written
-framed : (c : tie.After-stays-listed) → falls c ≡ true → frames (map (Leave (start c .args .n)) (fallen (rows (start c)) (start c .args .shift))) ≡ frame (Leave (start c .args .n) (getD (now (start c .args .positions)) (start c .args .place) 0)) []
+framed : (c : tie.After-stays-listed) → falls c ≡ true → frames (map (leave (start c .args .n)) (fallen (rows (start c)) (start c .args .shift))) ≡ frame (leave (start c .args .n) (getD (now (start c .args .positions)) (start c .args .place) 0)) []
 framed c t = fallen-frame (start c .args .n) _ (fell c) t
 
 returns : tie.Need-returns
@@ -66,14 +66,14 @@ stays-listed-requires : tie.Need-stays-listed-requires
 stays-listed-requires c κs = search needs
 
 lay-change-requires : tie.Need-lay-change-requires
-lay-change-requires c κs = rw (framed (c .before .before) (c .before .if2 .taken), leave-length) at (c .before .before .before .before .before .before .before .before .before .before .before .before .pre .1 .1 .1 .1 .1 .1)
+lay-change-requires c κs = rw (framed (c .before .before) (c .before .if2 .taken), change-length) at (c .before .before .before .before .before .before .before .before .before .before .before .before .pre .1 .1 .1 .1 .1 .1)
 
 same-length : tie.Need-same-length
 same-length c = search needs
 
 returns-2 : tie.Need-returns-2
 unfolding frame
-returns-2 c = rw (framed (c .before .before .before .before .before) (c .before .before .before .before .if2 .taken)) (sym (leave-length _ _), c .before .before .lay-change .ensures)
+returns-2 c = rw (framed (c .before .before .before .before .before) (c .before .before .before .before .if2 .taken)) (sym (change-length leaveKind _ _), c .before .before .lay-change .ensures)
 
 returns-3 : tie.Need-returns-3
 unfolding laid

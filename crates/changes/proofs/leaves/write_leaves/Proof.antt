@@ -7,8 +7,7 @@ use mathlib.Core.List.{List, _++_, map}
 use lib.ListN.{length, length-append}
 use denote.Ref.{now}
 use Rattle.lists.proofs.Laying.{Front, front-one, front-room, front-rest, front-more}
-use Rattle.frames.specs.declared.Message.the-variants.{Leave}
-use Rattle.model.specs.Changes.{frames}
+use Rattle.model.specs.Changes.{leave, frames}
 use Rattle.changes.specs.Flagged.{Flagged, flagged, fallen, moving}
 use Rattle.changes.proofs.Leaving.{leavesOf, leaves-frames, removed-below}
 use borrow.Author.Needs.{needs}
@@ -21,12 +20,12 @@ rows c = flagged (now (c .args .keep)) (now (c .args .positions)) (now (c .args 
 
 -- the leave of a row that stays, and those of the rows that do not
 abbrev L : tie.Start → List ℕ
-L c = frames (map (Leave (c .args .n)) (fallen (rows c) (c .args .shift)))
+L c = frames (map (leave (c .args .n)) (fallen (rows c) (c .args .shift)))
 
 abbrev R : tie.Start → List ℕ
 R c = leavesOf (c .args .n) (c .args .shift .before) (now (c .args .positions)) (now (c .args .lower-ends)) (now (c .args .removed))
 
-both : (c : tie.Start) → frames (map (Leave (c .args .n)) (moving (rows c) (c .args .shift) false)) ≡ L c ++ R c
+both : (c : tie.Start) → frames (map (leave (c .args .n)) (moving (rows c) (c .args .shift) false)) ≡ L c ++ R c
 both c = leaves-frames (c .args .n) (rows c) (c .args .shift) (c .pre .1 .1 .1 .0) (c .pre .1 .1 .1 .1 .0) (c .pre .1 .1 .1 .1 .1 .0)
 
 room : (c : tie.Start) → length (L c ++ R c) ≤ length (now (c .args .out))

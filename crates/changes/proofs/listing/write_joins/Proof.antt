@@ -3,16 +3,18 @@ use Prim.Native.Nat.{_+_, _-_, _≤_}
 use native.Mathlib.Omega.{arith}
 use lib.ListN.{length, length-take, length-drop}
 use borrow.Author.Needs.{needs}
-use Rattle.frames.specs.declared.Message.the-variants.{Join}
+use Rattle.frames.specs.Kinds.{joinKind}
+use Rattle.frames.proofs.RoundTrips.{change-length}
+use Rattle.model.specs.Changes.{join}
 use Rattle.frames.specs.Frames.{frame}
 use Rattle.changes.proofs.Picking.{listedAt, bare-picked}
 use Rattle.changes.proofs.Writing.{Writing, writing-start, writing-pass, writing-all}
-use Rattle.changes.proofs.Framing.{framing, join-length, frames-cells, joins-length, frame-fits, frame-laid}
+use Rattle.changes.proofs.Framing.{framing, frames-cells, joins-length, frame-fits, frame-laid}
 use Rattle.changes.proofs.listing.write_joins.Statement.{statement}
 use Rattle.changes.proofs.listing.write_joins.Tie as tie
 
 abbrev Inv-loop : tie.InvT-loop
-Inv-loop n positions lower-ends count start out₀ at₀ i₀ out at i = Writing (framing (Join n)) (listedAt start positions lower-ends) positions count out₀ out at i
+Inv-loop n positions lower-ends count start out₀ at₀ i₀ out at i = Writing (framing (join n)) (listedAt start positions lower-ends) positions count out₀ out at i
 
 abbrev μ-loop : tie.MeasureT-loop
 μ-loop n positions lower-ends count start out₀ at₀ i₀ out at i = count - i
@@ -20,7 +22,7 @@ abbrev μ-loop : tie.MeasureT-loop
 loop-holds : tie.Need-loop-holds Inv-loop μ-loop
 loop-holds c =
     let n = c .before .before .before .args .n in
-    writing-start _ _ _ _ _ (rw (← frames-cells (Join n), joins-length n, ← bare-picked) (c .before .before .before .pre .1 .1))
+    writing-start _ _ _ _ _ (rw (← frames-cells (join n), joins-length n, ← bare-picked) (c .before .before .before .pre .1 .1))
 
 mul-position : tie.Need-mul-position Inv-loop μ-loop
 mul-position c = search needs
@@ -42,7 +44,7 @@ is-listed-requires c κs = search needs
 
 -- a position that is picked has room for its frame
 fits : (c : tie.Then1 Inv-loop μ-loop) → c .before .before .before .before .before .loop .at + 7 ≤ length (c .before .before .before .before .before .loop .out)
-fits c = frame-fits (Join (c .before .before .before .before .before .before .before .before .before .args .n)) (join-length _) (c .before .before .before .before .before .loop .inv) (c .before .before .before .before .loop-test .taken) (c .before .is-listed .ensures) (c .if1 .taken)
+fits c = frame-fits (join (c .before .before .before .before .before .before .before .before .before .args .n)) (change-length joinKind _) (c .before .before .before .before .before .loop .inv) (c .before .before .before .before .loop-test .taken) (c .before .is-listed .ensures) (c .if1 .taken)
 
 sub-lay-change : tie.Need-sub-lay-change Inv-loop μ-loop
 sub-lay-change c = omega (arith, fits c)
@@ -64,7 +66,7 @@ loop-less c = search needs
 
 loop-again : tie.Need-loop-again Inv-loop μ-loop
 unfolding frame
-loop-again c = frame-laid (Join (c .before .before .before .before .before .before .before .before .before .before .before .before .before .args .n)) (join-length _) (c .before .before .before .before .before .before .before .before .before .loop .inv) (c .before .before .before .before .before .before .before .before .loop-test .taken) (c .before .before .before .before .before .is-listed .ensures) (c .before .before .lay-change .ensures) (c .before .before .before .before .if1 .taken)
+loop-again c = frame-laid (join (c .before .before .before .before .before .before .before .before .before .before .before .before .before .args .n)) (change-length joinKind _) (c .before .before .before .before .before .before .before .before .before .loop .inv) (c .before .before .before .before .before .before .before .before .loop-test .taken) (c .before .before .before .before .before .is-listed .ensures) (c .before .before .lay-change .ensures) (c .before .before .before .before .if1 .taken)
 
 loop-less-2 : tie.Need-loop-less-2 Inv-loop μ-loop
 loop-less-2 c = search needs

@@ -8,11 +8,11 @@ use denote.Ref.{now}
 use borrow.Author.Needs.{needs}
 use borrow.Rule.Slice.PartMut.{putMid}
 use Rattle.lists.proofs.Laying.{Front, front-one, front-room, front-rest, front-more}
-use Rattle.frames.specs.declared.Message.the-variants.{Join}
 use Rattle.frames.specs.Frames.{frame}
-use Rattle.model.specs.Changes.{frames}
+use Rattle.frames.specs.Kinds.{joinKind}
+use Rattle.frames.proofs.RoundTrips.{change-length}
+use Rattle.model.specs.Changes.{join, frames}
 use Rattle.changes.specs.Flagged.{Flagged, flagged, changed}
-use Rattle.changes.proofs.Framing.{join-length}
 use Rattle.changes.proofs.Moving.{leaveFrames, joinFrames, changed-listed, changed-unlisted, rows-fit}
 use Rattle.changes.proofs.moves.write_changes.Statement.{statement}
 use Rattle.changes.proofs.moves.write_changes.Tie as tie
@@ -64,7 +64,7 @@ second c =
 
 -- the new row's join
 abbrev N : tie.Start → List ℕ
-N c = frame (Join (c .args .n) (c .args .newest)) []
+N c = frame (join (c .args .n) (c .args .newest)) []
 
 -- the frames of the changes, where the new row is listed and where it is not
 listed-frames : (c : tie.Start) → c .args .lower < c .args .shift .after → frames (changed (rows c) (c .args .shift) (c .args .newest) (c .args .lower) (c .args .n)) ≡ (L c ++ J c) ++ N c
@@ -82,7 +82,7 @@ all-room c = rw (listed-frames (start2 (both c)) (c .if1 .left)) at (start2 (bot
 
 -- a new row that is listed has room for its join
 fits : (c : tie.Else1) → both c .before .before .before .before .write-leaves .result + both c .write-row-joins .result + 7 ≤ length (out2 (both c))
-fits c = rw join-length at (front-room (second (both c)) (N (start2 (both c))) (all-room c))
+fits c = rw change-length at (front-room (second (both c)) (N (start2 (both c))) (all-room c))
 
 place-of-requires : tie.Need-place-of-requires
 place-of-requires c κs = let p = c .before .before .before .before .before .pre in (p .1 .0, p .1 .1 .1 .1 .0)
@@ -132,7 +132,7 @@ part-lay-change-end : tie.Need-part-lay-change-end
 part-lay-change-end c = search needs
 
 lay-change-requires : tie.Need-lay-change-requires
-lay-change-requires c κs = rw join-length at (front-rest (second (both (c .before))) (N (start2 (both (c .before)))) (all-room (c .before)))
+lay-change-requires c κs = rw change-length at (front-rest (second (both (c .before))) (N (start2 (both (c .before)))) (all-room (c .before)))
 
 add-result : tie.Need-add-result
 add-result c = let b = c .before .before .before .before in omega (arith, fits b, second (both b) .long, start2 (both b) .good)
@@ -144,7 +144,7 @@ returns-2 : tie.Need-returns-2
 unfolding frame
 returns-2 c =
     let b = c .before .before .before .before in
-    let v = front-more (second (both b)) (N (start2 (both b))) (all-room b) (sym (join-length _ _)) (c .before .before .lay-change .ensures) in
+    let v = front-more (second (both b)) (N (start2 (both b))) (all-room b) (sym (change-length joinKind _ _)) (c .before .before .lay-change .ensures) in
     rw (listed-frames (start2 (both b)) (b .if1 .left)) (v .place, v .cells)
 
 pub write-changes-spec : {M : Type 1} → statement M

@@ -4,7 +4,7 @@ use native.Mathlib.Nat.{zero-add}
 use borrow.Author.Needs.{needs}
 use Rattle.lists.specs.Lists.{run}
 use Rattle.lists.proofs.Runs.{getD-run}
-use Rattle.frames.specs.Frames.{bodyLength}
+use Rattle.frames.specs.Kinds.{kinds, shapeIn, shapeOf, lengthOf, bodyLength}
 use Rattle.frames.proofs.lengths.body_length.Statement.{statement}
 use Rattle.frames.proofs.lengths.body_length.Tie as tie
 
@@ -12,7 +12,7 @@ array-read-result : tie.Need-array-read-result
 array-read-result c = search needs
 
 returns : tie.Need-returns
-unfolding bodyLength run
+unfolding bodyLength lengthOf shapeOf shapeIn kinds run
 returns c = getD-run bodyLength 0 0 256 (c .args .kind) (search needs) ∙ ap bodyLength (zero-add (c .args .kind))
 
 pub body-length-spec : {M : Type 1} → statement M

@@ -1,115 +1,93 @@
--- `message_at` meets its contract: each kind's numbers stand within its body.
-use mathlib.Core.Path.{ap}
-use Prim.Native.Nat.{_+_, _≤_}
-use lib.ListN.{length}
+-- `message_at` meets its contract: the shape says which numbers stand within the body.
+use mathlib.Core.Path.{sym, _∙_}
 use native.Mathlib.Omega.{arith}
-use Rattle.frames.specs.Frames.{bodyLength, messageAt}
-use Rattle.frames.specs.declared.Message.the-variants.{Look, Watch, Unwatch}
-use Rattle.frames.proofs.ReadCases.{four-behind, opening}
+use Rattle.frames.proofs.Shapes.{size-body, change-body, open-body}
+use Rattle.frames.proofs.ReadCases.{quote-message, size-message, change-message, open-message, unknown-message}
 use borrow.Author.Needs.{needs}
 use Rattle.frames.proofs.reader.message_at.Statement.{statement}
 use Rattle.frames.proofs.reader.message_at.Tie as tie
 
+shape-of-requires : tie.Need-shape-of-requires
+shape-of-requires c κs = search needs
+
+enum-told : tie.Need-enum-told
+enum-told c = search needs
+
+enum-told-2 : tie.Need-enum-told-2
+enum-told-2 c = search needs
+
 two-at-requires : tie.Need-two-at-requires
-unfolding bodyLength
-two-at-requires c κs = omega (arith, rw (c .match .keys1) at (c .before .before .pre .1))
+two-at-requires c κs = omega (arith, size-body _ (sym (c .before .before .shape-of .ensures) ∙ c .enum-told2 .given .1))
+
+enum-told-3 : tie.Need-enum-told-3
+enum-told-3 c = search needs
 
 two-at-requires-2 : tie.Need-two-at-requires-2
-unfolding bodyLength
-two-at-requires-2 c κs = omega (arith, rw (c .match .keys2) at (c .before .before .pre .1))
-
-two-at-requires-3 : tie.Need-two-at-requires-3
-unfolding bodyLength
-two-at-requires-3 c κs = omega (arith, rw (c .match .keys3) at (c .before .before .pre .1))
-
-two-at-requires-4 : tie.Need-two-at-requires-4
-unfolding bodyLength
-two-at-requires-4 c κs = omega (arith, rw (c .match .keys4) at (c .before .before .pre .1))
+two-at-requires-2 c κs = omega (arith, change-body _ (sym (c .before .before .shape-of .ensures) ∙ c .enum-told3 .given .1))
 
 add-four-at : tie.Need-add-four-at
 add-four-at c = search needs
 
 four-at-requires : tie.Need-four-at-requires
-unfolding bodyLength
-four-at-requires c κs = omega (arith, rw (c .before .match .keys4) at (c .before .before .before .pre .1))
+four-at-requires c κs = omega (arith, change-body _ (sym (c .before .before .before .shape-of .ensures) ∙ c .before .enum-told3 .given .1))
 
-two-at-requires-5 : tie.Need-two-at-requires-5
-unfolding bodyLength
-two-at-requires-5 c κs = omega (arith, rw (c .match .keys5) at (c .before .before .pre .1))
+enum-told-4 : tie.Need-enum-told-4
+enum-told-4 c = search needs
 
-add-four-at-2 : tie.Need-add-four-at-2
-add-four-at-2 c = search needs
-
-four-at-requires-2 : tie.Need-four-at-requires-2
-unfolding bodyLength
-four-at-requires-2 c κs = omega (arith, rw (c .before .match .keys5) at (c .before .before .before .pre .1))
-
--- an opening's body has four bytes
-four-left : (c : tie.At-match-rest) → c .before .before .args .body + 4 ≤ length (c .before .before .args .tape .now)
-four-left c =
-    omega (arith, four-behind (c .before .before .args .kind) (c .match .rest .0 .0 .0 .0 .1) (c .match .rest .0 .0 .0 .1) (c .match .rest .0 .0 .1))
-
-shared-slice-read-t15 : tie.Need-shared-slice-read-t15
-shared-slice-read-t15 c = omega (arith, four-left (c .before))
+shared-slice-read-t11 : tie.Need-shared-slice-read-t11
+shared-slice-read-t11 c = omega (arith, open-body _ (sym (c .before .before .before .shape-of .ensures) ∙ c .before .enum-told4 .given .1))
 
 add-two-at : tie.Need-add-two-at
 add-two-at c = search needs
 
-two-at-requires-6 : tie.Need-two-at-requires-6
-two-at-requires-6 c κs = omega (arith, four-left (c .before))
+two-at-requires-3 : tie.Need-two-at-requires-3
+two-at-requires-3 c κs = omega (arith, open-body _ (sym (c .before .before .before .shape-of .ensures) ∙ c .before .enum-told4 .given .1))
 
-add-t18 : tie.Need-add-t18
-add-t18 c = search needs
+add-t14 : tie.Need-add-t14
+add-t14 c = search needs
 
-shared-slice-read-t20 : tie.Need-shared-slice-read-t20
-shared-slice-read-t20 c = omega (arith, four-left (c .before .before .before))
+shared-slice-read-t16 : tie.Need-shared-slice-read-t16
+shared-slice-read-t16 c = omega (arith, open-body _ (sym (c .before .before .before .before .before .shape-of .ensures) ∙ c .before .before .before .enum-told4 .given .1))
+
+enum-told-5 : tie.Need-enum-told-5
+enum-told-5 c = search needs
 
 returns : tie.Need-returns
-unfolding messageAt
-returns c = rw (c .before .match .keys1) (ap Look (c .two-at .ensures))
+returns c = quote-message _ _ _ (sym (c .before .before .shape-of .ensures) ∙ c .enum-told .given .1)
 
 returns-2 : tie.Need-returns-2
-unfolding messageAt
-returns-2 c = rw (c .before .match .keys2) (ap Watch (c .two-at2 .ensures))
+returns-2 c = size-message _ _ _ (sym (c .before .before .before .shape-of .ensures) ∙ c .before .enum-told2 .given .1) (c .two-at .ensures)
 
 returns-3 : tie.Need-returns-3
-unfolding messageAt
-returns-3 c = rw (c .before .match .keys3) (ap Unwatch (c .two-at3 .ensures))
+returns-3 c = change-message _ _ _ (sym (c .before .before .before .before .shape-of .ensures) ∙ c .before .before .enum-told3 .given .1) (c .before .two-at2 .ensures) (c .four-at .ensures)
 
 returns-4 : tie.Need-returns-4
-unfolding messageAt
-returns-4 c = rw (c .before .before .match .keys4, c .before .two-at4 .ensures, c .four-at .ensures)
+returns-4 c = open-message _ _ _ (sym (c .before .before .before .before .before .shape-of .ensures) ∙ c .before .before .before .enum-told4 .given .1) (c .before .two-at3 .ensures)
 
 returns-5 : tie.Need-returns-5
-unfolding messageAt
-returns-5 c = rw (c .before .before .match .keys5, c .before .two-at5 .ensures, c .four-at2 .ensures)
-
-returns-6 : tie.Need-returns-6
-returns-6 c =
-    let other = c .before .before .before .match .rest in
-    rw (c .before .two-at6 .ensures) (opening _ _ _ (omega arith) (other .0 .0 .0 .0 .1) (other .0 .0 .0 .1) (other .0 .0 .1) (other .0 .1) (other .1))
+returns-5 c = unknown-message _ _ _ (sym (c .before .before .shape-of .ensures) ∙ c .enum-told5 .given .1)
 
 pub message-at-spec : {M : Type 1} → statement M
 message-at-spec =
     tie.close
     (tie.spec
+    shape-of-requires
+    enum-told
+    enum-told-2
     two-at-requires
+    enum-told-3
     two-at-requires-2
-    two-at-requires-3
-    two-at-requires-4
     add-four-at
     four-at-requires
-    two-at-requires-5
-    add-four-at-2
-    four-at-requires-2
-    shared-slice-read-t15
+    enum-told-4
+    shared-slice-read-t11
     add-two-at
-    two-at-requires-6
-    add-t18
-    shared-slice-read-t20
+    two-at-requires-3
+    add-t14
+    shared-slice-read-t16
+    enum-told-5
     returns
     returns-2
     returns-3
     returns-4
-    returns-5
-    returns-6)
+    returns-5)

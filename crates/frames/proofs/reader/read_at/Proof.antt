@@ -3,8 +3,8 @@ use mathlib.Core.Path.{_∙_}
 use Prim.Native.Nat.{_≤_}
 use native.Mathlib.Omega.{arith}
 use lib.ListN.{getD}
-use Rattle.frames.proofs.ReadCases.{beyond, at-end, unknown, cut, whole, some-column, quote-message}
-use Rattle.frames.proofs.Reading.{quote-body}
+use Rattle.frames.proofs.ReadCases.{beyond, at-end, unknown, cut, whole, message-told, quote-told}
+use Rattle.frames.proofs.Shapes.{quote-body, kind-known, low-quote}
 use Rattle.frames.proofs.ReadColumns.{no-columns}
 use borrow.Author.Needs.{needs}
 use Rattle.frames.proofs.reader.read_at.Statement.{statement}
@@ -53,18 +53,18 @@ message-at-requires : tie.Need-message-at-requires
 message-at-requires c κs = search needs
 
 returns-5 : tie.Need-returns-5
-returns-5 c = whole _ _ (omega arith) (λ e. omega arith) _ _ _ (omega arith) (omega arith) (c .message-at .ensures) (no-columns _ _ _ (omega arith))
+returns-5 c = whole _ _ (omega arith) (λ e. omega arith) _ _ _ (omega arith) (omega arith) (rw (c .message-at .ensures) (message-told _ _ _ (kind-known _ (λ e. omega arith)))) (no-columns _ _ _ (omega arith))
 
 quote-at-requires : tie.Need-quote-at-requires
 quote-at-requires c κs =
     let args = c .before .before .before .before .before .before .before .before .args in
     let kind = getD (args .tape .now) (args .place) 0 in
-    let some : 1 ≤ kind = some-column kind (λ e. omega arith) in
+    let some : 1 ≤ kind = low-quote kind (λ e. omega arith) in
     (some, (omega arith, omega (arith, quote-body kind some (omega arith))))
 
 returns-6 : tie.Need-returns-6
 returns-6 c =
-    whole _ _ (omega arith) (λ e. omega arith) _ _ _ (omega arith) (omega arith) (quote-message _ _ _ (some-column _ (λ e. omega arith)) (omega arith)) (c .quote-at .ensures)
+    whole _ _ (omega arith) (λ e. omega arith) _ _ _ (omega arith) (omega arith) (quote-told _ _ _ (low-quote _ (λ e. omega arith)) (omega arith)) (c .quote-at .ensures)
 
 pub read-at-spec : {M : Type 1} → statement M
 read-at-spec =

@@ -1,7 +1,7 @@
 -- `lay` meets its contract: each message by the function that lays its frame.
 use Rattle.lists.specs.Lists.{laid}
 use Rattle.frames.specs.Frames.{frame}
-use Rattle.frames.proofs.WriteCases.{quote-fits}
+use Rattle.frames.proofs.WriteCases.{quote-fits, size-fits, change-fits, open-fits}
 use borrow.Author.Needs.{needs}
 use Rattle.frames.proofs.writer.lay.Statement.{statement}
 use Rattle.frames.proofs.writer.lay.Tie as tie
@@ -10,43 +10,25 @@ enum-known-message : tie.Need-enum-known-message
 enum-known-message c = search needs
 
 lay-quote-requires : tie.Need-lay-quote-requires
-lay-quote-requires c κs = quote-fits _ (c .before .before .message .given .1) _ (c .before .before .before .before .before .pre .0) (c .before .before .before .before .before .pre .1)
+lay-quote-requires c κs = quote-fits _ _ (c .before .before .before .before .before .pre .0) (c .before .before .before .before .before .pre .1) _ (c .before .before .message .given .1)
 
 enum-known-message-2 : tie.Need-enum-known-message-2
 enum-known-message-2 c = search needs
 
 lay-number-requires : tie.Need-lay-number-requires
-lay-number-requires c κs = rw (c .before .before .message2 .given .1) at (c .before .before .before .before .before .pre .1)
+lay-number-requires c κs = size-fits _ _ (c .before .before .before .before .before .pre .0) (c .before .before .before .before .before .pre .1) _ _ (c .before .before .message2 .given .1)
 
 enum-known-message-3 : tie.Need-enum-known-message-3
 enum-known-message-3 c = search needs
 
-lay-number-requires-2 : tie.Need-lay-number-requires-2
-lay-number-requires-2 c κs = rw (c .before .before .message3 .given .1) at (c .before .before .before .before .before .pre .1)
+lay-change-requires : tie.Need-lay-change-requires
+lay-change-requires c κs = change-fits _ _ (c .before .before .before .before .before .pre .0) (c .before .before .before .before .before .pre .1) _ _ _ (c .before .before .message3 .given .1)
 
 enum-known-message-4 : tie.Need-enum-known-message-4
 enum-known-message-4 c = search needs
 
-lay-number-requires-3 : tie.Need-lay-number-requires-3
-lay-number-requires-3 c κs = rw (c .before .before .message4 .given .1) at (c .before .before .before .before .before .pre .1)
-
-enum-known-message-5 : tie.Need-enum-known-message-5
-enum-known-message-5 c = search needs
-
-lay-change-requires : tie.Need-lay-change-requires
-lay-change-requires c κs = rw (c .before .before .message5 .given .1) at (c .before .before .before .before .before .pre .1)
-
-enum-known-message-6 : tie.Need-enum-known-message-6
-enum-known-message-6 c = search needs
-
-lay-change-requires-2 : tie.Need-lay-change-requires-2
-lay-change-requires-2 c κs = rw (c .before .before .message6 .given .1) at (c .before .before .before .before .before .pre .1)
-
-enum-known-message-7 : tie.Need-enum-known-message-7
-enum-known-message-7 c = search needs
-
 lay-open-requires : tie.Need-lay-open-requires
-lay-open-requires c κs = rw (c .before .before .message7 .given .1) at (c .before .before .before .before .before .pre .1)
+lay-open-requires c κs = open-fits _ _ (c .before .before .before .before .before .pre .0) (c .before .before .before .before .before .pre .1) _ _ _ (c .before .before .message4 .given .1)
 
 enum-told : tie.Need-enum-told
 enum-told c = search needs
@@ -73,43 +55,22 @@ same-length-3 c = search needs
 
 returns-3 : tie.Need-returns-3
 unfolding frame
-returns-3 c = rw (c .before .before .before .before .before .message3 .given .1) (c .before .before .lay-number2 .ensures)
+returns-3 c = rw (c .before .before .before .before .before .message3 .given .1) (c .before .before .lay-change .ensures)
 
 same-length-4 : tie.Need-same-length-4
 same-length-4 c = search needs
 
 returns-4 : tie.Need-returns-4
 unfolding frame
-returns-4 c = rw (c .before .before .before .before .before .message4 .given .1) (c .before .before .lay-number3 .ensures)
-
-same-length-5 : tie.Need-same-length-5
-same-length-5 c = search needs
+returns-4 c = rw (c .before .before .before .before .before .message4 .given .1) (c .before .before .lay-open .ensures)
 
 returns-5 : tie.Need-returns-5
-unfolding frame
-returns-5 c = rw (c .before .before .before .before .before .message5 .given .1) (c .before .before .lay-change .ensures)
-
-same-length-6 : tie.Need-same-length-6
-same-length-6 c = search needs
+unfolding frame laid
+returns-5 c = rw (c .enum-told .given .1)
 
 returns-6 : tie.Need-returns-6
-unfolding frame
-returns-6 c = rw (c .before .before .before .before .before .message6 .given .1) (c .before .before .lay-change2 .ensures)
-
-same-length-7 : tie.Need-same-length-7
-same-length-7 c = search needs
-
-returns-7 : tie.Need-returns-7
-unfolding frame
-returns-7 c = rw (c .before .before .before .before .before .message7 .given .1) (c .before .before .lay-open .ensures)
-
-returns-8 : tie.Need-returns-8
 unfolding frame laid
-returns-8 c = rw (c .enum-told .given .1)
-
-returns-9 : tie.Need-returns-9
-unfolding frame laid
-returns-9 c = rw (c .enum-told2 .given .1)
+returns-6 c = rw (c .enum-told2 .given .1)
 
 pub lay-spec : {M : Type 1} → statement M
 lay-spec =
@@ -120,14 +81,8 @@ lay-spec =
     enum-known-message-2
     lay-number-requires
     enum-known-message-3
-    lay-number-requires-2
-    enum-known-message-4
-    lay-number-requires-3
-    enum-known-message-5
     lay-change-requires
-    enum-known-message-6
-    lay-change-requires-2
-    enum-known-message-7
+    enum-known-message-4
     lay-open-requires
     enum-told
     enum-told-2
@@ -139,11 +94,5 @@ lay-spec =
     returns-3
     same-length-4
     returns-4
-    same-length-5
     returns-5
-    same-length-6
-    returns-6
-    same-length-7
-    returns-7
-    returns-8
-    returns-9)
+    returns-6)

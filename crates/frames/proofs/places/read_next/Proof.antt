@@ -1,4 +1,4 @@
--- `read` meets its contract: a walk of its code. The borrow of the place is opened, its number is handed to `read_at` with the tape, the number behind what was read is stored, and the borrow is closed at the new place.
+-- `read_next` meets its contract: a walk of its code. The borrow of the place is opened, its number is handed to `read_at` with the tape, the number behind what was read is stored, and the borrow is closed at the new place.
 -- All that the walk knows of `read_at` is that it meets its contract.
 use mathlib.Core.Path.{_≡_, refl, ap, subst}
 use Prim.Native.Nat.{ℕ, _<_, _^_}
@@ -40,21 +40,22 @@ use denote.Triple.Spec.{Meets, tripleOf}
 use denote.Triple.Table.{entered, cited}
 use denote.Triple.Walked.{says, Stays, stay-ref, stay-none-slice, walkOf, goes-ref, goes-none-slice, Walks, ends-at, walked, walk-meets}
 use denote.Exit.{yes}
-use Rattle.frames.specs.Frames.{readAt}
+use Rattle.frames.specs.Frames.{Reading, reading, readAt}
 use Rattle.frames.specs.declared.Read.{Read}
+use Rattle.frames.proofs.Reading.{read-next}
 use Rattle.frames.proofs.Read as R
 use Rattle.frames.proofs.Read.Laws as R′
-use Rattle.frames.proofs.read_at as reader
-use Rattle.frames.proofs.read_at.Symbol as reader-def
-use Rattle.frames.proofs.read_at.Symbol.{name as #frames·read-at}
-use Rattle.frames.proofs.read_at.Met as reader-thm
-use Rattle.reading.specs.declared.Place.{Place}
-use Rattle.reading.proofs.Place as P
-use Rattle.reading.proofs.Place.Laws as P′
-use Rattle.reading.proofs.read.Key.{name as #reading·read}
-use Rattle.reading.proofs.read as f
-use Rattle.reading.proofs.read.Statement as stated
-use Rattle.reading.proofs.read.Code as code
+use Rattle.frames.proofs.reader.read_at as reader
+use Rattle.frames.proofs.reader.read_at.Symbol as reader-def
+use Rattle.frames.proofs.reader.read_at.Symbol.{name as #frames·read-at}
+use Rattle.frames.proofs.reader.read_at.Met as reader-thm
+use Rattle.frames.specs.declared.Place.{Place}
+use Rattle.frames.proofs.Place as P
+use Rattle.frames.proofs.Place.Laws as P′
+use Rattle.frames.proofs.places.read_next.Key.{name as #frames·read-next}
+use Rattle.frames.proofs.places.read_next as f
+use Rattle.frames.proofs.places.read_next.Statement as stated
+use Rattle.frames.proofs.places.read_next.Code as code
 
 abbrev stayed : Stays (f.ended .signature .params) (f.ended .kept)
 stayed = (stay-none-slice (0 ∷ []) tt (plain (λ _. u8)) yes, (stay-ref (1 ∷ []) tt (plain (λ _. P.the-row)), tt))
@@ -88,7 +89,7 @@ module _ {M : Type 1} (𝓤 : URA M) (H : Heap 𝓤) (A : Atoms 𝓤) (W : Given
   abbrev at : List Val × (List Val × Unit {0})
   at = (slice ∷ [], (vptr b o ∷ [], tt))
 
-  abbrev found : Read
+  abbrev found : Reading
   found = readAt (tape .now) n
 
   abbrev Tape : Fml
@@ -106,18 +107,18 @@ module _ {M : Type 1} (𝓤 : URA M) (H : Heap 𝓤) (A : Atoms 𝓤) (W : Given
       qed W (‵ Tape ∷ ‵ (flft κ q) ∷ []) ∵ nothing ! $ move ! (2 ∷ 0 ∷ []) $ join ! $ nothing ! $ owned ! usize (Is usize) (uint-makes 𝓤 H A W w64) n _ (refl, fits) $ fjoin ! $ move ! (2 ∷ 0 ∷ []) $ fjoin ! $
       move ! (1 ∷ 0 ∷ []) $ join ! $ frame ! $ done !
 
-  said : (r : Read) → ent 𝓤 (ensured 𝓤 H A reader.ended (reader.clauses 𝓤 H A mem run) (κ, tt) (tape, (n, tt)) tt r) (fact 𝓤 (r ≡ found))
-  said r = exE 𝓤 _ (λ ws. snd∗ 𝓤 (sem 𝓤 H A (lasts reader.ended (κ, tt) (tape, (n, tt)) ws)) (fact 𝓤 (r ≡ found)))
+  said : (r : Read) → ent 𝓤 (ensured 𝓤 H A reader.ended (reader.clauses 𝓤 H A mem run) (κ, tt) (tape, (n, tt)) tt r) (fact 𝓤 (reading r ≡ found))
+  said r = exE 𝓤 _ (λ ws. snd∗ 𝓤 (sem 𝓤 H A (lasts reader.ended (κ, tt) (tape, (n, tt)) ws)) (fact 𝓤 (reading r ≡ found)))
 
   -- what is left at the return
   abbrev Left : Read → List (Item 𝓤)
   Left r = ‵ (R.the-row .own r (machines r)) ∷ ‵ (fobs γ (P.the-row .coded .code (standing (r .next)))) ∷ ‵ (fbor κ′ (Body (memoryOf P.the-row) b o γ)) ∷ ‵ (flft κ′ q′) ∷ (‵ (flft κ q) ⊛ ‵ ftrue) ∷ ‵ Tape ∷ []
 
-  exits : (r : Read) → r ≡ found → ent 𝓤 (⋆ 𝓤 H A (Left r)) (Post (only (machines r)))
+  exits : (r : Read) → reading r ≡ found → ent 𝓤 (⋆ 𝓤 H A (Left r)) (Post (only (machines r)))
   exits r e =
       qed W (Left r) ∵
       suffices ! _ (ends-at 𝓤 H A f.ended stayed (f.clauses 𝓤 H A mem run) W (((κ, (κ′, tt)), (q, (q′, tt)), tt, args, at), tt) (only (machines r)) r (tt, (standing (r .next), tt)) (tt, (tt, tt))) $
-      says ! (record { found = e; moved = ap (λ (g : Read). standing (g .next)) e }) $
+      says ! (record { found = e; moved = ap standing (read-next r e) }) $
       move ! (4 ∷ []) $ split ! $ move ! (5 ∷ 1 ∷ []) $ join ! $ move ! (1 ∷ 0 ∷ []) $ join ! $ frame ! $
       move ! (1 ∷ 2 ∷ []) $ feqI ! (List Val) (vptr b o ∷ []) (vptr b o ∷ []) refl $ fjoin3 ! $ nothing ! $ move ! (1 ∷ 0 ∷ []) $ fjoin ! $ move ! (2 ∷ 0 ∷ []) $ fjoin ! $ frame ! $ done !
 
@@ -145,7 +146,7 @@ module _ {M : Type 1} (𝓤 : URA M) (H : Heap 𝓤) (A : Atoms 𝓤) (W : Given
         move ! (7 ∷ 5 ∷ []) $ use2 W (raw (Reader 𝓤 H A mem run .pre handed)) (goes fits) $
         calls-at ! fm (Reader 𝓤 H A mem run) known handed (and-then ! (load ! (from ! (stop !)) (look ! 14 refl)) (and-then ! (load ! (from ! (stop !)) (look ! 10 refl)) (no-more !))) (λ u.
         use1 W (later (some (λ (r : Read). ((‵ (flft κ q) ⊛ ‵ ftrue) ⊛ ‵ (R.the-row .own r (u ∷ []))) ⊛ raw (ensured 𝓤 H A reader.ended (reader.clauses 𝓤 H A mem run) (κ, tt) (tape, (n, tt)) tt r)))) (id⊢ 𝓤 _) $ await ! tt $ pick ! (λ r.
-        split ! $ move ! (1 ∷ []) $ use1 W (raw (fact 𝓤 (r ≡ found))) (said r) $ heard ! (r ≡ found) (λ e. split ! $ move ! (1 ∷ []) $
+        split ! $ move ! (1 ∷ []) $ use1 W (raw (fact 𝓤 (reading r ≡ found))) (said r) $ heard ! (reading r ≡ found) (λ e. split ! $ move ! (1 ∷ []) $
         -- [what was read; the tape's token; the place's cell; the open borrow; obs; auth; true; true; the tape; _4; _3; _2; _1; _0]
         peeks ! R.the-row (Is R.the-row) (shows 𝓤 H A R.the-row) r (u ∷ []) (λ has. let next-fits = LL.owed R.the-type R′.the-laws r _ has .1 .1 .0 .1 in
         land ! (from ! (stop !)) (init ! 9 refl (LL.lawful R.the-type R′.the-laws 𝓤 H A W .typed r _ has .0)) $
@@ -171,10 +172,10 @@ module _ {M : Type 1} (𝓤 : URA M) (H : Heap 𝓤) (A : Atoms 𝓤) (W : Given
       walk-meets 𝓤 H A f.ended stayed W (goes-none-slice 𝓤 H A W 2 (0 ∷ []) tt (plain (λ _. u8)) yes, (goes-ref 𝓤 H A W 2 1 tt (plain (λ _. P.the-row)), tt)) (f.clauses 𝓤 H A mem run)
       (WpFn 𝓤 H (𝓣 .C) (𝓣 .Λ) code.function) (WpFn-mono 𝓤 H (W .laws) 𝓣 code.function) read-walks
 
-pub read-spec : {M : Type 1} → stated.statement M
+pub read-next-spec : {M : Type 1} → stated.statement M
 unfolding code.routine tablesOf
-read-spec 𝓤 H 𝓜 𝓖 𝓡 =
+read-next-spec 𝓤 H 𝓜 𝓖 𝓡 =
     entered 𝓤 H (tripleOf 𝓤 H (𝓖 .A) f.signature (f.spec 𝓤 H (𝓖 .A) (𝓜 .mem) (𝓡 .run)))
-    (tables 𝓤 H 𝓜 𝓡 code.env .C) (tables 𝓤 H 𝓜 𝓡 code.env .Λ) #reading·read code.function (code.unfolded 𝓤 H 𝓜 𝓡)
+    (tables 𝓤 H 𝓜 𝓡 code.env .C) (tables 𝓤 H 𝓜 𝓡 code.env .Λ) #frames·read-next code.function (code.unfolded 𝓤 H 𝓜 𝓡)
     (read-meets 𝓤 H (𝓖 .A) (givenOf 𝓤 H 𝓜 𝓖) (𝓜 .mem) (𝓡 .run) (tablesOf 𝓤 H 𝓜 (tables 𝓤 H 𝓜 𝓡 code.env))
-    (cited 𝓤 H (Reader 𝓤 H (𝓖 .A) (𝓜 .mem) (𝓡 .run)) 𝓜 𝓡 code.env #frames·read-at reader-def.routine code.calls-frames·read-at (reader-thm.met 𝓤 H 𝓜 𝓖 𝓡)))
+    (cited 𝓤 H (Reader 𝓤 H (𝓖 .A) (𝓜 .mem) (𝓡 .run)) 𝓜 𝓡 code.env #frames·read-at reader-def.routine code.calls-frames·reader·read-at (reader-thm.met 𝓤 H 𝓜 𝓖 𝓡)))

@@ -1,0 +1,79 @@
+-- The kinds of frames: each named once, with the shape of its body, and the body length that the shape gives.
+use Prim.Native.Nat.{ℕ, _*_}
+use mathlib.Core.Bool.{Bool, _&&_, cond}
+use mathlib.Core.List.{List, [], _∷_}
+use lib.Dec.{leb, eqb}
+use Rattle.frames.specs.declared.Shape.{Shape}
+use Rattle.frames.specs.declared.Shape.the-variants.{Columns, Size, SizePosition, Settings, Unknown}
+
+-- a number from a to b
+abbrev pub within : ℕ → ℕ → ℕ → Bool
+within a b k = leb a k && leb k b
+
+-- a look: the list of n
+abbrev pub lookKind : ℕ
+lookKind = 16
+
+-- a watch of n is set
+abbrev pub watchKind : ℕ
+watchKind = 17
+
+-- the watch of n is ended
+abbrev pub unwatchKind : ℕ
+unwatchKind = 18
+
+-- a position leaves the list of n
+abbrev pub leaveKind : ℕ
+leaveKind = 32
+
+-- a position joins the list of n
+abbrev pub joinKind : ℕ
+joinKind = 33
+
+-- a book is opened
+abbrev pub openKind : ℕ
+openKind = 48
+
+-- the kinds above the quotes', each with its shape
+unfoldable pub kinds : List (ℕ × Shape)
+kinds =
+    (lookKind, Size)
+    ∷ (watchKind, Size)
+    ∷ (unwatchKind, Size)
+    ∷ (leaveKind, SizePosition)
+    ∷ (joinKind, SizePosition)
+    ∷ (openKind, Settings)
+    ∷ []
+
+-- the shape that a table of kinds gives a kind; unknown where it has none
+unfoldable pub shapeIn : List (ℕ × Shape) → ℕ → Shape
+shapeIn [] kind = Unknown
+shapeIn (k ∷ ks) kind = cond (eqb kind (k .0)) (k .1) (shapeIn ks kind)
+
+-- the shape of a kind: 1 to 6 are quotes of that many columns
+unfoldable pub shapeOf : ℕ → Shape
+shapeOf kind = cond (within 1 6 kind) Columns (shapeIn kinds kind)
+
+-- a number for each shape, by which two are compared
+abbrev pub codeOf : Shape → ℕ
+codeOf Columns = 0
+codeOf Size = 1
+codeOf SizePosition = 2
+codeOf Settings = 3
+codeOf Unknown = 4
+
+-- a kind has this shape
+unfoldable pub hasShape : Shape → ℕ → Bool
+hasShape shape kind = eqb (codeOf (shapeOf kind)) (codeOf shape)
+
+-- how many bytes a body of this shape has; 255 for an unknown kind
+unfoldable pub lengthOf : Shape → ℕ → ℕ
+lengthOf Columns kind = 4 * kind
+lengthOf Size kind = 2
+lengthOf SizePosition kind = 6
+lengthOf Settings kind = 4
+lengthOf Unknown kind = 255
+
+-- how many bytes the body of a frame of this kind has; 255 for an unknown kind
+unfoldable pub bodyLength : ℕ → ℕ
+bodyLength kind = lengthOf (shapeOf kind) kind

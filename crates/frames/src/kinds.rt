@@ -1,0 +1,49 @@
+// The kinds of frames, and the shape of each kind's body.
+ghost use mathlib.Core.Path.{_≡_};
+ghost use Rattle.frames.specs.Kinds.{shapeOf, codeOf, hasShape};
+use crate::Shape;
+
+pub const LOOK: u8 = 16;
+
+pub const WATCH: u8 = 17;
+
+pub const UNWATCH: u8 = 18;
+
+pub const LEAVE: u8 = 32;
+
+pub const JOIN: u8 = 33;
+
+pub const OPEN: u8 = 48;
+
+// The shape of a kind.
+pub fn shape_of(kind: u8) -> Shape
+    ensures { λ r. ⌜ r ≡ shapeOf kind ⌝ }
+{
+    match kind {
+        1..=6 => Shape::Columns,
+        LOOK | WATCH | UNWATCH => Shape::Size,
+        LEAVE | JOIN => Shape::SizePosition,
+        OPEN => Shape::Settings,
+        _ => Shape::Unknown,
+    }
+}
+
+// A number for each shape, by which two are compared.
+fn code_of(shape: Shape) -> u8
+    ensures { λ r. ⌜ r ≡ codeOf shape ⌝ }
+{
+    match shape {
+        Shape::Columns => 0,
+        Shape::Size => 1,
+        Shape::SizePosition => 2,
+        Shape::Settings => 3,
+        Shape::Unknown => 4,
+    }
+}
+
+// Whether a kind has this shape.
+pub fn has_shape(shape: Shape, kind: u8) -> bool
+    ensures { λ r. ⌜ r ≡ hasShape shape kind ⌝ }
+{
+    code_of(shape_of(kind)) == code_of(shape)
+}
