@@ -1,0 +1,4 @@
+-- The laws of the crate.
+pub mod Quotes
+pub mod Reaching
+pub mod Made
