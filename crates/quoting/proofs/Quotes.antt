@@ -8,7 +8,7 @@ use mathlib.Core.Bool.{Bool, true, false, not}
 use mathlib.Core.List.{List, [], _∷_, _++_, map}
 use lib.Dec.{ltb, leb, eqb}
 use lib.Seq.{take-all, take-at}
-use lib.ListN.{length, drop, length-append, length-map}
+use lib.ListN.{length, take, length-append, length-take, length-map}
 use borrow.Author.Tests.{ltb-false, le-ltb, leb-false, eqb-true, eq-eqb, not-true, not-false}
 use Rattle.lists.specs.Lists.{contains, rising, laid}
 use Rattle.lists.proofs.Booleans.{refute, clash, and-left}
@@ -22,12 +22,13 @@ use Rattle.head.specs.declared.Head.{Head}
 use Rattle.head.specs.declared.Answer.{Answer}
 use Rattle.head.specs.declared.Answer.the-variants.{Accepted, Refused}
 use Rattle.head.specs.declared.Refusal.{Refusal}
+use Rattle.head.specs.declared.Reply.{Reply}
 use Rattle.head.specs.declared.Refusal.the-variants.{ColumnCount, TapeFull, ShortOutput}
 use Rattle.head.specs.Heads.{lastPosition, afterQuote}
 use Rattle.head.specs.Refusals.{first}
 use Rattle.head.proofs.Answers.{accepted-passed, first-more, first-holds, first-fails}
 use Rattle.model.specs.Rows.{Row, Tables, rowAt, rowsIn, filled, expiring, remains, remaining, lowerEndAmong, rowsAfter}
-use Rattle.model.specs.Book.{tornWatches, bookRows, watchfulAnswer, quoteRows, quoteHead, quoteBytes, quoteAnswer, quoteReply, quoteTables, quoteOut}
+use Rattle.model.specs.Book.{tornWatches, bookRows, watchfulAnswer, quoteRows, quoteHead, quoteBytes, quoteAnswer, quoteReply, quoteTables, quoteOut, replyOf}
 use Rattle.model.proofs.ChangesFit.{changes-fit}
 use Rattle.cells.specs.Removed.{removedPlaces}
 use Rattle.cells.proofs.Selecting.{selected-filter}
@@ -39,12 +40,11 @@ use Rattle.changes.specs.Watches.{allFrames}
 use Rattle.changes.specs.Sought.{Rises, Named}
 use Rattle.changes.proofs.Quoting.{untorn-rows, quote-frames}
 use Rattle.model.specs.Promises.{Quoted}
+use Rattle.quoting.specs.declared.Finding.{Finding}
 use Rattle.quoting.specs.Answers.{rowAnswer}
+use Rattle.quoting.specs.Stages.{Findable, Finds, foundBytes, Writable, roomAnswer, Written}
+use Rattle.quoting.proofs.Marks.{rest-counted}
 use Rattle.judging.proofs.Answering.{Passed, rows-stand, begun, stays, watchful-passed, refused-reply, refused-left, accepted-reply, accepted-left}
-
--- 57,400 bytes are room enough for no more than that
-pub room-enough : (room n : ℕ) → 57400 ≤ room → n ≤ 57400 → false ≡ ltb room n
-room-enough room n h k = sym (le-ltb room n (omega arith))
 
 -- what is known where a quote passed every test but the last
 pub record Admitted (h : Head) (x : List ℕ) (t : Tables) (ws : List ℕ) : Type 0 where
@@ -70,14 +70,21 @@ admitted h x t ws e =
 pub few-rows : {h : Head} {x : List ℕ} {t : Tables} {ws : List ℕ} → Admitted h x t ws → h .rows ≤ 1024
 few-rows a = omega (arith, a .passed .whole, a .passed .settings)
 
--- what is asked before the rows are marked on this many flags
-pub mark-asks : (h : Head) (x : List ℕ) (t : Tables) (ws : List ℕ) (flags : ℕ) → rowAnswer h x t ws ≡ Accepted → h .rows ≤ flags
-    → (h .dimensions ≤ length x) × ((h .rows * h .dimensions ≤ length (t .columns)) × ((h .rows ≤ length (t .positions)) × ((h .rows ≤ flags) × (h .rows ≤ 1024))))
-mark-asks h x t ws flags e fits =
-    let a = admitted h x t ws e in
+-- what is asked before the rows are compared with the quote
+pub findable : {h : Head} {x : List ℕ} {t : Tables} {ws : List ℕ} {flags : List Bool} {places : List ℕ} → Admitted h x t ws → h .rows ≤ length flags → h .rows ≤ length places
+    → Findable h x (t .columns) (t .positions) flags places
+findable {h} a f l =
     let p = a .passed in
     let w = a .wide in
-    (omega arith, (le-trans (mul-le-mul-right (h .dimensions) (p .whole .few-rows)) (p .long .columns), (omega (arith, p .long, p .whole), (fits, few-rows a))))
+    record {
+      below = a .below;
+      wide = omega arith;
+      columns-fit = le-trans (mul-le-mul-right (h .dimensions) (p .whole .few-rows)) (p .long .columns);
+      positions-fit = omega (arith, p .long, p .whole);
+      flags-fit = f;
+      places-fit = l;
+      few = few-rows a;
+    }
 
 -- ---- room for one row more
 module _ (h : Head) (x : List ℕ) (t : Tables) (p : Passed h t) where
@@ -133,78 +140,79 @@ module _ (d directions g n : ℕ) (x : List ℕ) (t : Tables) where
   unfolding lowerEndAmong remaining remains rowsIn rowAt
   lower-bare = simp (filter-map, map-map)
 
--- what is known once the rows that stay are marked
-pub record Marked (h : Head) (x : List ℕ) (t : Tables) (ws : List ℕ) (kept : List Bool) (gone lower : ℕ) : Type 0 where
+-- what is known once the rows are compared with the quote
+pub record Marked (h : Head) (x : List ℕ) (t : Tables) (ws : List ℕ) (f : Finding) (kept : List Bool) (places : List ℕ) : Type 0 where
   pub accepted : rowAnswer h x t ws ≡ Accepted
   pub admitted : Admitted h x t ws
   pub eight : length ws ≡ 8
-  pub fits : h .rows ≤ length kept
-  pub found : Found (h .dimensions) (h .directions) (h .capacity) (h .newest) (h .rows) (bookRows h t) x kept gone lower
+  pub finds : Finds h x (t .columns) (t .positions) f kept places
 
-module _ (h : Head) (x : List ℕ) (t : Tables) (ws : List ℕ) where
-  pub marked : {kept : List Bool} {gone lower : ℕ} → rowAnswer h x t ws ≡ Accepted → length ws ≡ 8 → gone ≡ h .newest + 1 - h .capacity → (before : List Bool)
-      → kept ≡ map (remains (h .dimensions) (h .directions) x gone) (rowsIn (h .dimensions) (h .rows) (record { columns = t .columns; positions = t .positions; lowerEnds = [] })) ++ drop (h .rows) before
-      → lower ≡ lowerEndAmong (h .dimensions) (h .directions) x (remaining (h .dimensions) (h .directions) x gone (rowsIn (h .dimensions) (h .rows) (record { columns = t .columns; positions = t .positions; lowerEnds = [] })))
-      → Marked h x t ws kept gone lower
-  unfolding expiring bookRows remaining
-  marked {kept} {gone} e w g before k l =
+module _ {h : Head} {x : List ℕ} {t : Tables} {ws : List ℕ} {f : Finding} {kept : List Bool} {places : List ℕ} (v : Marked h x t ws f kept places) where
+  -- what is found is so of the rows with their lower ends
+  found : Found (h .dimensions) (h .directions) (h .capacity) (h .newest) (h .rows) (bookRows h t) x kept (f .gone) (f .lower)
+  unfolding bookRows
+  found =
+      let m = v .finds .marks in
       record {
-        accepted = e;
-        admitted = admitted h x t ws e;
-        eight = w;
-        fits = rw (flags, length-append) (omega (arith, long));
-        found = record { expired = g; flags = rw flags (take-at (map stays rs) (drop (h .rows) before) (h .rows) long); sought = l ∙ lower-bare (h .dimensions) (h .directions) gone (h .rows) x t };
+        expired = m .expired;
+        flags = m .flags ∙ flags-bare (h .dimensions) (h .directions) (f .gone) (h .rows) x t;
+        sought = m .sought ∙ lower-bare (h .dimensions) (h .directions) (f .gone) (h .rows) x t;
       }
-    where
-      stays : Row → Bool
-      stays = remains (h .dimensions) (h .directions) x gone
 
-      rs : List Row
-      rs = rowsIn (h .dimensions) (h .rows) t
-
-      long : length (map stays rs) ≡ h .rows
-      long = length-map rs stays ∙ length-rows (h .dimensions) (h .rows) t
-
-      flags : kept ≡ map stays rs ++ drop (h .rows) before
-      flags = k ∙ ap (λ (l : List Bool). l ++ drop (h .rows) before) (flags-bare (h .dimensions) (h .directions) gone (h .rows) x t)
-
-module _ {h : Head} {x : List ℕ} {t : Tables} {ws : List ℕ} {kept : List Bool} {gone lower : ℕ} (v : Marked h x t ws kept gone lower) where
-  -- the changes of every watch, by the marks
-  abbrev pub bytes : List ℕ
-  bytes = allFrames gone (h .newest) (flagged kept (t .positions) (t .lowerEnds) (h .rows)) lower ws
+  -- the changes of every watch, by what was found
+  abbrev bytes : List ℕ
+  bytes = foundBytes h f kept (t .positions) (t .lowerEnds) ws
 
   bytes-are : bytes ≡ quoteBytes h x t ws
   bytes-are =
-      ap (allFrames gone (h .newest) (flagged kept (t .positions) (t .lowerEnds) (h .rows)) lower) (sym (take-all 8 ws (let e = v .eight in omega arith)))
-      ∙ quote-frames h t (v .admitted .passed .untorn) (v .admitted .below) (v .found) ws
+      ap (allFrames (f .gone) (h .newest) (flagged kept (t .positions) (t .lowerEnds) (h .rows)) (f .lower)) (sym (take-all 8 ws (let e = v .eight in omega arith)))
+      ∙ quote-frames h t (v .admitted .passed .untorn) (v .admitted .below) found ws
 
-  -- they fit where the model's do
-  pub fitting : (out : List ℕ) → length (quoteBytes h x t ws) ≤ length out → false ≡ ltb (length out) (length bytes)
-  fitting out k = sym (le-ltb (length out) (length bytes) (rw bytes-are k))
+  -- the rows after the quote, as they were counted
+  rows-are : f .rows ≡ length (rowsNext h x t)
+  unfolding rowsAfter remaining bookRows
+  rows-are =
+      let left : length (rowsLeft h x t) + length (removedPlaces kept (h .rows)) ≡ h .rows = rest-counted _ (rowsIn (h .dimensions) (h .rows) t) kept (length-rows (h .dimensions) (h .rows) t) (v .finds .flags-fit) (rw (found .expired) at (found .flags)) in
+      rw (v .finds .rows, v .finds .counted, length-append, length-map) (omega (arith, left))
 
-  -- and the model's where they do
-  pub fitted : (out : List ℕ) {over : Bool} → over ≡ ltb (length out) (length bytes) → over ≡ false → length (quoteBytes h x t ws) ≤ length out
-  fitted out o f = rw bytes-are at (ltb-false (length out) (length bytes) (sym o ∙ f))
+  -- the places of the rows that do not stay are among those lent
+  pub places-within : f .removed ≤ length places
+  places-within = let e : length (take (f .removed) places) ≡ f .removed = rw (v .finds .listed) (sym (v .finds .counted)) in omega (arith, e, length-take (f .removed) places)
 
-  -- what is asked before the changes are counted
-  pub count-asks : (h .newest < lastPosition) × ((h .rows ≤ length kept) × ((h .rows ≤ length (t .positions)) × ((h .rows ≤ length (t .lowerEnds)) × (length bytes ≤ 57400))))
-  count-asks =
+  -- and are as many as were counted
+  pub places-long : f .removed ≡ length (take (f .removed) places)
+  places-long = v .finds .counted ∙ sym (ap length (v .finds .listed))
+
+  -- the position that expires
+  pub gone-is : f .gone ≡ h .newest + 1 - h .capacity
+  unfolding expiring
+  gone-is = found .expired
+
+  -- what is asked before the changes are written
+  pub writable : {unknown : ℕ} → (unknown ≡ 0 → Named (t .positions) (t .lowerEnds) (h .rows)) → Writable h f unknown kept (take (f .removed) places) (t .positions) (t .lowerEnds) ws
+  unfolding expiring windowStart
+  writable named =
       let p = v .admitted .passed in
       let stand = rows-stand h t p in
-      (v .admitted .below, (v .fits, (stand .0, (stand .1, rw bytes-are (changes-fit h x t ws (p .held) (p .untorn) .bytes-most)))))
-
-  -- what is asked before the rows that do not stay are listed on this many places
-  pub list-asks : {places : ℕ} → h .rows ≤ places → (h .rows ≤ length kept) × ((h .rows ≤ places) × (h .rows ≤ 1024))
-  list-asks fits = (v .fits, (fits, few-rows (v .admitted)))
-
-  -- they are no more than the places
-  pub listed-few : {n places : ℕ} → h .rows ≤ places → n ≡ length (removedPlaces kept (h .rows)) → n ≤ places
-  listed-few fits e = omega (arith, removed-few kept (h .rows))
+      let gone-is = found .expired in
+      record {
+        few = omega (arith, p .settings);
+        untorn = v .admitted .untorn;
+        below = v .admitted .below;
+        flags-fit = v .finds .flags-fit;
+        positions-fit = stand .0;
+        lower-ends-fit = stand .1;
+        removed≡ = v .finds .listed;
+        rises = untorn-rows h t (p .untorn) .rises;
+        named = named;
+        expired = omega arith;
+        most = rw bytes-are (changes-fit h x t ws (p .held) (p .untorn) .bytes-most);
+      }
 
   -- what is asked before the tables are settled
-  pub ready : {removed : List ℕ} → removed ≡ removedPlaces kept (h .rows) → Ready h x lower removed t
+  pub ready : Ready h x (f .lower) (take (f .removed) places) t
   unfolding remaining
-  ready r =
+  ready =
       let p = v .admitted .passed in
       record {
         few = p .settings .small-capacity;
@@ -214,73 +222,41 @@ module _ {h : Head} {x : List ℕ} {t : Tables} {ws : List ℕ} {kept : List Boo
         columns-fit = p .long .columns;
         positions-fit = p .long .positions;
         lower-ends-fit = p .long .lowerEnds;
-        listed = rw r (listed-removed kept (h .rows) (v .fits));
+        listed = rw (v .finds .listed) (listed-removed kept (h .rows) (v .finds .flags-fit));
         wide = v .admitted .wide;
-        selects = rw (r, stays-removed kept (h .rows) (v .fits), v .found .flags, v .found .expired) (selected-filter _ _);
-        lower≡ = rw (v .found .expired) at (v .found .sought);
+        selects = rw (v .finds .listed, stays-removed kept (h .rows) (v .finds .flags-fit), found .flags, found .expired) (selected-filter _ _);
+        lower≡ = rw (found .expired) at (found .sought);
         room = rows-room h x t p;
       }
 
-  module _ (out : List ℕ) {over : Bool} (o : over ≡ ltb (length out) (length bytes)) where
+  -- what is left once the changes are written or refused
+  module _ {out after : List ℕ} {r : Reply} (w : Written h (f .rows) bytes out r after) where
     -- the room for the changes decides
-    room-decides : quoteAnswer h x t ws (length out) ≡ first ((over, ShortOutput) ∷ [])
+    room-decides : roomAnswer (length out) bytes ≡ quoteAnswer h x t ws (length out)
     unfolding rowAnswer quoteAnswer watchfulAnswer
-    room-decides = first-more _ _ (v .accepted) ∙ rw (o, bytes-are)
+    room-decides = rw bytes-are (sym (first-more _ _ (v .accepted)))
+
+    reply-is : r ≡ quoteReply h x t ws (length out)
+    unfolding quoteReply quoteHead quoteRows
+    reply-is = w .reply ∙ rw (room-decides, rows-are, bytes-are)
+
+    answer-is : r .answer ≡ quoteAnswer h x t ws (length out)
+    unfolding quoteReply replyOf
+    answer-is = ap Reply.answer reply-is
+
+    out-is : after ≡ quoteOut h x t ws out
+    unfolding quoteOut
+    out-is = w .out ∙ rw (room-decides, bytes-are)
 
     -- where the changes do not fit, everything lent stays as it was
-    pub quote-full : over ≡ true → Quoted h x t ws out (record { answer = Refused ShortOutput; head = h; count = 0 }) t out
-    unfolding quoteReply quoteTables quoteOut
-    quote-full f =
-        let e = sym (room-decides ∙ first-holds over ShortOutput [] f) in
-        record { reply = refused-reply e refl h _ _; lent = refused-left e refl t _; out = refused-left e refl out _ }
+    pub quote-full : {k : Refusal} → r .answer ≡ Refused k → Quoted h x t ws out r t after
+    unfolding quoteTables
+    quote-full e = record { reply = reply-is; lent = refused-left answer-is e t _; out = out-is }
 
-    module _ (f : over ≡ false) where
-      -- what is asked before the changes are written
-      pub write-asks : {removed : List ℕ} {named : Bool} → removed ≡ removedPlaces kept (h .rows) → (named ≡ true → Named (t .positions) (t .lowerEnds) (h .rows))
-          → (h .capacity < 65536) × ((tornWatches (h .capacity) ws ≡ false)
-          × ((h .newest < lastPosition)
-          × ((h .rows ≤ length kept) × ((h .rows ≤ length (t .positions)) × ((h .rows ≤ length (t .lowerEnds)) × ((removed ≡ removedPlaces kept (h .rows))
-          × (Rises (t .positions) (h .rows)
-          × ((named ≡ true → Named (t .positions) (t .lowerEnds) (h .rows)) × ((gone ≤ windowStart (h .newest) (h .capacity)) × (length bytes ≤ length out))))))))))
-      unfolding expiring windowStart
-      write-asks r n =
-          let p = v .admitted .passed in
-          let asks = count-asks in
-          let gone-is = v .found .expired in (
-            omega (arith, p .settings),
-            (
-              v .admitted .untorn,
-              (
-                asks .0,
-                (
-                  asks .1 .0,
-                  (
-                    asks .1 .1 .0,
-                    (
-                      asks .1 .1 .1 .0,
-                      (
-                        r,
-                        (untorn-rows h t (p .untorn) .rises, (n, (omega arith, ltb-false (length out) (length bytes) (sym o ∙ f)))),
-                      ),
-                    ),
-                  ),
-                ),
-              ),
-            ),
-          )
-
-      -- else the changes are written and the rows after the quote fill the tables
-      pub quote-done : {count rows : ℕ} {next : Head} {t' : Tables} {after : List ℕ} → count ≡ length bytes → after ≡ laid bytes out → rows ≡ length (rowsNext h x t)
-          → t' ≡ filled (h .dimensions) (h .capacity) (rowsNext h x t) t → next ≡ afterQuote h rows
-          → Quoted h x t ws out (record { answer = Accepted; head = next; count = count }) t' after
-      unfolding quoteReply quoteTables quoteOut quoteHead quoteRows
-      quote-done c l n w d =
-          let e = sym (room-decides ∙ first-fails over ShortOutput [] f ∙ sym begun) in
-          record {
-            reply = accepted-reply e refl h (d ∙ ap (afterQuote h) n) (c ∙ ap length bytes-are);
-            lent = accepted-left e refl t w;
-            out = accepted-left e refl out (l ∙ ap (λ (b : List ℕ). laid b out) bytes-are);
-          }
+    -- else the rows after the quote fill the tables
+    pub quote-done : {t' : Tables} → r .answer ≡ Accepted → t' ≡ filled (h .dimensions) (h .capacity) (rowsNext h x t) t → Quoted h x t ws out r t' after
+    unfolding quoteTables quoteRows
+    quote-done e l = record { reply = reply-is; lent = accepted-left answer-is e t l; out = out-is }
 
 -- what a quote leaves that is refused before its rows are marked
 module _ (h : Head) (x : List ℕ) (t : Tables) (ws out : List ℕ) {a : Answer} {k : Refusal} (e : a ≡ rowAnswer h x t ws) (f : a ≡ Refused k) where

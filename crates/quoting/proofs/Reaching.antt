@@ -2,9 +2,8 @@
 -- lower end names a row.
 use mathlib.Core.Path.{_≡_, refl, sym, ap, subst, _∙_}
 use mathlib.Core.Logic.{_⊎_, inl, inr}
-use Prim.Native.Nat.{ℕ, _<_}
+use Prim.Native.Nat.{ℕ, _<_, max}
 use native.Mathlib.Omega.{arith}
-use mathlib.Core.Bool.{Bool, true, false}
 use mathlib.Core.List.{List, map, List·Memᴰ}
 use Rattle.lists.specs.Lists.{run}
 use Rattle.lists.proofs.Members.{into-map, of-map}
@@ -24,7 +23,9 @@ use Rattle.rows.specs.Lent.{Cleared}
 use Rattle.rows.proofs.Clears.{cleared-all, cleared-filled}
 use Rattle.changes.specs.Sought.{Named}
 use Rattle.model.specs.Promises.{world}
-use Rattle.quoting.specs.Answers.{quoteTests, rowAnswer, reachedAnswer, usedRows}
+use Rattle.quoting.specs.Answers.{quoteTests, rowAnswer, reachedAnswer}
+use Rattle.quoting.specs.Stages.{Known}
+use Rattle.judging.proofs.Answering.{Passed}
 
 -- a quote on it is answered by its settings and the quote's own tests
 pub reached-answers : {h : Head} (x : List ℕ) {t : Tables} {ws : List ℕ} {a : Answer} → Reached (world h t ws) → a ≡ reachedAnswer h x → a ≡ rowAnswer h x t ws
@@ -47,14 +48,8 @@ faithful-cleared s l f =
 reached-cleared : {w : World} → Reached w → Cleared (w .head) (w .head .rows) (w .lent .tables)
 reached-cleared = reached-by (λ w. Cleared (w .head) (w .head .rows) (w .lent .tables)) unopened-cleared faithful-cleared
 
--- in any other book every place may be
-pub used-cleared : (h : Head) (t : Tables) (ws : List ℕ) (reached : Bool) {used : ℕ} → (reached ≡ true → Reached (world h t ws)) → used ≡ usedRows h reached → Cleared h used t
-unfolding usedRows
-used-cleared h t ws true r e = rw e (reached-cleared (r refl))
-used-cleared h t ws false r e = rw e (cleared-all h t)
-
 -- each lower end is 0 or names a row
-pub reached-named : {w : World} → Reached w → Named (w .lent .tables .positions) (w .lent .tables .lowerEnds) (w .head .rows)
+reached-named : {w : World} → Reached w → Named (w .lent .tables .positions) (w .lent .tables .lowerEnds) (w .head .rows)
 unfolding bookRows rowsIn rowAt
 reached-named {w} g = record { names = λ i low. go i (reached-names g (row i) (into-map row i places (into-run 0 (w .head .rows) i (omega arith) (omega arith)))) }
   where
@@ -73,3 +68,19 @@ reached-named {w} g = record { names = λ i low. go i (reached-names g (row i) (
         let j = of-map row (r .0) places (r .1) in
         let low = of-run 0 (w .head .rows) (j .0) (j .1) .1 in
         inr (j .0, omega (arith, low), sym (r .2 ∙ ap Row.position (j .2)))
+
+-- so no place is unknown
+pub reached-known : {h : Head} {t : Tables} {ws : List ℕ} → Reached (world h t ws) → Known h 0 t
+reached-known {h} {t} r =
+    let e : max (h .rows) 0 ≡ h .rows = omega arith in
+    record { cleared = rw e (reached-cleared r); named = λ _. reached-named r }
+
+-- in any other book each may be
+pub any-known : {h : Head} {t : Tables} → Passed h t → Known h (h .capacity) t
+any-known {h} {t} p =
+    let e : max (h .rows) (h .capacity) ≡ h .capacity = omega (arith, p .whole) in
+    record { cleared = rw e (cleared-all h t); named = λ z. absurd (omega (arith, p .settings)) }
+
+-- the places in use, as they are counted
+pub known-cleared : {h : Head} {unknown used : ℕ} {t : Tables} → Known h unknown t → used ≡ max (h .rows) unknown → Cleared h used t
+known-cleared k e = rw e (k .cleared)

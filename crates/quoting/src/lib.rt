@@ -1,160 +1,45 @@
-// The quote: judged, its changes written for each watch, and its row taken into the tables.
+// The quote in stages: it is judged; what it does to the rows is found; its changes are written; the tables are settled, one at a time.
+ghost use Prim.Native.Nat.{_≤_};
 ghost use mathlib.Core.Path.{_≡_};
-ghost use Prim.Native.Nat.{_≤_, _<_};
-ghost use mathlib.Core.Bool.{true};
-ghost use lib.Dec.{ltb};
 ghost use lib.ListN.{length};
 ghost use Rattle.head.specs.declared.Answer.the-variants.{Accepted};
-ghost use Rattle.head.specs.Heads.{lastPosition};
-ghost use Rattle.head.specs.Refusals.{first, settled};
-ghost use Rattle.model.specs.Book.{bookRows, quoteBytes};
 ghost use Rattle.model.specs.Calls.{Reached};
-ghost use Rattle.changes.specs.Flagged.{Found, flagged};
-ghost use Rattle.changes.specs.Watches.{allFrames};
 ghost use Rattle.model.specs.Promises.{tables, world, Quoted};
-ghost use Rattle.quoting.specs.Answers.{quoteTests, rowAnswer, reachedAnswer, usedRows};
-use crate::judging::judge_settings;
-use crate::judging::judge_watchful;
-use crate::judging::with_test;
-use cells::list_removed;
-use changes::count_all_changes;
-use changes::write_all_changes;
+ghost use Rattle.quoting.specs.Answers.{rowAnswer};
+ghost use Rattle.quoting.specs.Stages.{Known};
+
+mod judged;
+mod marking;
+mod writing;
+
+use cells::settle_cells;
+use cells::settle_rows;
 use head::Answer;
 use head::Head;
-use head::Refusal;
 use head::Reply;
-use rows::difference;
-use rows::mark;
-use rows::settle;
+use judged::judge_reached;
+use judged::judge_row;
+use marking::find;
+use rows::larger;
+use writing::write;
 
-// An answer with the tests of the quote itself behind it: 4, 6.
-fn with_quote(answer: Answer, head: Head, quote: &[u32]) -> Answer
-    ensures { λ r. ⌜ r ≡ settled answer (first (quoteTests head (now (quote .entry)))) answer ⌝ }
-{
-    let d = head.dimensions as usize;
-    let wide = with_test(answer, quote.len() != d, Refusal::ColumnCount);
-    with_test(wide, Head::MAX_POSITION <= head.newest, Refusal::TapeFull)
+// What is found of a quote before anything is written: the position that expires with it, its lower end, how many rows do not stay,
+// and how many rows there are after it.
+pub struct Finding {
+    pub gone: u32,
+    pub lower: u32,
+    pub removed: usize,
+    pub rows: u32,
 }
 
-// The answer of a quote but for the output: 3, 11, 12, 4, 6.
-fn judge_row(
-    head: Head,
-    quote: &[u32],
-    columns: &[u32],
-    positions: &[u32],
-    lower_ends: &[u32],
-    watches: [u32; 8],
-) -> Answer
-    ensures { λ r. ⌜ r ≡ rowAnswer head (now (quote .entry)) (tables (now (columns .entry)) (now (positions .entry)) (now («lower_ends» .entry))) watches ⌝ }
-{
-    let judged = judge_watchful(head, columns, positions, lower_ends, watches);
-    with_quote(judged, head, quote)
-}
-
-// The answer of a quote on a book that calls left, but for the output: 3, 4, 6.
-fn judge_reached(head: Head, quote: &[u32]) -> Answer
-    ensures { λ r. ⌜ r ≡ reachedAnswer head (now (quote .entry)) ⌝ }
-{
-    with_quote(judge_settings(head), head, quote)
-}
-
-// Whether the changes of a quote are longer than the room for them; where 57,400 bytes are lent, none are, and none is counted.
-fn overflows(
-    watches: [u32; 8],
-    head: Head,
-    keep: &[bool],
-    positions: &[u32],
-    lower_ends: &[u32],
-    gone: u32,
-    lower: u32,
-    room: usize,
-) -> bool
-    requires { ⌜ head .newest < lastPosition ⌝ }
-    requires { ⌜ head .rows ≤ length (now keep) ⌝ }
-    requires { ⌜ head .rows ≤ length (now positions) ⌝ }
-    requires { ⌜ head .rows ≤ length (now «lower_ends») ⌝ }
-    requires { ⌜ length (allFrames gone (head .newest) (flagged (now keep) (now positions) (now «lower_ends») (head .rows)) lower watches) ≤ 57400 ⌝ }
-    ensures { λ r. ⌜ r ≡ ltb room (length (allFrames gone (head .newest) (flagged (now (keep .entry)) (now (positions .entry)) (now («lower_ends» .entry)) (head .rows)) lower watches)) ⌝ }
-{
-    if 57400 <= room {
-        return false;
-    }
-    room < count_all_changes(watches, head, keep, positions, lower_ends, gone, lower)
-}
-
-// Below which number of rows the places of the tables may be in use.
-fn used_rows(head: Head, reached: bool) -> u32
-    ensures { λ r. ⌜ r ≡ usedRows head reached ⌝ }
-{
-    if reached {
-        return head.rows;
-    }
-    head.capacity
-}
-
-// Enters a quote whose changes fit: they are written, and its row is put into the tables; keep says which rows stay, and places has one
-// for each.
+// Enters a quote that passed every test but the last, with a flag and a place for each row; of the tables' places only the first, so
+// many as are unknown, may hold what no call left.
 fn enter(
-    keep: &[bool],
-    places: &mut [u16],
-    head: Head,
-    quote: &[u32],
-    gone: u32,
-    lower: u32,
-    reached: bool,
-    columns: &mut [u32],
-    positions: &mut [u32],
-    lower_ends: &mut [u32],
-    watches: [u32; 8],
-    out: &mut [u8],
-) -> Reply
-    requires { ⌜ head .rows ≤ length (now keep) ⌝ }
-    requires { ⌜ head .rows ≤ length (now places) ⌝ }
-    requires { ⌜ rowAnswer head (now quote) (tables (now columns) (now positions) (now «lower_ends»)) watches ≡ Accepted ⌝ }
-    requires { ⌜ Found (head .dimensions) (head .directions) (head .capacity) (head .newest) (head .rows) (bookRows head (tables (now columns) (now positions) (now «lower_ends»))) (now quote) (now keep) gone lower ⌝ }
-    requires { ⌜ length (quoteBytes head (now quote) (tables (now columns) (now positions) (now «lower_ends»)) watches) ≤ length (now out) ⌝ }
-    requires { ⌜ (reached ≡ true → Reached (world head (tables (now columns) (now positions) (now «lower_ends»)) watches)) ⌝ }
-    ensures { λ r. ⌜ Quoted head (now (quote .entry)) (tables (now (columns .entry)) (now (positions .entry)) (now («lower_ends» .entry))) watches (now (out .entry)) r (tables (now (columns .exit)) (now (positions .exit)) (now («lower_ends» .exit))) (now (out .exit)) ⌝ }
-{
-    let length = list_removed(keep, head.rows as usize, places);
-    let count = write_all_changes(
-        watches,
-        head,
-        keep,
-        &places[..length],
-        positions,
-        lower_ends,
-        gone,
-        lower,
-        reached,
-        out,
-    );
-    let used = used_rows(head, reached);
-    let rows = settle(
-        head,
-        quote,
-        lower,
-        &places[..length],
-        used,
-        columns,
-        positions,
-        lower_ends,
-    );
-    Reply {
-        answer: Answer::Accepted,
-        head: head.after_quote(rows),
-        count,
-    }
-}
-
-// Takes a quote that passed every test but the last, with a flag and a place for each row: its changes are written and its row is put
-// into the tables, if the changes fit.
-fn accept_with(
     keep: &mut [bool],
     places: &mut [u16],
     head: Head,
     quote: &[u32],
-    reached: bool,
+    unknown: u32,
     columns: &mut [u32],
     positions: &mut [u32],
     lower_ends: &mut [u32],
@@ -164,128 +49,65 @@ fn accept_with(
     requires { ⌜ head .rows ≤ length (now keep) ⌝ }
     requires { ⌜ head .rows ≤ length (now places) ⌝ }
     requires { ⌜ rowAnswer head (now quote) (tables (now columns) (now positions) (now «lower_ends»)) watches ≡ Accepted ⌝ }
-    requires { ⌜ (reached ≡ true → Reached (world head (tables (now columns) (now positions) (now «lower_ends»)) watches)) ⌝ }
+    requires { ⌜ Known head unknown (tables (now columns) (now positions) (now «lower_ends»)) ⌝ }
     ensures { λ r. ⌜ Quoted head (now (quote .entry)) (tables (now (columns .entry)) (now (positions .entry)) (now («lower_ends» .entry))) watches (now (out .entry)) r (tables (now (columns .exit)) (now (positions .exit)) (now («lower_ends» .exit))) (now (out .exit)) ⌝ }
 {
-    let gone = difference(head.newest + 1, head.capacity);
-    let directions = head.directions;
-    let d = head.dimensions as usize;
-    let rows = head.rows as usize;
-    let lower = mark(directions, d, columns, positions, rows, quote, gone, keep);
-    if overflows(
-        watches,
+    let found = find(head, quote, columns, positions, keep, places);
+    let n = found.removed;
+    let reply = write(
+        found,
+        unknown,
         head,
         keep,
-        positions,
-        lower_ends,
-        gone,
-        lower,
-        out.len(),
-    ) {
-        return Reply {
-            answer: Answer::Refused(Refusal::ShortOutput),
-            head,
-            count: 0,
-        };
-    }
-    enter(
-        keep,
-        places,
-        head,
-        quote,
-        gone,
-        lower,
-        reached,
-        columns,
+        &places[..n],
         positions,
         lower_ends,
         watches,
         out,
-    )
-}
-
-// Takes a quote that passed every test but the last, with flags and places of its own: few for few rows, since each is zeroed.
-fn accept(
-    head: Head,
-    quote: &[u32],
-    reached: bool,
-    columns: &mut [u32],
-    positions: &mut [u32],
-    lower_ends: &mut [u32],
-    watches: [u32; 8],
-    out: &mut [u8],
-) -> Reply
-    requires { ⌜ rowAnswer head (now quote) (tables (now columns) (now positions) (now «lower_ends»)) watches ≡ Accepted ⌝ }
-    requires { ⌜ (reached ≡ true → Reached (world head (tables (now columns) (now positions) (now «lower_ends»)) watches)) ⌝ }
-    ensures { λ r. ⌜ Quoted head (now (quote .entry)) (tables (now (columns .entry)) (now (positions .entry)) (now («lower_ends» .entry))) watches (now (out .entry)) r (tables (now (columns .exit)) (now (positions .exit)) (now («lower_ends» .exit))) (now (out .exit)) ⌝ }
-{
-    if head.rows <= 128 {
-        return accept_with(
-            &mut [false; 128],
-            &mut [0u16; 128],
-            head,
-            quote,
-            reached,
-            columns,
-            positions,
-            lower_ends,
-            watches,
-            out,
-        );
-    }
-    accept_with(
-        &mut [false; 1024],
-        &mut [0u16; 1024],
-        head,
-        quote,
-        reached,
-        columns,
-        positions,
-        lower_ends,
-        watches,
-        out,
-    )
-}
-
-// Takes a quote that has this answer but for the output: where it is refused everything lent stays as it was.
-fn take(
-    answer: Answer,
-    head: Head,
-    quote: &[u32],
-    reached: bool,
-    columns: &mut [u32],
-    positions: &mut [u32],
-    lower_ends: &mut [u32],
-    watches: [u32; 8],
-    out: &mut [u8],
-) -> Reply
-    requires { ⌜ answer ≡ rowAnswer head (now quote) (tables (now columns) (now positions) (now «lower_ends»)) watches ⌝ }
-    requires { ⌜ (reached ≡ true → Reached (world head (tables (now columns) (now positions) (now «lower_ends»)) watches)) ⌝ }
-    ensures { λ r. ⌜ Quoted head (now (quote .entry)) (tables (now (columns .entry)) (now (positions .entry)) (now («lower_ends» .entry))) watches (now (out .entry)) r (tables (now (columns .exit)) (now (positions .exit)) (now («lower_ends» .exit))) (now (out .exit)) ⌝ }
-{
+    );
+    let answer = reply.answer;
     match answer {
         Answer::Accepted => {}
         Answer::Refused(_) => {
-            return Reply {
-                answer,
-                head,
-                count: 0,
-            };
+            return reply;
         }
     }
-    accept(
-        head,
+    let d = head.dimensions as usize;
+    let capacity = head.capacity as usize;
+    let count = head.rows as usize;
+    let used = larger(head.rows, unknown) as usize;
+    settle_rows(
+        &places[..n],
+        d,
+        count,
         quote,
-        reached,
+        used * d,
+        capacity * d,
         columns,
-        positions,
+    );
+    settle_cells(
+        &places[..n],
+        found.gone,
+        count,
+        found.lower,
+        used,
+        capacity,
         lower_ends,
-        watches,
-        out,
-    )
+    );
+    settle_cells(
+        &places[..n],
+        0,
+        count,
+        head.newest + 1,
+        used,
+        capacity,
+        positions,
+    );
+    reply
 }
 
-// Takes a quote on any tables: they are judged, and every place may be in use.
+// Takes a quote on any tables: they are judged, and every place may hold anything. Few flags and places do for few rows, since each
+// is zeroed.
 pub fn quote(
     head: Head,
     quote: &[u32],
@@ -298,11 +120,37 @@ pub fn quote(
     ensures { λ r. ⌜ Quoted head (now (quote .entry)) (tables (now (columns .entry)) (now (positions .entry)) (now («lower_ends» .entry))) watches (now (out .entry)) r (tables (now (columns .exit)) (now (positions .exit)) (now («lower_ends» .exit))) (now (out .exit)) ⌝ }
 {
     let answer = judge_row(head, quote, columns, positions, lower_ends, watches);
-    take(
-        answer,
+    match answer {
+        Answer::Accepted => {}
+        Answer::Refused(_) => {
+            return Reply {
+                answer,
+                head,
+                count: 0,
+            };
+        }
+    }
+    let unknown = head.capacity;
+    if head.rows <= 128 {
+        return enter(
+            &mut [false; 128],
+            &mut [0u16; 128],
+            head,
+            quote,
+            unknown,
+            columns,
+            positions,
+            lower_ends,
+            watches,
+            out,
+        );
+    }
+    enter(
+        &mut [false; 1024],
+        &mut [0u16; 1024],
         head,
         quote,
-        false,
+        unknown,
         columns,
         positions,
         lower_ends,
@@ -311,7 +159,7 @@ pub fn quote(
     )
 }
 
-// Takes a quote on a book that calls left: neither tables nor watches are judged, and only the places of the rows are in use.
+// Takes a quote on a book that calls left: neither tables nor watches are judged, and no place is unknown.
 pub fn quote_reached(
     head: Head,
     quote: &[u32],
@@ -325,11 +173,36 @@ pub fn quote_reached(
     ensures { λ r. ⌜ Quoted head (now (quote .entry)) (tables (now (columns .entry)) (now (positions .entry)) (now («lower_ends» .entry))) watches (now (out .entry)) r (tables (now (columns .exit)) (now (positions .exit)) (now («lower_ends» .exit))) (now (out .exit)) ⌝ }
 {
     let answer = judge_reached(head, quote);
-    take(
-        answer,
+    match answer {
+        Answer::Accepted => {}
+        Answer::Refused(_) => {
+            return Reply {
+                answer,
+                head,
+                count: 0,
+            };
+        }
+    }
+    if head.rows <= 128 {
+        return enter(
+            &mut [false; 128],
+            &mut [0u16; 128],
+            head,
+            quote,
+            0,
+            columns,
+            positions,
+            lower_ends,
+            watches,
+            out,
+        );
+    }
+    enter(
+        &mut [false; 1024],
+        &mut [0u16; 1024],
         head,
         quote,
-        true,
+        0,
         columns,
         positions,
         lower_ends,

@@ -2,8 +2,8 @@
 use borrow.Author.Needs.{needs}
 use Rattle.quoting.specs.Answers.{reachedAnswer}
 use Rattle.judging.proofs.Answering.{tested-more}
-use Rattle.quoting.proofs.judge_reached.Statement.{statement}
-use Rattle.quoting.proofs.judge_reached.Tie as tie
+use Rattle.quoting.proofs.judged.judge_reached.Statement.{statement}
+use Rattle.quoting.proofs.judged.judge_reached.Tie as tie
 
 judge-settings-requires : tie.Need-judge-settings-requires
 judge-settings-requires c κs = search needs

@@ -3,8 +3,8 @@ use borrow.Author.Needs.{needs}
 use Rattle.model.specs.Book.{watchfulAnswer}
 use Rattle.quoting.specs.Answers.{rowAnswer}
 use Rattle.judging.proofs.Answering.{tested-more}
-use Rattle.quoting.proofs.judge_row.Statement.{statement}
-use Rattle.quoting.proofs.judge_row.Tie as tie
+use Rattle.quoting.proofs.judged.judge_row.Statement.{statement}
+use Rattle.quoting.proofs.judged.judge_row.Tie as tie
 
 judge-watchful-requires : tie.Need-judge-watchful-requires
 judge-watchful-requires c κs = search needs

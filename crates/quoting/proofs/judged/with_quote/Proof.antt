@@ -1,8 +1,8 @@
 -- `with_quote` meets its contract: the column count is tested, and behind it the position.
 use borrow.Author.Needs.{needs}
 use Rattle.judging.proofs.Answering.{tested-twice}
-use Rattle.quoting.proofs.with_quote.Statement.{statement}
-use Rattle.quoting.proofs.with_quote.Tie as tie
+use Rattle.quoting.proofs.judged.with_quote.Statement.{statement}
+use Rattle.quoting.proofs.judged.with_quote.Tie as tie
 
 cast-d : tie.Need-cast-d
 cast-d c = search needs
