@@ -7,7 +7,7 @@ use crate::lending::end_lent;
 use crate::lending::open_lent;
 use crate::lending::quote_lent;
 use crate::lending::watch_lent;
-pub use calls::look;
+pub use looking::look;
 use head::Head;
 use head::Reply;
 use head::Watch;
