@@ -1,4 +1,5 @@
 -- `enter` meets its contract: what is found tells the changes and the rows that stay, and each table is settled by itself.
+use mathlib.Core.Path.{refl}
 use native.Mathlib.Nat.{mul-le-mul-right}
 use native.Mathlib.Omega.{arith}
 use denote.Ref.{now}
@@ -31,6 +32,18 @@ found c = c .before .before .before .before .before .before .before .before .bef
 abbrev wrote : tie.After-larger → tie.After-write
 wrote c = c .before .before .before .before .before .before .before .before
 
+-- where that was, from where the columns are settled
+abbrev began : tie.After-settle-rows → tie.After-larger
+began c = c .before .before .before
+
+-- where the columns were settled, from where the lower ends are
+abbrev columns-settled : tie.After-settle-cells → tie.After-settle-rows
+columns-settled c = c .before .before .before .before .before
+
+-- where the lower ends were settled, from where the positions are
+abbrev lowers-settled : tie.After-settle-cells2 → tie.After-settle-cells
+lowers-settled c = c .before .before .before .before .before .before
+
 -- what is known where the tables begin to be settled
 before : (c : tie.After-larger)
     → Marked (start (found (wrote c)) .args .head) (now (start (found (wrote c)) .args .quote)) (tables (now (start (found (wrote c)) .args .columns)) (now (start (found (wrote c)) .args .positions)) (now (start (found (wrote c)) .args .lower-ends))) (start (found (wrote c)) .args .watches)
@@ -61,22 +74,22 @@ enum-told-2 : tie.Need-enum-told-2
 enum-told-2 c = search needs
 
 same-length : tie.Need-same-length
-same-length c = search needs
+same-length c = found (c .before .before .before .before) .find .kept .1 .1 .1 .1 .0
 
 same-length-2 : tie.Need-same-length-2
-same-length-2 c = search needs
+same-length-2 c = found (c .before .before .before .before) .find .kept .1 .1 .1 .1 .1 .0
 
 same-length-3 : tie.Need-same-length-3
-same-length-3 c = search needs
+same-length-3 c = refl
 
 same-length-4 : tie.Need-same-length-4
-same-length-4 c = search needs
+same-length-4 c = refl
 
 same-length-5 : tie.Need-same-length-5
-same-length-5 c = search needs
+same-length-5 c = refl
 
 same-length-6 : tie.Need-same-length-6
-same-length-6 c = search needs
+same-length-6 c = c .before .before .before .before .write .kept .1 .1 .1 .1 .1 .1 .1 .1 .0
 
 returns : tie.Need-returns
 returns c = let w = c .before .before .before .before in quote-full (known (found w)) (w .write .ensures) (c .enum-told2 .given .1)
@@ -115,58 +128,62 @@ settle-rows-requires c κs =
     (v .listed, (v .columns-fit, (v .few-columns, (columns-room v, (mul-le-mul-right _ (w .rows-below (v .rows-fit)), w .columns)))))
 
 slice-reshare-prefix-settle-cells : tie.Need-slice-reshare-prefix-settle-cells
-slice-reshare-prefix-settle-cells c = omega (arith, places-within (before (c .before .before .before .before .before)))
+slice-reshare-prefix-settle-cells c =
+    omega (arith, places-within (before (began (c .before .before))))
 
 slice-aggregate-settle-cells : tie.Need-slice-aggregate-settle-cells
-slice-aggregate-settle-cells c = places-long (before (c .before .before .before .before .before .before))
+slice-aggregate-settle-cells c = places-long (before (began (c .before .before .before)))
 
 settle-cells-requires : tie.Need-settle-cells-requires
 settle-cells-requires c κs =
-    let v = ready (before (c .before .before .before .before .before .before .before)) in
-    let w = cleared (c .before .before .before .before .before .before .before) in
+    let at = began (c .before .before .before .before) in
+    let v = ready (before at) in
+    let w = cleared at in
     (v .listed, (v .lower-ends-fit, (omega (arith, v .few), (lower-ends-room v, (w .rows-below (v .rows-fit), w .lowerEnds)))))
 
 slice-reshare-prefix-settle-cells-2 : tie.Need-slice-reshare-prefix-settle-cells-2
-slice-reshare-prefix-settle-cells-2 c = omega (arith, places-within (before (c .before .before .before .before .before .before .before .before .before .before)))
+slice-reshare-prefix-settle-cells-2 c =
+    omega (arith, places-within (before (began (columns-settled (c .before .before)))))
 
 slice-aggregate-settle-cells-2 : tie.Need-slice-aggregate-settle-cells-2
-slice-aggregate-settle-cells-2 c = places-long (before (c .before .before .before .before .before .before .before .before .before .before .before))
+slice-aggregate-settle-cells-2 c = places-long (before (began (columns-settled (c .before .before .before))))
 
 add-settle-cells : tie.Need-add-settle-cells
-add-settle-cells c = omega (arith, ready (before (c .before .before .before .before .before .before .before .before .before .before .before .before)) .newest-fits)
+add-settle-cells c = omega (arith, ready (before (began (columns-settled (c .before .before .before .before)))) .newest-fits)
 
 settle-cells-requires-2 : tie.Need-settle-cells-requires-2
 settle-cells-requires-2 c κs =
-    let v = ready (before (c .before .before .before .before .before .before .before .before .before .before .before .before .before)) in
-    let w = cleared (c .before .before .before .before .before .before .before .before .before .before .before .before .before) in
+    let at = began (columns-settled (c .before .before .before .before .before)) in
+    let v = ready (before at) in
+    let w = cleared at in
     (v .listed, (v .positions-fit, (omega (arith, v .few), (positions-room v, (w .rows-below (v .rows-fit), w .positions)))))
 
 same-length-7 : tie.Need-same-length-7
-same-length-7 c = c .before .before .before .before .before .before .before .before .before .before .before .before .before .before .before .before .before .before .before .before .before .before .before .before .before .before .before .before .before .before .before .before .before .before .find .kept .1 .1 .1 .1 .0
+same-length-7 c = found (wrote (began (columns-settled (lowers-settled (c .before .before))))) .find .kept .1 .1 .1 .1 .0
 
 same-length-8 : tie.Need-same-length-8
-same-length-8 c = c .before .before .before .before .before .before .before .before .before .before .before .before .before .before .before .before .before .before .before .before .before .before .before .before .before .before .before .before .before .before .before .before .before .before .find .kept .1 .1 .1 .1 .1 .0
+same-length-8 c = found (wrote (began (columns-settled (lowers-settled (c .before .before))))) .find .kept .1 .1 .1 .1 .1 .0
 
 same-length-9 : tie.Need-same-length-9
-same-length-9 c = search needs
+same-length-9 c = columns-settled (lowers-settled (c .before .before)) .settle-rows .kept .1 .1 .1 .1 .1 .1 .0
 
 same-length-10 : tie.Need-same-length-10
-same-length-10 c = search needs
+same-length-10 c = c .before .before .settle-cells2 .kept .1 .1 .1 .1 .1 .1 .0
 
 same-length-11 : tie.Need-same-length-11
-same-length-11 c = search needs
+same-length-11 c = lowers-settled (c .before .before) .settle-cells .kept .1 .1 .1 .1 .1 .1 .0
 
 same-length-12 : tie.Need-same-length-12
-same-length-12 c = c .before .before .before .before .before .before .before .before .before .before .before .before .before .before .before .before .before .before .before .before .before .before .before .before .write .kept .1 .1 .1 .1 .1 .1 .1 .1 .0
+same-length-12 c = wrote (began (columns-settled (lowers-settled (c .before .before)))) .write .kept .1 .1 .1 .1 .1 .1 .1 .1 .0
 
 returns-2 : tie.Need-returns-2
 returns-2 c =
     let positions = c .before .before in
-    let lowers = positions .before .before .before .before .before .before in
-    let columns = lowers .before .before .before .before .before in
-    let began = columns .before .before .before in
-    let v = before began in
-    quote-done v (wrote began .write .ensures) (began .before .before .before .before .enum-told .given .1)
+    let lowers = lowers-settled positions in
+    let columns = columns-settled lowers in
+    let at = began columns in
+    let v = before at in
+    quote-done v (wrote at .write .ensures) (at .before .before .before .before .enum-told .given .1)
     (settled (ready v) _ _ _ _ (gone-is v) (columns .settle-rows .ensures) (positions .settle-cells2 .ensures .1) (lowers .settle-cells .ensures .1))
 
 pub enter-spec : {M : Type 1} → statement M

@@ -7,6 +7,13 @@ use Rattle.quoting.proofs.Reaching.{reached-answers, reached-known}
 use Rattle.quoting.proofs.quote_reached.Statement.{statement}
 use Rattle.quoting.proofs.quote_reached.Tie as tie
 
+-- where a quote on few rows was entered, and one on many
+abbrev few : tie.After-slice-known8 → tie.After-enter
+few c = c .before .before .before .before .before .before .before .before .before .before
+
+abbrev many : tie.After-slice-known12 → tie.After-enter2
+many c = c .before .before .before .before .before .before .before .before .before .before
+
 judge-reached-requires : tie.Need-judge-reached-requires
 judge-reached-requires c κs = search needs
 
@@ -34,19 +41,19 @@ enter-requires c κs =
     (omega (arith, few-rows known), (omega (arith, few-rows known), (accepted, reached-known reached)))
 
 same-length : tie.Need-same-length
-same-length c = search needs
+same-length c = few c .enter .kept .1 .1 .1 .1 .1 .0
 
 same-length-2 : tie.Need-same-length-2
-same-length-2 c = search needs
+same-length-2 c = few c .enter .kept .1 .1 .1 .1 .1 .1 .0
 
 same-length-3 : tie.Need-same-length-3
-same-length-3 c = search needs
+same-length-3 c = few c .enter .kept .1 .1 .1 .1 .1 .1 .1 .0
 
 same-length-4 : tie.Need-same-length-4
-same-length-4 c = search needs
+same-length-4 c = few c .enter .kept .1 .1 .1 .1 .1 .1 .1 .1 .1 .0
 
 returns-2 : tie.Need-returns-2
-returns-2 c = search needs
+returns-2 c = few c .enter .ensures
 
 slice-aggregate-enter-3 : tie.Need-slice-aggregate-enter-3
 slice-aggregate-enter-3 c = search needs
@@ -63,19 +70,19 @@ enter-requires-2 c κs =
     (omega (arith, few-rows known), (omega (arith, few-rows known), (accepted, reached-known reached)))
 
 same-length-5 : tie.Need-same-length-5
-same-length-5 c = search needs
+same-length-5 c = many c .enter2 .kept .1 .1 .1 .1 .1 .0
 
 same-length-6 : tie.Need-same-length-6
-same-length-6 c = search needs
+same-length-6 c = many c .enter2 .kept .1 .1 .1 .1 .1 .1 .0
 
 same-length-7 : tie.Need-same-length-7
-same-length-7 c = search needs
+same-length-7 c = many c .enter2 .kept .1 .1 .1 .1 .1 .1 .1 .0
 
 same-length-8 : tie.Need-same-length-8
-same-length-8 c = search needs
+same-length-8 c = many c .enter2 .kept .1 .1 .1 .1 .1 .1 .1 .1 .1 .0
 
 returns-3 : tie.Need-returns-3
-returns-3 c = search needs
+returns-3 c = many c .enter2 .ensures
 
 pub quote-reached-spec : {M : Type 1} → statement M
 quote-reached-spec =
