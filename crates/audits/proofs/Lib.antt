@@ -1,5 +1,4 @@
 -- The laws of the crate.
-pub mod Lengths
 pub mod Zeros
 pub mod Worst
 pub mod Gaps

@@ -4,28 +4,17 @@ use dominance::compare;
 use head::Head;
 use head::Refusal;
 use head::Verdict;
+use judging::short_tables;
 use rows::torn_rows;
 ghost use mathlib.Core.Path.{_≡_};
 ghost use Prim.Native.Nat.{_+_, _*_, _≤_, _<_};
 ghost use mathlib.Core.Bool.{true, false};
 ghost use mathlib.Core.List.{[]};
 ghost use lib.ListN.{length, take, drop};
-ghost use Rattle.head.specs.Heads.{settingsHold};
 ghost use Rattle.model.specs.Rows.{rowAt, rowsIn};
-ghost use Rattle.model.specs.Book.{shortTables};
 ghost use Rattle.model.specs.Audit.{worstAt, isWorst, zeroFrom, passes, auditVerdict};
 ghost use Rattle.rows.specs.Lent.{tables};
 ghost use Rattle.audits.specs.Parts.{rightRow, rightRows, openGap};
-
-// Whether a table is shorter than the settings ask.
-fn short_tables(head: Head, columns: &[u32], positions: &[u32], lower_ends: &[u32]) -> bool
-    requires { ⌜ settingsHold (head .dimensions) (head .capacity) (head .directions) ≡ true ⌝ }
-    ensures { λ r. ⌜ r ≡ shortTables (tables (now (columns .entry)) (now (positions .entry)) (now («lower_ends» .entry))) (head .dimensions) (head .capacity) ⌝ }
-{
-    let d = head.dimensions as usize;
-    let capacity = head.capacity as usize;
-    (columns.len() < capacity * d) | (positions.len() < capacity) | (lower_ends.len() < capacity)
-}
 
 // Whether the cells from one place up to another are 0.
 fn all_zero(cells: &[u32], from: usize, to: usize) -> bool

@@ -24,7 +24,7 @@ use Rattle.model.specs.Rows.{Tables}
 use Rattle.model.specs.Book.{shortTables, shortLoan, tornRows, bookRows, standing, tornWatches, watchfulAnswer, replyOf, openAnswer, openReply, openTables, openWatches, quoteRows, quoteHead, quoteBytes, quoteAnswer, quoteReply, quoteTables, quoteOut, watchBytes, watchAnswer, watchReply, watchWatches, watchOut, endAnswer, endReply, endWatches}
 use Rattle.watches.specs.Records.{watched, firstEight, stored, Vacant}
 use Rattle.model.specs.Promises.{Opened, Quoted, Watched, Ended}
-use Rattle.calls.proofs.Watches.{watch-free}
+use Rattle.watching.proofs.Watches.{watch-free}
 use Rattle.book.specs.declared.lending.Judgement.{Judgement}
 use Rattle.book.specs.Lent.{judgement, OpenJudged, WatchJudged}
 

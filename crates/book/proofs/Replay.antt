@@ -12,7 +12,7 @@ use Rattle.model.specs.Reference.{unopened}
 use Rattle.model.specs.Calls.{Call, Open, Quote, Look, Watch, End, Lent, Seen, World, expectedStep, runs}
 use Rattle.watches.specs.Records.{watched}
 use Rattle.model.specs.Promises.{Opened, Quoted, Looked, Watched, Ended}
-use Rattle.calls.proofs.Made as Numbers
+use Rattle.quoting.proofs.Made as Numbers
 
 -- what the model is told of lent tables and records: of each record its n
 abbrev pub told : Tables → List Record.Watch → Lent

@@ -4,14 +4,14 @@ ghost use lib.ListN.{take};
 ghost use Rattle.model.specs.Book.{endReply};
 ghost use Rattle.model.specs.Promises.{tables, Quoted};
 ghost use Rattle.book.specs.Lent.{judgement, fewReply, OpenJudged, WatchJudged};
-use calls::end;
-use calls::open;
-use calls::quote;
-use calls::watch;
 use head::Answer;
 use head::Head;
 use head::Refusal;
 use head::Reply;
+use opening::open;
+use quoting::quote;
+use watching::end;
+use watching::watch;
 
 // What a call that may change the records answers: its reply, and whether they change.
 pub struct Judgement {

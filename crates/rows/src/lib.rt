@@ -1,17 +1,15 @@
-// Code on the lent tables: torn rows, the rows that a quote leaves, and the tables after it.
+// Code on the lent tables: torn rows, and the rows that a quote leaves.
 use cells::chosen;
-use cells::settle_cells;
-use cells::settle_rows;
 use dominance::compare;
 use head::Head;
 ghost use mathlib.Core.Path.{_≡_};
 ghost use Prim.Native.Nat.{_-_, _*_, _≤_, max};
 ghost use mathlib.Core.List.{[], _++_, map};
 ghost use lib.ListN.{length, drop};
-ghost use Rattle.model.specs.Rows.{rowsIn, filled, remains, remaining, lowerEndAmong};
+ghost use Rattle.model.specs.Rows.{rowsIn, remains, remaining, lowerEndAmong};
 ghost use Rattle.model.specs.Book.{tornRows, bookRows};
 ghost use Rattle.rows.specs.Order.{tornHead, inOrder};
-ghost use Rattle.rows.specs.Lent.{tables, Markable, Marks, rowsNext, Ready, Cleared};
+ghost use Rattle.rows.specs.Lent.{tables, Markable, Marks};
 
 // x less y, and 0 where y is larger.
 pub fn difference(x: u32, y: u32) -> u32
@@ -65,7 +63,7 @@ pub fn torn_rows(head: Head, positions: &[u32], lower_ends: &[u32]) -> bool
 }
 
 // The larger of two numbers.
-fn larger(x: u32, y: u32) -> u32
+pub fn larger(x: u32, y: u32) -> u32
     ensures { λ r. ⌜ r ≡ max x y ⌝ }
 {
     if x < y { y } else { x }
@@ -163,34 +161,4 @@ pub fn mark(
     }
     let at = (last - 1) as usize;
     positions[at]
-}
-
-// Takes a quote into the tables: the rows that stay, the quote's row behind them, and zeros up to the capacity; from used rows on
-// zeros stand there already, and removed has the places of the rows that do not stay. Gives how many rows there are.
-pub fn settle(
-    head: Head,
-    quote: &[u32],
-    lower: u32,
-    removed: &[u16],
-    used: u32,
-    columns: &mut [u32],
-    positions: &mut [u32],
-    lower_ends: &mut [u32],
-) -> u32
-    requires { ⌜ Ready head (now quote) lower (now removed) (tables (now columns) (now positions) (now «lower_ends»)) ⌝ }
-    requires { ⌜ Cleared head used (tables (now columns) (now positions) (now «lower_ends»)) ⌝ }
-    ensures { λ r. ⌜ r ≡ length (rowsNext head (now (quote .entry)) (tables (now (columns .entry)) (now (positions .entry)) (now («lower_ends» .entry)))) ⌝ }
-    ensures { λ _. ⌜ tables (now (columns .exit)) (now (positions .exit)) (now («lower_ends» .exit)) ≡ filled (head .dimensions) (head .capacity) (rowsNext head (now (quote .entry)) (tables (now (columns .entry)) (now (positions .entry)) (now («lower_ends» .entry)))) (tables (now (columns .entry)) (now (positions .entry)) (now («lower_ends» .entry))) ⌝ }
-{
-    let d = head.dimensions as usize;
-    let capacity = head.capacity as usize;
-    let count = head.rows as usize;
-    let next = head.newest + 1;
-    let gone = difference(next, head.capacity);
-    let in_use = used as usize;
-    let places = capacity * d;
-    settle_rows(removed, d, count, quote, in_use * d, places, columns);
-    settle_cells(removed, gone, count, lower, in_use, capacity, lower_ends);
-    let rows = settle_cells(removed, 0, count, next, in_use, capacity, positions);
-    rows as u32
 }

@@ -21,7 +21,7 @@ use Rattle.head.proofs.Answers.{accepted-passed}
 use Rattle.model.specs.Rows.{Tables}
 use Rattle.model.specs.Book.{standing, outOfRange, replyOf, quoteBytes, quoteAnswer, quoteReply, lookCells, lookAnswer, lookReply, watchBytes, watchAnswer, watchReply}
 use Rattle.model.specs.Promises.{Quoted, Looked, Watched}
-use Rattle.calls.proofs.Answering.{answer-passed, watchful-passed}
+use Rattle.judging.proofs.Answering.{answer-passed, watchful-passed}
 use Rattle.tape.specs.Steps.{textRoom}
 
 -- a count that fits if the call is accepted fits

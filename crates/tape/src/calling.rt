@@ -80,7 +80,7 @@ pub fn open(
     requires { ⌜ 35 ≤ length (now text) ⌝ }
     ensures { λ r. ⌜ ((bytes : List ℕ) → Turned (made (Request.Open dimensions capacity directions) (player head (tables (now (columns .entry)) (now (positions .entry)) (now («lower_ends» .entry))) watches bytes)) (now (text .entry)) r (tables (now (columns .exit)) (now (positions .exit)) (now («lower_ends» .exit))) bytes (now (text .exit))) ⌝ }
 {
-    let opened = calls::open(
+    let opened = opening::open(
         dimensions,
         capacity,
         directions,
@@ -117,9 +117,9 @@ fn make_quote(
     ensures { λ r. ⌜ Quoted head (now (quote .entry)) (tables (now (columns .entry)) (now (positions .entry)) (now («lower_ends» .entry))) watches (now (bytes .entry)) r (tables (now (columns .exit)) (now (positions .exit)) (now («lower_ends» .exit))) (now (bytes .exit)) ⌝ }
 {
     if reached {
-        return calls::quote_reached(head, quote, columns, positions, lower_ends, watches, bytes);
+        return quoting::quote_reached(head, quote, columns, positions, lower_ends, watches, bytes);
     }
-    calls::quote(head, quote, columns, positions, lower_ends, watches, bytes)
+    quoting::quote(head, quote, columns, positions, lower_ends, watches, bytes)
 }
 
 // Makes a quote of the first count columns, on a book that calls left or on any, and lays its line and its changes.
@@ -172,7 +172,7 @@ pub fn look(
     ensures { λ r. ⌜ ((watches bytes : List ℕ) → Laid (made (Request.Look n) (player head (tables (now (columns .entry)) (now (positions .entry)) (now («lower_ends» .entry))) watches bytes) .0) (now (text .entry)) r (now (text .exit))) ⌝ }
 {
     let mut cells = [0u32; 1025];
-    let reply = calls::look(head, n, columns, positions, lower_ends, &mut cells[1..]);
+    let reply = looking::look(head, n, columns, positions, lower_ends, &mut cells[1..]);
     let answer = reply.answer;
     cells[0] = n;
     let end = reply.count + 1;
@@ -193,7 +193,7 @@ pub fn watch(
     requires { ⌜ textRoom (length (now bytes)) ≤ length (now text) ⌝ }
     ensures { λ r. ⌜ Turned (made (Request.Watch n) (player head (tables (now (columns .entry)) (now (positions .entry)) (now («lower_ends» .entry))) watches (now (bytes .entry)))) (now (text .entry)) r (tables (now (columns .entry)) (now (positions .entry)) (now («lower_ends» .entry))) (now (bytes .exit)) (now (text .exit)) ⌝ }
 {
-    let watched = calls::watch(head, n, columns, positions, lower_ends, watches, bytes);
+    let watched = watching::watch(head, n, columns, positions, lower_ends, watches, bytes);
     let reply = watched.reply;
     let answer = reply.answer;
     let next = reply.head;
@@ -219,7 +219,7 @@ pub fn end(
     requires { ⌜ 13 ≤ length (now text) ⌝ }
     ensures { λ r. ⌜ ((bytes : List ℕ) → Turned (made (Request.End n) (player head (tables (now (columns .entry)) (now (positions .entry)) (now («lower_ends» .entry))) watches bytes)) (now (text .entry)) r (tables (now (columns .entry)) (now (positions .entry)) (now («lower_ends» .entry))) bytes (now (text .exit))) ⌝ }
 {
-    let ended = calls::end(head, n, columns, positions, lower_ends, watches);
+    let ended = watching::end(head, n, columns, positions, lower_ends, watches);
     let reply = ended.reply;
     let answer = reply.answer;
     let next = reply.head;

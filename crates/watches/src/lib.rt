@@ -6,7 +6,14 @@ ghost use lib.ListN.{length};
 ghost use Rattle.lists.specs.Lists.{contains, insert, without, padded};
 ghost use Rattle.model.specs.Book.{standing, tornWatches};
 ghost use Rattle.watches.specs.Records.{watched, firstEight, stored, Vacant};
+use head::Reply;
 use head::Watch;
+
+// What a call that may change the watches hands back: its reply, and the watches after it.
+pub struct WatchReply {
+    pub reply: Reply,
+    pub watches: [u32; 8],
+}
 
 // How many watches stand.
 pub fn standing_count(watches: [u32; 8]) -> usize

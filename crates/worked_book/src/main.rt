@@ -1,11 +1,11 @@
 // A worked book: opens, quotes, looks, watches, ends and audits on real buffers, and prints each answer; then it draws the refusals
 // that the calls give.
-use calls::WatchReply;
 use head::Answer;
 use head::Head;
 use head::Reply;
 use head::Verdict;
 use libc::STDOUT_FILENO;
+use watches::WatchReply;
 
 // Prints a line of at most eleven numbers.
 fn print(letter: u8, numbers: &[u32]) {
@@ -55,7 +55,7 @@ fn take(
     watches: [u32; 8],
     out: &mut [u8],
 ) -> Head {
-    let reply = calls::quote(head, &quote, columns, positions, lower_ends, watches, out);
+    let reply = quoting::quote(head, &quote, columns, positions, lower_ends, watches, out);
     let answer = reply.answer;
     let next = reply.head;
     let count = reply.count;
@@ -75,7 +75,7 @@ fn take(
 // Looks at the list of n, and prints it, or the refusal.
 fn look(head: Head, n: u32, columns: &[u32], positions: &[u32], lower_ends: &[u32]) {
     let mut cells = [0u32; 9];
-    let reply = calls::look(head, n, columns, positions, lower_ends, &mut cells[1..]);
+    let reply = looking::look(head, n, columns, positions, lower_ends, &mut cells[1..]);
     let answer = reply.answer;
     let count = reply.count;
     match answer {
@@ -107,7 +107,7 @@ fn audit(head: Head, columns: &[u32], positions: &[u32], lower_ends: &[u32]) {
 
 // Opens the book of 01's worked example: two columns, a memory of five, lower is better.
 fn open(columns: &mut [u32], positions: &mut [u32], lower_ends: &mut [u32]) -> WatchReply {
-    let opened = calls::open(2, 5, 0, columns, positions, lower_ends, [0u32; 8]);
+    let opened = opening::open(2, 5, 0, columns, positions, lower_ends, [0u32; 8]);
     print(b'O', &[2, 5, 0]);
     opened
 }
@@ -137,11 +137,11 @@ fn watch_two(
     watches: [u32; 8],
     out: &mut [u8],
 ) -> [u32; 8] {
-    let watching = calls::watch(head, 2, columns, positions, lower_ends, watches, out);
-    let joined = watching.reply;
+    let set = watching::watch(head, 2, columns, positions, lower_ends, watches, out);
+    let joined = set.reply;
     print(b'W', &[2]);
     print_changes(out, joined.count);
-    watching.watches
+    set.watches
 }
 
 // Quote 6 of the worked example, the first that is watched, and the look at the list of 5.
@@ -181,18 +181,18 @@ fn refusals(head: Head, columns: &[u32], positions: &[u32], lower_ends: &[u32], 
     let mut torn = head;
     torn.rows = 0;
     look(head, 6, columns, positions, lower_ends);
-    let again = calls::watch(head, 2, columns, positions, lower_ends, watches, &mut out);
+    let again = watching::watch(head, 2, columns, positions, lower_ends, watches, &mut out);
     let again_reply = again.reply;
     print_answer(again_reply);
-    let ended = calls::end(head, 3, columns, positions, lower_ends, watches);
+    let ended = watching::end(head, 3, columns, positions, lower_ends, watches);
     let ended_reply = ended.reply;
     print_answer(ended_reply);
     look(wide, 1, columns, positions, lower_ends);
     look(torn, 1, columns, positions, lower_ends);
-    let short = calls::watch(head, 5, columns, positions, lower_ends, watches, &mut out);
+    let short = watching::watch(head, 5, columns, positions, lower_ends, watches, &mut out);
     let short_reply = short.reply;
     print_answer(short_reply);
-    let last = calls::end(head, 2, columns, positions, lower_ends, watches);
+    let last = watching::end(head, 2, columns, positions, lower_ends, watches);
     let last_reply = last.reply;
     print_answer(last_reply);
     print(b'U', &[2]);
@@ -203,7 +203,7 @@ fn refuse_opening() {
     let mut columns = [0u32; 63];
     let mut positions = [0u32; 9];
     let mut lower_ends = [0u32; 9];
-    let opened = calls::open(
+    let opened = opening::open(
         7,
         9,
         0,
@@ -228,7 +228,7 @@ fn limits() {
     head.newest = Head::MAX_POSITION;
     head.rows = 1;
     let two = [1, 2];
-    print_answer(calls::quote(
+    print_answer(quoting::quote(
         head,
         &two,
         &mut columns,
@@ -237,11 +237,11 @@ fn limits() {
         eight,
         &mut out,
     ));
-    let full = calls::watch(head, 9, &columns, &positions, &lower_ends, eight, &mut out);
+    let full = watching::watch(head, 9, &columns, &positions, &lower_ends, eight, &mut out);
     let full_reply = full.reply;
     print_answer(full_reply);
     let one = [1];
-    print_answer(calls::quote(
+    print_answer(quoting::quote(
         head,
         &one,
         &mut columns,

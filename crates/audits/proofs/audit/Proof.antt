@@ -3,7 +3,7 @@ use mathlib.Core.Path.{sym, _∙_}
 use borrow.Author.Needs.{needs}
 use borrow.Author.Tests.{not-true, not-false}
 use Rattle.model.specs.Audit.{verdictOf}
-use Rattle.audits.proofs.Lengths.{long}
+use Rattle.judging.proofs.Answering.{long-enough}
 use Rattle.audits.proofs.Verdicts.{wrong-settings, too-short, by-rules}
 use Rattle.audits.proofs.audit.Statement.{statement}
 use Rattle.audits.proofs.audit.Tie as tie
@@ -15,7 +15,7 @@ returns : tie.Need-returns
 returns c = sym (wrong-settings _ _ (sym (c .before .settings-hold .ensures) ∙ not-true _ (c .if1 .taken)))
 
 short-tables-requires : tie.Need-short-tables-requires
-short-tables-requires c κs = sym (c .before .settings-hold .ensures) ∙ not-false _ (c .if1 .left)
+short-tables-requires c κs = search needs
 
 returns-2 : tie.Need-returns-2
 returns-2 c =
@@ -25,8 +25,8 @@ returns-2 c =
 
 meets-rules-requires : tie.Need-meets-rules-requires
 meets-rules-requires c κs =
-    let room = long _ _ _ (sym (c .before .short-tables .ensures) ∙ c .if2 .left) in
-    (room .columns-room, (room .positions-room, room .ends-room))
+    let room = long-enough _ _ _ (sym (c .before .short-tables .ensures) ∙ c .if2 .left) in
+    (room .columns, (room .positions, room .lowerEnds))
 
 returns-3 : tie.Need-returns-3
 unfolding verdictOf

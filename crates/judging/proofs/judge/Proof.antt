@@ -1,0 +1,47 @@
+-- `judge` meets its contract: torn rows are sought where the settings and lengths pass.
+use mathlib.Core.Path.{sym, _∙_}
+use borrow.Author.Needs.{needs}
+use Rattle.model.specs.Book.{answerOf}
+use Rattle.rows.proofs.Torn.{torn-columns}
+use Rattle.judging.specs.Answers.{loanAnswer}
+use Rattle.judging.proofs.Answering.{tested, stays, loan-passed}
+use Rattle.judging.proofs.judge.Statement.{statement}
+use Rattle.judging.proofs.judge.Tie as tie
+
+judge-loan-requires : tie.Need-judge-loan-requires
+judge-loan-requires c κs = search needs
+
+enum-told : tie.Need-enum-told
+enum-told c = search needs
+
+enum-told-2 : tie.Need-enum-told-2
+enum-told-2 c = search needs
+
+returns : tie.Need-returns
+unfolding loanAnswer answerOf
+returns c = stays _ _ (c .before .before .judge-loan .ensures) (c .enum-told2 .given .1)
+
+torn-rows-requires : tie.Need-torn-rows-requires
+torn-rows-requires c κs =
+    let long = loan-passed _ _ (sym (c .before .before .judge-loan .ensures) ∙ c .enum-told .given .1) .1 in
+    (long .positions, long .lowerEnds)
+
+with-test-requires : tie.Need-with-test-requires
+with-test-requires c κs = search needs
+
+returns-2 : tie.Need-returns-2
+unfolding loanAnswer answerOf
+returns-2 c =
+    tested _ _ _ (c .before .before .before .before .judge-loan .ensures) (c .before .torn-rows .ensures ∙ torn-columns _ _ _ _ _) (c .with-test .ensures)
+
+pub judge-spec : {M : Type 1} → statement M
+judge-spec =
+    tie.close
+    (tie.spec
+    judge-loan-requires
+    enum-told
+    enum-told-2
+    returns
+    torn-rows-requires
+    with-test-requires
+    returns-2)

@@ -1,0 +1,23 @@
+-- `judge_loan` meets its contract: the lengths are tested behind the settings.
+use borrow.Author.Needs.{needs}
+use Rattle.judging.specs.Answers.{loanAnswer}
+use Rattle.judging.proofs.Answering.{tested}
+use Rattle.judging.proofs.judge_loan.Statement.{statement}
+use Rattle.judging.proofs.judge_loan.Tie as tie
+
+judge-settings-requires : tie.Need-judge-settings-requires
+judge-settings-requires c κs = search needs
+
+short-tables-requires : tie.Need-short-tables-requires
+short-tables-requires c κs = search needs
+
+with-test-requires : tie.Need-with-test-requires
+with-test-requires c κs = search needs
+
+returns : tie.Need-returns
+unfolding loanAnswer
+returns c = tested _ _ _ (c .before .before .judge-settings .ensures) (c .before .short-tables .ensures) (c .with-test .ensures)
+
+pub judge-loan-spec : {M : Type 1} → statement M
+judge-loan-spec =
+    tie.close (tie.spec judge-settings-requires short-tables-requires with-test-requires returns)

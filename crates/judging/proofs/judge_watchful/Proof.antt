@@ -1,0 +1,21 @@
+-- `judge_watchful` meets its contract: torn watches are sought behind what the tables show.
+use native.Mathlib.Omega.{arith}
+use borrow.Author.Needs.{needs}
+use Rattle.judging.proofs.Answering.{watchful-judged}
+use Rattle.judging.proofs.judge_watchful.Statement.{statement}
+use Rattle.judging.proofs.judge_watchful.Tie as tie
+
+judge-requires : tie.Need-judge-requires
+judge-requires c κs = search needs
+
+torn-requires : tie.Need-torn-requires
+torn-requires c κs = search needs
+
+with-test-requires : tie.Need-with-test-requires
+with-test-requires c κs = search needs
+
+returns : tie.Need-returns
+returns c = watchful-judged _ _ _ (omega arith) (c .before .before .judge .ensures) (c .before .torn .ensures) (c .with-test .ensures)
+
+pub judge-watchful-spec : {M : Type 1} → statement M
+judge-watchful-spec = tie.close (tie.spec judge-requires torn-requires with-test-requires returns)

@@ -1,0 +1,95 @@
+// The judgements that the calls begin with: settings (3), lengths (11), torn (12), on shared slices.
+ghost use mathlib.Core.Path.{_≡_};
+ghost use mathlib.Core.Bool.{not};
+ghost use mathlib.Core.List.{[], _∷_};
+ghost use Rattle.head.specs.declared.Refusal.the-variants.{Settings};
+ghost use Rattle.head.specs.Heads.{settingsHold};
+ghost use Rattle.head.specs.Refusals.{first, settled};
+ghost use Rattle.model.specs.Book.{shortTables, answerOf, watchfulAnswer, outOfRange};
+ghost use Rattle.model.specs.Promises.{tables};
+ghost use Rattle.judging.specs.Answers.{loanAnswer};
+use head::Answer;
+use head::Head;
+use head::Refusal;
+use rows::torn_rows;
+use watches::torn;
+
+// Whether a table is shorter than the settings ask.
+pub fn short_tables(head: Head, columns: &[u32], positions: &[u32], lower_ends: &[u32]) -> bool
+    ensures { λ r. ⌜ r ≡ shortTables (tables (now (columns .entry)) (now (positions .entry)) (now («lower_ends» .entry))) (head .dimensions) (head .capacity) ⌝ }
+{
+    let n = head.capacity as usize;
+    let cells = n * (head.dimensions as usize);
+    (columns.len() < cells) | (positions.len() < n) | (lower_ends.len() < n)
+}
+
+// Whether n is 0 or above the capacity.
+pub fn out_of_range(head: Head, n: u32) -> bool
+    ensures { λ r. ⌜ r ≡ outOfRange head n ⌝ }
+{
+    !((1 <= n) & (n <= head.capacity))
+}
+
+// An answer with one more test behind it: an acceptance becomes this refusal if the test holds.
+pub fn with_test(answer: Answer, test: bool, refusal: Refusal) -> Answer
+    ensures { λ r. ⌜ r ≡ settled answer (first ((test, refusal) ∷ [])) answer ⌝ }
+{
+    match answer {
+        Answer::Accepted => {}
+        Answer::Refused(_) => {
+            return answer;
+        }
+    }
+    if test {
+        return Answer::Refused(refusal);
+    }
+    answer
+}
+
+// The answer of a call by its head's settings: 3.
+pub fn judge_settings(head: Head) -> Answer
+    ensures { λ r. ⌜ r ≡ first ((not (settingsHold (head .dimensions) (head .capacity) (head .directions)), Settings) ∷ []) ⌝ }
+{
+    with_test(Answer::Accepted, !head.settings_hold(), Refusal::Settings)
+}
+
+// The answer of a call that is lent the tables, before it reads them: 3, 11.
+pub fn judge_loan(head: Head, columns: &[u32], positions: &[u32], lower_ends: &[u32]) -> Answer
+    ensures { λ r. ⌜ r ≡ loanAnswer head (tables (now (columns .entry)) (now (positions .entry)) (now («lower_ends» .entry))) ⌝ }
+{
+    let settings = judge_settings(head);
+    let short = short_tables(head, columns, positions, lower_ends);
+    with_test(settings, short, Refusal::ShortLoan)
+}
+
+// The answer of a call on the tables alone, before what the call adds: 3, 11, 12.
+pub fn judge(head: Head, columns: &[u32], positions: &[u32], lower_ends: &[u32]) -> Answer
+    ensures { λ r. ⌜ r ≡ answerOf head (tables (now (columns .entry)) (now (positions .entry)) (now («lower_ends» .entry))) [] ⌝ }
+{
+    let answer = judge_loan(head, columns, positions, lower_ends);
+    match answer {
+        Answer::Accepted => {}
+        Answer::Refused(_) => {
+            return answer;
+        }
+    }
+    with_test(
+        answer,
+        torn_rows(head, positions, lower_ends),
+        Refusal::Torn,
+    )
+}
+
+// The answer of a call on the tables and the watches, before what the call adds: 3, 11, 12.
+pub fn judge_watchful(
+    head: Head,
+    columns: &[u32],
+    positions: &[u32],
+    lower_ends: &[u32],
+    watches: [u32; 8],
+) -> Answer
+    ensures { λ r. ⌜ r ≡ watchfulAnswer head (tables (now (columns .entry)) (now (positions .entry)) (now («lower_ends» .entry))) watches [] ⌝ }
+{
+    let answer = judge(head, columns, positions, lower_ends);
+    with_test(answer, torn(head.capacity, watches), Refusal::Torn)
+}

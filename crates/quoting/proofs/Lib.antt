@@ -1,0 +1,6 @@
+-- The laws of the crate.
+pub mod Marks
+pub mod Room
+pub mod Quotes
+pub mod Reaching
+pub mod Made

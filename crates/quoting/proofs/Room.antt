@@ -1,0 +1,39 @@
+-- The room for the changes of a quote: whether they fit, and what is left where they do and where they do not.
+use mathlib.Core.Path.{_≡_, refl, sym, _∙_}
+use Prim.Native.Nat.{ℕ, _≤_}
+use native.Mathlib.Omega.{arith}
+use mathlib.Core.Bool.{Bool, true, false}
+use mathlib.Core.List.{List, []}
+use lib.Dec.{ltb}
+use lib.ListN.{length}
+use borrow.Author.Tests.{ltb-false, le-ltb}
+use Rattle.lists.specs.Lists.{laid}
+use Rattle.head.specs.declared.Head.{Head}
+use Rattle.head.specs.declared.Answer.the-variants.{Accepted, Refused}
+use Rattle.head.specs.declared.Refusal.the-variants.{ShortOutput}
+use Rattle.head.specs.Heads.{afterQuote}
+use Rattle.head.proofs.Answers.{first-holds, first-fails}
+use Rattle.judging.proofs.Answering.{begun, refused-reply, refused-left, accepted-reply, accepted-left}
+use Rattle.quoting.specs.Stages.{roomAnswer, Written}
+
+-- 57,400 bytes are room enough for no more than that
+pub room-enough : (room n : ℕ) → 57400 ≤ room → n ≤ 57400 → false ≡ ltb room n
+room-enough room n h k = sym (le-ltb room n (omega arith))
+
+-- changes that fit are no longer than the room
+pub room-fits : (room n : ℕ) {over : Bool} → over ≡ ltb room n → over ≡ false → n ≤ room
+room-fits room n o f = ltb-false room n (sym o ∙ f)
+
+module _ (bytes before : List ℕ) {over : Bool} (o : over ≡ ltb (length before) (length bytes)) where
+  -- what is left where the changes do not fit
+  pub written-none : {h : Head} {rows : ℕ} → over ≡ true → Written h rows bytes before (record { answer = Refused ShortOutput; head = h; count = 0 }) before
+  written-none {h} f =
+      let e : Refused ShortOutput ≡ roomAnswer (length before) bytes = sym (first-holds (ltb (length before) (length bytes)) ShortOutput [] (sym o ∙ f)) in
+      record { reply = refused-reply e refl h _ _; out = refused-left e refl before _ }
+
+  -- what is left once they are written
+  pub written-all : {h next : Head} {rows count : ℕ} {after : List ℕ} → over ≡ false → next ≡ afterQuote h rows → count ≡ length bytes → after ≡ laid bytes before
+      → Written h rows bytes before (record { answer = Accepted; head = next; count = count }) after
+  written-all {h} f d c l =
+      let e : Accepted ≡ roomAnswer (length before) bytes = begun ∙ sym (first-fails (ltb (length before) (length bytes)) ShortOutput [] (sym o ∙ f)) in
+      record { reply = accepted-reply e refl h d c; out = accepted-left e refl before l }

@@ -1,0 +1,41 @@
+-- `write` meets its contract: nothing is written before the room is known.
+use borrow.Author.Needs.{needs}
+use borrow.Author.Tests.{eqb-true}
+use Rattle.quoting.proofs.Room.{written-none, room-fits, written-all}
+use Rattle.quoting.proofs.writing.write.Statement.{statement}
+use Rattle.quoting.proofs.writing.write.Tie as tie
+
+overflows-requires : tie.Need-overflows-requires
+overflows-requires c κs = search needs
+
+returns : tie.Need-returns
+returns c = written-none _ _ (c .before .overflows .ensures) (c .if1 .taken)
+
+write-all-changes-requires : tie.Need-write-all-changes-requires
+write-all-changes-requires c κs =
+    let start = c .before .before .before .before .before .before .before .before in
+    let v = start .pre in
+    (v .few, (v .untorn, (v .below, (v .flags-fit, (v .positions-fit, (v .lower-ends-fit, (v .removed≡, (v .rises, ((λ e. v .named (eqb-true (start .args .unknown) 0 e)), (v .expired, room-fits _ _ (c .before .before .overflows .ensures) (c .before .if1 .left)))))))))))
+
+after-quote-requires : tie.Need-after-quote-requires
+after-quote-requires c κs = search needs
+
+same-length : tie.Need-same-length
+same-length c = search needs
+
+returns-2 : tie.Need-returns-2
+returns-2 c =
+    let wrote = c .before .before .before in
+    let tested = wrote .before .before in
+    written-all _ _ (tested .before .overflows .ensures) (tested .if1 .left) (c .after-quote .ensures) (wrote .write-all-changes .ensures .0) (wrote .write-all-changes .ensures .1)
+
+pub write-spec : {M : Type 1} → statement M
+write-spec =
+    tie.close
+    (tie.spec
+    overflows-requires
+    returns
+    write-all-changes-requires
+    after-quote-requires
+    same-length
+    returns-2)
