@@ -47,6 +47,13 @@ module _ (tape : List ℕ) (place : ℕ) where
           (simp
           (le-ltb (length tape) place (omega arith), ne-eqb place (length tape) (λ e. omega arith), ne-eqb (bodyLength (getD tape place 0)) 255 known, le-ltb (length tape) (place + 1 + bodyLength (getD tape place 0)) (omega arith)))
 
+      -- the place behind a whole frame
+      pub whole-next : place + 1 + bodyLength (getD tape place 0) ≤ length tape → place + 1 + bodyLength (getD tape place 0) ≡ readAt tape place .next
+      unfolding readAt
+      whole-next h =
+          simp
+          (le-ltb (length tape) place (omega arith), ne-eqb place (length tape) (λ e. omega arith), ne-eqb (bodyLength (getD tape place 0)) 255 known, le-ltb (length tape) (place + 1 + bodyLength (getD tape place 0)) h)
+
 -- the message of a known kind says itself
 pub message-told : (tape : List ℕ) (body kind : ℕ) → Known kind → saying (messageAt tape body kind) ≡ told (messageAt tape body kind)
 unfolding messageAt messageBy saying

@@ -1,11 +1,11 @@
--- Laws of reading: what is read at a place as what is read at the front of the rest, the columns of a quote, and what a place of a
--- tape holds.
+-- Laws of reading: what is read at a place as what is read at the front of the rest, the columns of a quote, what a place of a
+-- tape holds, and the messages from a place on.
 use mathlib.Core.Path.{_≡_, refl, ap, ap₂, _∙_}
-use Prim.Native.Nat.{ℕ, _+_, _-_, _*_, _≤_, _<_}
+use Prim.Native.Nat.{ℕ, zero, suc, _+_, _-_, _*_, _≤_, _<_}
 use native.Mathlib.Nat.{add-zero, zero-add, add-assoc}
 use native.Mathlib.Omega.{arith}
 use mathlib.Core.Bool.{Bool, true, false, _&&_, cond}
-use mathlib.Core.List.{List, _++_, map}
+use mathlib.Core.List.{List, [], _∷_, _++_, map}
 use lib.Dec.{ltb, eqb}
 use lib.ListN.{length, getD, drop, replicate}
 use lib.Seq.{getD-drop}
@@ -20,7 +20,7 @@ use Rattle.frames.specs.declared.Shape.{Shape}
 use Rattle.frames.specs.declared.Shape.the-variants.{Columns, Size, SizePosition, Settings, Unknown}
 use Rattle.frames.specs.declared.Read.{Read}
 use Rattle.frames.specs.Kinds.{within, shapeOf, bodyLength}
-use Rattle.frames.specs.Frames.{messageBy, messageAt, columnsAt, told, ended, refused, saying, Reading, reading, stays, readAt}
+use Rattle.frames.specs.Frames.{messageBy, messageAt, columnsAt, told, ended, refused, saying, Reading, reading, stays, readAt, before, messagesFrom}
 use Rattle.frames.proofs.Shapes.{Known, kind-known}
 
 -- ---- the parts of what was read
@@ -132,3 +132,43 @@ found tape place =
     go false false true d p q r s = unknown
     go false false false true p q r s = cut
     go false false false false p q r s = whole (r refl) (s refl)
+
+-- ---- the messages from a place on
+
+-- a whole frame is read at a place
+pub record Told (tape : List ℕ) (place : ℕ) : Type 0 where
+  pub known : Known (getD tape place 0)
+  pub says : readAt tape place .says ≡ told (messageAt tape (place + 1) (getD tape place 0))
+  pub next : readAt tape place .next ≡ place + 1 + bodyLength (getD tape place 0)
+  pub inside : readAt tape place .next ≤ length tape
+
+-- where the place is moved, a whole frame is read
+pub told-at : (tape : List ℕ) (place : ℕ) → place < readAt tape place .next → Told tape place
+unfolding stays
+told-at tape place h = go (readAt tape place) (found tape place) refl h
+  where
+    go : (read : Reading) → Found tape place read → readAt tape place ≡ read → place < read .next → Told tape place
+    go _ (beyond t) e l = absurd (omega arith)
+    go _ (at-end t) e l = absurd (omega arith)
+    go _ unknown e l = absurd (omega arith)
+    go _ cut e l = absurd (omega arith)
+    go _ (whole k t) e l = record { known = k; says = ap (λ (g : Reading). g .says) e; next = ap (λ (g : Reading). g .next) e; inside = rw e t }
+
+-- its message is the first from there on
+pub messages-on : (tape : List ℕ) (place most : ℕ) → Told tape place
+    → messagesFrom (suc most) tape place ≡ messageAt tape (place + 1) (getD tape place 0) ∷ messagesFrom most tape (readAt tape place .next)
+unfolding messagesFrom before
+messages-on tape place most t = rw (t .says)
+
+-- where the place is not moved, there is no message
+pub messages-none : (tape : List ℕ) (place most : ℕ) → readAt tape place .next ≤ place → messagesFrom most tape place ≡ []
+unfolding messagesFrom before stays
+messages-none tape place zero h = refl
+messages-none tape place (suc most) h = go (readAt tape place) (found tape place) h
+  where
+    go : (read : Reading) → Found tape place read → read .next ≤ place → before (read .says) (messagesFrom most tape (read .next)) ≡ []
+    go _ (beyond t) l = refl
+    go _ (at-end t) l = refl
+    go _ unknown l = refl
+    go _ cut l = refl
+    go _ (whole k t) l = absurd (omega arith)

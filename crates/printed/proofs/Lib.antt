@@ -1,4 +1,3 @@
 -- The laws of the crate.
 pub mod Decoding
 pub mod Printing
-pub mod Again

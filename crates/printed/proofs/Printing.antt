@@ -1,20 +1,27 @@
 -- The lines of changes laid one behind the other: how long they are at most, and the invariant of the loop that lays them.
-use mathlib.Core.Path.{_≡_, refl}
-use Prim.Native.Nat.{ℕ, _+_, _-_, _*_, _≤_, _<_}
-use native.Mathlib.Nat.{zero-add}
+use mathlib.Core.Path.{_≡_, refl, sym, ap, _∙_}
+use mathlib.Core.Logic.{_⊎_, inl, inr}
+use Prim.Native.Nat.{ℕ, zero, suc, _+_, _-_, _*_, _/_, _≤_, _<_}
 use native.Mathlib.Omega.{arith}
-use mathlib.Core.List.{List, [], _∷_, _++_, append-nil}
-use lib.ListN.{length, length-append, length-map}
+use mathlib.Core.Bool.{Bool, true, false, cond}
+use mathlib.Core.List.{List, [], _∷_, _++_, append-nil, append-assoc}
+use lib.Dec.{eqb}
+use lib.ListN.{length, getD, length-append}
 use borrow.Rule.Slice.PartMut.{midOf, putMid}
-use Rattle.lists.specs.Lists.{flat, run}
-use Rattle.lists.proofs.Filters.{flat-append, map-append}
-use Rattle.lists.proofs.Runs.{length-run, run-append}
-use Rattle.lists.proofs.Laying.{grows, Laying, laying-start, laying-more, laying-all}
+use Rattle.lists.specs.Lists.{flat}
+use Rattle.lists.proofs.Booleans.{either}
+use Rattle.lists.proofs.Laying.{Front, front-none, front-more}
 use Rattle.frames.specs.declared.Message.{Message}
-use Rattle.frames.specs.declared.Message.the-variants.{Quote, Look, Watch, Unwatch, Leave, Join, Open, End, Refused}
-use Rattle.text.specs.Text.{Laid}
+use Rattle.frames.specs.declared.Message.the-variants.{Quote, Sized, Change, Open, End, Refused}
+use Rattle.frames.specs.Kinds.{leaveKind, joinKind}
+use Rattle.frames.specs.Frames.{messageAt, readAt, messagesFrom}
+use Rattle.frames.proofs.Reading.{Told, told-at, messages-on, messages-none}
+use Rattle.model.specs.Changes.{frames}
+use Rattle.model.proofs.ReadBack.{Sent, read-back}
+use Rattle.text.specs.Text.{line, Laid}
 use Rattle.text.proofs.Lines.{line-short}
-use Rattle.printed.specs.Printed.{changeLine, changeLines, changeAt, changesIn}
+use Rattle.printed.specs.Printed.{isChange, changeLine, changeLines, changesText}
+use Rattle.printed.proofs.Decoding.{change-long, change-room, no-line}
 
 -- ---- how long the lines are
 
@@ -22,68 +29,131 @@ use Rattle.printed.specs.Printed.{changeLine, changeLines, changeAt, cha
 change-short : (m : Message) → length (changeLine m) ≤ 24
 unfolding changeLine
 change-short (Quote k) = omega arith
-change-short (Look n) = omega arith
-change-short (Watch n) = omega arith
-change-short (Unwatch n) = omega arith
-change-short (Leave n p) = line-short 45 (n ∷ p ∷ [])
-change-short (Join n p) = line-short 43 (n ∷ p ∷ [])
+change-short (Sized k n) = omega arith
+change-short (Change k n p) = go (eqb k leaveKind) (eqb k joinKind)
+  where
+    go : (a b : Bool) → length (cond a (line 45 (n ∷ p ∷ [])) (cond b (line 43 (n ∷ p ∷ [])) [])) ≤ 24
+    go true b = line-short 45 (n ∷ p ∷ [])
+    go false true = line-short 43 (n ∷ p ∷ [])
+    go false false = omega arith
 change-short (Open d N directions) = omega arith
 change-short End = omega arith
 change-short (Refused k) = omega arith
 
--- a line that was laid has at most 24 bytes
-pub line-fits : (m : Message) {before after : List ℕ} {used : ℕ} → Laid (changeLine m) before used after → used ≤ 24
-line-fits m l = omega (arith, l .counted, change-short m)
-
--- the lines of changes have at most 24 bytes each
-pub changes-short : (ms : List Message) → length (changeLines ms) ≤ 24 * length ms
+-- a line in front of others
+lines-more : (m : Message) (ms : List Message) → changeLines (m ∷ ms) ≡ changeLine m ++ changeLines ms
 unfolding changeLines flat
-changes-short [] = omega arith
-changes-short (m ∷ ms) = rw length-append (omega (arith, change-short m, changes-short ms))
+lines-more m ms = refl
 
 -- ---- the loop
 
-module _ (bytes : List ℕ) where
-  -- the lines of the first k frames
-  pub printed : ℕ → List ℕ
-  printed k = changeLines (changesIn bytes k)
+-- some frames are read, the next one ends at next: their lines stand at the front, the changes among them had seven bytes each, and
+-- the lines of the frames to come are all that is missing
+pub record Printing (bytes before text : List ℕ) (at place next : ℕ) : Type 0 where
+  pub enough : 24 * (length bytes / 7) ≤ length before
+  pub ahead : next ≡ readAt bytes place .next
+  pub changes : ℕ
+  pub passed : 7 * changes ≤ place
+  pub most : ℕ
+  pub fuel : length bytes ≤ place + most
+  pub lines : List ℕ
+  pub short : length lines ≤ 24 * changes
+  pub front : Front lines before text at
+  pub rest : changesText bytes ≡ lines ++ changeLines (messagesFrom most bytes place)
 
-  -- one more frame lays one more line
-  printed-more : (k : ℕ) → printed (k + 1) ≡ printed k ++ changeLine (changeAt bytes (7 * k))
-  unfolding printed changeLines changesIn flat run
-  printed-more k = rw (run-append, map-append, map-append, flat-append, append-nil, zero-add)
+pub printing-start : (bytes before : List ℕ) (next : ℕ) → 24 * (length bytes / 7) ≤ length before → next ≡ readAt bytes 0 .next → Printing bytes before before 0 0 next
+unfolding changesText
+printing-start bytes before next h e =
+    record {
+      enough = h;
+      ahead = e;
+      changes = 0;
+      passed = omega arith;
+      most = length bytes;
+      fuel = omega arith;
+      lines = [];
+      short = omega arith;
+      front = front-none before;
+      rest = refl;
+    }
 
-  -- how many bytes that is at most
-  printed-short : (k : ℕ) → length (printed k) ≤ 24 * k
-  unfolding printed changesIn
-  printed-short k = omega (arith, changes-short (changesIn bytes k), length-map (run 0 k) (λ i. changeAt bytes (7 * i)), length-run 0 k)
+module _ (bytes : List ℕ) {before text : List ℕ} {at place next : ℕ} (v : Printing bytes before text at place next) where
+  -- all lines stand at the front of the text
+  pub printing-finish : next ≤ place → Laid (changesText bytes) before at text
+  unfolding changeLines flat
+  printing-finish h =
+      let none = messages-none bytes place (v .most) (omega (arith, v .ahead)) in
+      let all : changesText bytes ≡ v .lines = v .rest ∙ rw (none, append-nil) in
+      rw all (record { counted = v .front .place; text = v .front .cells })
 
-  -- after i of the frames: their lines stand at the front, and there is room for the rest
-  pub record Printing (frames : ℕ) (before text : List ℕ) (at i : ℕ) : Type 0 where
-    pub enough : 24 * frames ≤ length before
-    pub lines : Laying printed frames before text at i
+  module _ (h : place < next) where
+    -- the frame at the place
+    frame-there : Told bytes place
+    frame-there = told-at bytes place (omega (arith, v .ahead))
 
-  -- nothing is laid yet
-  pub printing-start : (frames : ℕ) (before : List ℕ) → 24 * frames ≤ length before → Printing frames before before 0 0
-  unfolding printed changeLines changesIn run flat
-  printing-start frames before h =
-      record { enough = h; lines = laying-start printed frames before (omega (arith, printed-short frames)) refl }
+    -- it ends within the bytes
+    pub next-inside : next ≤ length bytes
+    next-inside = omega (arith, v .ahead, frame-there .inside)
 
-  module _ {frames : ℕ} {before text : List ℕ} {at i : ℕ} (v : Printing frames before text at i) where
-    -- there is room for the lines to come
-    pub printing-room : at + 24 * (frames - i) ≤ length text
-    printing-room = omega (arith, printed-short i)
+    -- the lines laid so far are within the text
+    pub printing-at : at ≤ length text
+    printing-at = let f = v .front in omega (arith, f .place, f .long, v .short, v .enough, v .passed, next-inside)
 
-    -- one more line is laid into the rest of the text
-    pub printing-more : {last : List ℕ} {used : ℕ} → i < frames → Laid (changeLine (changeAt bytes (7 * i))) (midOf at (length text - at) text) used last
-        → Printing frames before (putMid at (length text - at) text last) (at + used) (i + 1)
-    printing-more h l =
-        record {
-          enough = v .enough;
-          lines = laying-more (v .lines) h (changeLine (changeAt bytes (7 * i))) (printed-more i) (grows printed (λ k. changeLine (changeAt bytes (7 * k))) printed-more (i + 1) frames (omega arith)) (l .counted) (l .text);
-        }
+    -- there is room for its line
+    pub printing-room : isChange (getD bytes place 0) ≡ true → at + 24 ≤ length text
+    printing-room t =
+        let f = v .front in
+        omega (arith, f .place, f .long, v .short, v .enough, v .passed, change-room bytes place t (omega (arith, v .ahead)))
 
-    -- all lines stand at the front of the text
-    pub printing-finish : frames ≤ i → Laid (changeLines (changesIn bytes frames)) before at text
-    unfolding printed
-    printing-finish h = let done = laying-all (v .lines) h in record { counted = done .0; text = done .1 }
+    abbrev message : Message
+    message = messageAt bytes (place + 1) (getD bytes place 0)
+
+    -- its line is the first of those to come
+    line-next : changeLines (messagesFrom (v .most) bytes place) ≡ changeLine message ++ changeLines (messagesFrom (v .most - 1) bytes next)
+    line-next =
+        let more : v .most ≡ suc (v .most - 1) = omega (arith, v .fuel, next-inside) in
+        ap (λ (k : ℕ). changeLines (messagesFrom k bytes place)) more
+        ∙ ap changeLines (messages-on bytes place (v .most - 1) frame-there)
+        ∙ lines-more message (messagesFrom (v .most - 1) bytes (readAt bytes place .next))
+        ∙ ap (λ (n : ℕ). changeLine message ++ changeLines (messagesFrom (v .most - 1) bytes n)) (sym (v .ahead))
+
+    -- its line is laid into the rest of the text: that of a change, or none
+    module _ {last : List ℕ} {used next' : ℕ} (l : Laid (changeLine message) (midOf at (length text - at) text) used last) (e : next' ≡ readAt bytes next .next) where
+      abbrev after : List ℕ
+      after = putMid at (length text - at) text last
+
+      printing-by : (more : ℕ) → place + 7 * more ≤ next → length (changeLine message) ≤ 24 * more → Printing bytes before after (at + used) next next'
+      printing-by more long few =
+          record {
+            enough = v .enough;
+            ahead = e;
+            changes = v .changes + more;
+            passed = omega (arith, v .passed);
+            most = v .most - 1;
+            fuel = omega (arith, v .fuel);
+            lines = v .lines ++ changeLine message;
+            short = rw length-append (omega (arith, v .short));
+            front = front-more (v .front) (changeLine message) (rw length-append (omega (arith, v .short, v .passed, v .enough, next-inside))) (l .counted) (l .text);
+            rest = v .rest ∙ ap (λ (r : List ℕ). v .lines ++ r) line-next ∙ sym (append-assoc (v .lines) (changeLine message) (changeLines (messagesFrom (v .most - 1) bytes next)));
+          }
+
+      pub printing-more : Printing bytes before after (at + used) next next'
+      printing-more = go (either (isChange (getD bytes place 0)))
+        where
+          go : (isChange (getD bytes place 0) ≡ true) ⊎ (isChange (getD bytes place 0) ≡ false) → Printing bytes before after (at + used) next next'
+          go (inl t) = printing-by 1 (omega (arith, change-long bytes place t (omega (arith, v .ahead)), v .ahead)) (change-short message)
+          go (inr t) = printing-by 0 (omega arith) (rw (no-line bytes place t) (omega arith))
+
+      -- the place behind the line is within the text
+      pub printing-used : at + used ≤ length text
+      printing-used =
+          let f = printing-more .front in
+          let g = v .front in
+          omega (arith, f .place, printing-more .short, printing-more .passed, v .enough, next-inside, g .long)
+
+-- ---- frames of changes
+
+-- the frames of messages that can be sent print the lines of those messages
+pub changes-printed : (ms : List Message) → Sent ms → changesText (frames ms) ≡ changeLines ms
+unfolding changesText
+changes-printed ms s = ap changeLines (read-back ms s [] (length (frames ms)) (omega arith))

@@ -1,21 +1,25 @@
--- Changes in print: the line of each change, and the changes whose frames stand in bytes.
-use Prim.Native.Nat.{ℕ, _+_, _*_}
+-- Changes in print: the line of each change, and the lines of the changes whose frames stand in bytes.
+use Prim.Native.Nat.{ℕ}
+use mathlib.Core.Bool.{Bool, _||_, cond}
 use mathlib.Core.List.{List, [], _∷_, map}
-use lib.ListN.{getD}
-use Rattle.lists.specs.Lists.{flat, run}
+use lib.Dec.{eqb}
+use lib.ListN.{length}
+use Rattle.lists.specs.Lists.{flat}
 use Rattle.frames.specs.declared.Message.{Message}
-use Rattle.frames.specs.declared.Message.the-variants.{Quote, Look, Watch, Unwatch, Leave, Join, Open, End, Refused}
-use Rattle.frames.specs.Frames.{messageAt}
+use Rattle.frames.specs.declared.Message.the-variants.{Quote, Sized, Change, Open, End, Refused}
+use Rattle.frames.specs.Kinds.{leaveKind, joinKind}
+use Rattle.frames.specs.Frames.{messagesFrom}
 use Rattle.text.specs.Text.{line}
+
+-- a kind whose frames have a line
+unfoldable pub isChange : ℕ → Bool
+isChange kind = eqb kind leaveKind || eqb kind joinKind
 
 -- the line of a change, `- n position` or `+ n position`; no line for any other message
 unfoldable pub changeLine : Message → List ℕ
 changeLine (Quote k) = []
-changeLine (Look n) = []
-changeLine (Watch n) = []
-changeLine (Unwatch n) = []
-changeLine (Leave n p) = line 45 (n ∷ p ∷ [])
-changeLine (Join n p) = line 43 (n ∷ p ∷ [])
+changeLine (Sized k n) = []
+changeLine (Change k n p) = cond (eqb k leaveKind) (line 45 (n ∷ p ∷ [])) (cond (eqb k joinKind) (line 43 (n ∷ p ∷ [])) [])
 changeLine (Open d N directions) = []
 changeLine End = []
 changeLine (Refused k) = []
@@ -24,10 +28,6 @@ changeLine (Refused k) = []
 unfoldable pub changeLines : List Message → List ℕ
 changeLines ms = flat (map changeLine ms)
 
--- the message of the frame that begins at a place
-unfoldable pub changeAt : List ℕ → ℕ → Message
-changeAt bytes place = messageAt bytes (place + 1) (getD bytes place 0)
-
--- the messages of the first k frames of seven bytes
-unfoldable pub changesIn : List ℕ → ℕ → List Message
-changesIn bytes k = map (λ i. changeAt bytes (7 * i)) (run 0 k)
+-- the lines of the changes whose frames stand in bytes, as they are read from the first byte on
+unfoldable pub changesText : List ℕ → List ℕ
+changesText bytes = changeLines (messagesFrom (length bytes) bytes 0)

@@ -1,44 +1,87 @@
 // Changes in print: the frames of changes turned into lines of text.
-ghost use Prim.Native.Nat.{_+_, _*_, _/_, _≤_};
-ghost use lib.ListN.{length};
-ghost use Rattle.text.specs.Text.{Laid};
-ghost use Rattle.printed.specs.Printed.{changeLine, changeLines, changeAt, changesIn};
+ghost use mathlib.Core.Path.{_≡_};
+ghost use mathlib.Core.Bool.{true};
+ghost use mathlib.Core.List.{[], _∷_};
+ghost use Prim.Native.Nat.{_+_, _*_, _/_, _≤_, _<_};
+ghost use lib.ListN.{length, getD, take};
+ghost use Rattle.octets.specs.Bytes.{number2, number4};
+ghost use Rattle.frames.specs.Frames.{messageAt, readAt};
+ghost use Rattle.text.specs.Text.{line, Laid};
+ghost use Rattle.printed.specs.Printed.{isChange, changeLine, changesText};
+use frames::JOIN;
+use frames::LEAVE;
+use frames::body_length;
 use octets::four_at;
 use octets::two_at;
 use text::put_line;
 
-// Lays the line of the change whose frame begins at a place, and returns how many bytes: none for a frame of another kind.
-fn put_change(bytes: &[u8], place: usize, text: &mut [u8]) -> usize
+// The place behind the frame at a place; the place itself where none is read.
+fn frame_end(bytes: &[u8], place: usize) -> usize
+    ensures { λ r. ⌜ r ≡ readAt (now (bytes .entry)) place .next ⌝ }
+{
+    if bytes.len() <= place {
+        return place;
+    }
+    let length = body_length(bytes[place]);
+    if length == 255 {
+        return place;
+    }
+    let next = place + 1 + length as usize;
+    if bytes.len() < next {
+        return place;
+    }
+    next
+}
+
+// Lays the line of n and a position, which stand in the frame at a place, behind a letter. Returns how many bytes.
+fn put_numbers(letter: u8, bytes: &[u8], place: usize, text: &mut [u8]) -> usize
     requires { ⌜ place + 7 ≤ length (now bytes) ⌝ }
     requires { ⌜ 24 ≤ length (now text) ⌝ }
-    ensures { λ r. ⌜ Laid (changeLine (changeAt (now (bytes .entry)) place)) (now (text .entry)) r (now (text .exit)) ⌝ }
+    ensures { λ r. ⌜ Laid (line letter (number2 (now (bytes .entry)) (place + 1) ∷ number4 (now (bytes .entry)) (place + 3) ∷ [])) (now (text .entry)) r (now (text .exit)) ⌝ }
 {
     let n = two_at(bytes, place + 1) as u32;
     let position = four_at(bytes, place + 3);
-    let numbers = [n, position];
+    put_line(letter, &[n, position], text)
+}
+
+// Lays the line of the frame at a place, and returns how many bytes: none for a frame that is no change.
+fn put_change(bytes: &[u8], place: usize, text: &mut [u8]) -> usize
+    requires { ⌜ place < readAt (now bytes) place .next ⌝ }
+    requires { ⌜ (isChange (getD (now bytes) place 0) ≡ true → 24 ≤ length (now text)) ⌝ }
+    ensures { λ r. ⌜ Laid (changeLine (messageAt (now (bytes .entry)) (place + 1) (getD (now (bytes .entry)) place 0))) (now (text .entry)) r (now (text .exit)) ⌝ }
+{
     let kind = bytes[place];
-    if kind == 32 {
-        return put_line(45, &numbers, text);
+    if kind == LEAVE {
+        return put_numbers(45, bytes, place, text);
     }
-    if kind == 33 {
-        return put_line(43, &numbers, text);
+    if kind == JOIN {
+        return put_numbers(43, bytes, place, text);
     }
     0
+}
+
+// Lays the lines of the changes whose frames stand in the bytes, and returns how many bytes of text.
+fn put_frames(bytes: &[u8], text: &mut [u8]) -> usize
+    requires { ⌜ 24 * (length (now bytes) / 7) ≤ length (now text) ⌝ }
+    ensures { λ r. ⌜ Laid (changesText (now (bytes .entry))) (now (text .entry)) r (now (text .exit)) ⌝ }
+{
+    let mut at = 0;
+    let mut place = 0;
+    let mut next = frame_end(bytes, 0);
+    while place < next {
+        let used = put_change(bytes, place, &mut text[at..]);
+        at += used;
+        place = next;
+        next = frame_end(bytes, place);
+    }
+    at
 }
 
 // Lays the lines of the changes whose frames are the first count bytes, and returns how many bytes of text.
 pub fn put_changes(bytes: &[u8], count: usize, text: &mut [u8]) -> usize
     requires { ⌜ count ≤ length (now bytes) ⌝ }
     requires { ⌜ 24 * (count / 7) ≤ length (now text) ⌝ }
-    ensures { λ r. ⌜ Laid (changeLines (changesIn (now (bytes .entry)) (count / 7))) (now (text .entry)) r (now (text .exit)) ⌝ }
+    ensures { λ r. ⌜ Laid (changesText (take count (now (bytes .entry)))) (now (text .entry)) r (now (text .exit)) ⌝ }
 {
-    let frames = count / 7;
-    let mut at = 0;
-    let mut i = 0;
-    while i < frames {
-        let used = put_change(bytes, 7 * i, &mut text[at..]);
-        at += used;
-        i += 1;
-    }
-    at
+    put_frames(&bytes[..count], text)
 }

@@ -1,0 +1,70 @@
+-- `put_frames` meets its contract: the line of each frame is laid behind those before.
+use mathlib.Core.Path.{refl}
+use Prim.Native.Nat.{_-_}
+use native.Mathlib.Omega.{arith}
+use lib.ListN.{length, length-take, length-drop}
+use borrow.Author.Needs.{needs}
+use Rattle.printed.proofs.Printing.{Printing, printing-start, next-inside, printing-at, printing-room, printing-used, printing-more, printing-finish}
+use Rattle.printed.proofs.put_frames.Statement.{statement}
+use Rattle.printed.proofs.put_frames.Tie as tie
+
+abbrev Inv-loop : tie.InvT-loop
+Inv-loop bytes text₀ at₀ place₀ next₀ text at place next = Printing bytes text₀ text at place next
+
+abbrev μ-loop : tie.MeasureT-loop
+μ-loop bytes text₀ at₀ place₀ next₀ text at place next = length bytes - place
+
+frame-end-requires : tie.Need-frame-end-requires Inv-loop μ-loop
+frame-end-requires c κs = search needs
+
+loop-holds : tie.Need-loop-holds Inv-loop μ-loop
+loop-holds c = printing-start _ _ _ (omega arith) (c .frame-end .ensures)
+
+sub-put-change : tie.Need-sub-put-change Inv-loop μ-loop
+sub-put-change c = printing-at _ (c .before .loop .inv) (omega arith)
+
+part-put-change-start : tie.Need-part-put-change-start Inv-loop μ-loop
+part-put-change-start c = omega (arith, printing-at _ (c .before .loop .inv) (omega arith))
+
+part-put-change-end : tie.Need-part-put-change-end Inv-loop μ-loop
+part-put-change-end c = search needs
+
+put-change-requires : tie.Need-put-change-requires Inv-loop μ-loop
+put-change-requires c κs = (omega (arith, c .before .before .loop .inv .ahead), λ t. simp (length-take, length-drop) (omega (arith, printing-room _ (c .before .before .loop .inv) (omega arith) t)))
+
+add-at : tie.Need-add-at Inv-loop μ-loop
+add-at c = omega (arith, printing-used _ (c .before .before .before .before .before .loop .inv) (omega arith) (c .before .before .put-change .ensures) refl)
+
+frame-end-requires-2 : tie.Need-frame-end-requires-2 Inv-loop μ-loop
+frame-end-requires-2 c κs = search needs
+
+loop-less : tie.Need-loop-less Inv-loop μ-loop
+loop-less c = omega (arith, next-inside _ (c .before .before .before .before .before .before .loop .inv) (omega arith))
+
+loop-again : tie.Need-loop-again Inv-loop μ-loop
+loop-again c = printing-more _ (c .before .before .before .before .before .before .loop .inv) (c .before .before .before .before .before .loop-test .taken) (c .before .before .before .put-change .ensures) (c .frame-end2 .ensures)
+
+same-length : tie.Need-same-length Inv-loop μ-loop
+same-length c = c .before .loop .inv .front .long
+
+returns : tie.Need-returns Inv-loop μ-loop
+returns c = printing-finish _ (c .before .loop .inv) (c .loop-test .left)
+
+pub put-frames-spec : {M : Type 1} → statement M
+put-frames-spec =
+    tie.close
+    (tie.spec
+    Inv-loop
+    μ-loop
+    frame-end-requires
+    loop-holds
+    sub-put-change
+    part-put-change-start
+    part-put-change-end
+    put-change-requires
+    add-at
+    frame-end-requires-2
+    loop-less
+    loop-again
+    same-length
+    returns)
