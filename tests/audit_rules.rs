@@ -1,5 +1,5 @@
-//! The model's audit held against the paper's other way of saying it, 'some tape leaves this book', by trying every tape:
-//! one column, N up to 3, few values.
+//! The model's audit held against the paper's other way of saying it, 'some tape leaves this book', by trying every
+//! tape: one column, N up to 3, few values.
 
 use crate::call_model::{Head, Model, Plant};
 use std::collections::HashSet;

@@ -160,7 +160,7 @@ impl Model {
         let positions = &self.positions[..rows as usize];
         let rising = positions.windows(2).all(|pair| pair[0] < pair[1]);
         let inside = positions.iter().all(|&p| self.start(memory) <= p && p <= newest);
-        let ends = positions.last().is_none_or(|&p| p == newest);
+        let ends = positions.last().map_or(true, |&p| p == newest);
         let below = positions.iter().zip(&self.lower).all(|(&p, &lower)| lower < p);
         !(rising && inside && ends && below)
     }

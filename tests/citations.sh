@@ -20,7 +20,7 @@ declared() {
         -e 's/^([^:]+): +([A-Z][A-Za-z]*)(,|\(.*)$/\1 \2/p'
 }
 
-# The paths of some texts, as lines `text:line path`; one with a word in capitals, as crates/NAME, is a pattern and left out.
+# The paths of some texts, as lines `text:line path`; a pattern, as crates/NAME, is left out.
 paths() {
     grep -HnoE '(crates|docs|tests|tools|bench|host|tapes|\.ci)/[A-Za-z0-9_.*/-]*[A-Za-z0-9_*]' "$@" |
         sed -E 's/^([^:]+:[0-9]+):/\1 /' | grep -vE '/[A-Z]+(/|$)|\*'

@@ -6,8 +6,8 @@ use std::process::{Command, Stdio};
 /// How many bytes a pipe holds without a reader, and some to spare.
 const PIPE: usize = 32_000;
 
-/// Sends an input in two pieces, so that a reader meets frames and lines cut by a short read; that a program stops early
-/// is no error.
+/// Sends an input in two pieces, so that a reader meets frames and lines cut by a short read; that a program stops
+/// early is no error.
 fn send(mut to: impl Write, input: &[u8]) {
     let (first, second) = input.split_at(input.len() / 3);
     let _ = to.write_all(first).and_then(|()| to.write_all(second));

@@ -1,5 +1,5 @@
-//! Plays random lists of calls through the book player and through a plain model of the calls on any tables, and compares
-//! what they print, line by line.
+//! Plays random lists of calls through the book player and through a plain model of the calls on any tables, and
+//! compares what they print, line by line.
 //!
 //! usage: random_calls [--plant NAME] PLAYER [SEED [LISTS]]
 //!            compare the player with the model, or with a model that has a bug planted, on random lists
@@ -43,7 +43,7 @@ const ANSWERS: [(&str, &[&str]); 6] = [
     ("audit", &["yes", "no", "3", "11"]),
 ];
 
-/// What is compared: the player and the model with a planted bug or none; the label, with the seed, names failing lists.
+/// What is compared: the player and the model with a planted bug or none; the label names failing lists, with the seed.
 struct Comparison {
     player: String,
     plant: Plant,
