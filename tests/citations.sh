@@ -23,7 +23,7 @@ declared() {
 # The paths of some texts, as lines `text:line path`; a pattern, as crates/NAME, is left out.
 paths() {
     grep -HnoE '(crates|docs|tests|tools|bench|host|tapes|\.ci)/[A-Za-z0-9_.*/-]*[A-Za-z0-9_*]' "$@" |
-        sed -E 's/^([^:]+:[0-9]+):/\1 /' | grep -vE '/[A-Z]+(/|$)|\*'
+        sed -E 's/^([^:]+:[0-9]+):/\1 /' | grep -vE '/(NAME|LABEL|NN)([/.]|$)|\*'
 }
 
 # The names of a text and the paths in brackets right behind them, as lines `text:line name [path]`.
