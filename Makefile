@@ -1,71 +1,87 @@
 # make test runs every check; its last line counts those of rt. make run plays a tape; make bench measures.
+# What rt prints goes to a log under build/; standard error gets a line for each crate.
 SHELL := /bin/bash
 .SHELLFLAGS := -euo pipefail -c
-.PHONY: test run host random plants notation tapes test-slow bench
+.PHONY: test run host random random-calls rules plants notation citations tapes test-slow bench
 
 PRINTER ?= target/bin/tape_printer
 WRITER ?= target/bin/tape_writer
+PLAYER ?= target/bin/book_player
 TAPE ?= tapes/worked.tape
 SEED ?= 1
 TAPES ?= 20000
+LISTS ?= 20000
 RUNS ?= 9
 PLANTS := equal oldest window kept
+CALL_PLANTS := renamed torn-first past early
 SAMPLES := $(basename $(wildcard tapes/*.txt))
 RUSTC := rustc --edition 2021 -O -D warnings
 
-test:
-	mkdir -p build
-	rt ci 2>&1 | tee build/ci.txt
-	$(MAKE) --no-print-directory host random plants notation
-	tail -n 1 build/ci.txt | grep -Ex '[0-9]+ passed, 0 failed'
+test: citations
+	@rt ci 2>&1 | tools/progress.sh build/ci.txt
+	@$(MAKE) --no-print-directory host random random-calls rules plants notation
+	@tools/dearest.sh build/ci.txt
+	@tail -n 1 build/ci.txt | grep -Ex '[0-9]+ passed, 0 failed'
 
 run: $(PRINTER)
 	@$(PRINTER) < $(TAPE)
 
 # the library for C, and the worked host over it; what the host prints is kept
 host:
-	rt staticlib host
-	mkdir -p build
-	gcc -std=c11 -Wall -Wextra -Werror -Ihost -o build/worked_host host/worked_host.c target/staticlib/libhost.a
-	build/worked_host > build/worked_host.txt
-	tail -n 1 build/worked_host.txt
+	@rt staticlib host 2>&1 | tools/progress.sh build/staticlib.txt host
+	@gcc -std=c11 -Wall -Wextra -Werror -Ihost -o build/worked_host host/worked_host.c target/staticlib/libhost.a
+	@build/worked_host > build/worked_host.txt
+	@tail -n 1 build/worked_host.txt
 
 # the printer against the plain model on random and damaged tapes
 random: build/plain_model $(PRINTER)
-	build/plain_model $(PRINTER) $(SEED) $(TAPES)
+	@build/plain_model $(PRINTER) $(SEED) $(TAPES)
 
-# a model with a bug planted must not agree with the printer
-plants: build/plain_model $(PRINTER)
-	for plant in $(PLANTS); do \
-	  if build/plain_model --plant $$plant $(PRINTER) $(SEED) 1000 > build/plant_$$plant.txt 2>&1; \
-	  then echo "planted bug not caught: $$plant"; exit 1; fi; \
-	  grep -q 'the prints differ' build/plant_$$plant.txt; \
-	  echo "planted bug caught: $$plant"; \
+# the book player against the plain model of the calls, on random lists of calls and any tables
+random-calls: build/random_calls $(PLAYER)
+	@build/random_calls $(PLAYER) $(SEED) $(LISTS)
+
+# the audit's plain rules, as that model has them, against every tape of small settings
+rules: build/random_calls
+	@build/random_calls --rules
+
+# a model with a bug planted must not agree with the printer, the player or the tapes
+plants: build/plain_model build/random_calls $(PRINTER) $(PLAYER)
+	@for plant in $(PLANTS); do \
+	  tests/planted.sh $$plant 'the prints differ' build/plain_model --plant $$plant $(PRINTER) $(SEED) 1000; \
 	done
+	@for plant in $(CALL_PLANTS); do \
+	  tests/planted.sh $$plant 'the answers differ' build/random_calls --plant $$plant $(PLAYER) $(SEED) 1000; \
+	done
+	@tests/planted.sh worst 'the rules differ' build/random_calls --plant worst --rules
 
 # the tape writer against a plain reading of the notation, and on the notation of each sample tape
 notation: build/notation $(WRITER)
-	build/notation $(WRITER) $(SEED)
-	for sample in $(SAMPLES); do $(WRITER) < $$sample.txt | cmp - $$sample.tape; done
+	@build/notation $(WRITER) $(SEED)
+	@for sample in $(SAMPLES); do $(WRITER) < $$sample.txt | cmp - $$sample.tape; done
+
+# every path that the texts cite, and every name that docs/PROOFS.md cites
+citations:
+	@tests/citations.sh
 
 # the sample tapes, from their notation
 tapes: $(WRITER)
-	for sample in $(SAMPLES); do $(WRITER) < $$sample.txt > $$sample.tape; done
+	@for sample in $(SAMPLES); do $(WRITER) < $$sample.txt > $$sample.tape; done
 
 # the longest tape and one quote more
 test-slow: build/full_tape $(PRINTER)
-	build/full_tape $(PRINTER) $(SEED)
+	@build/full_tape $(PRINTER) $(SEED)
 
 bench: build/bench build/yardstick build/plain_model build/make_tape $(PRINTER)
-	build/bench $(PRINTER) $(RUNS)
+	@build/bench $(PRINTER) $(RUNS)
 
 target/bin/%: crates.txt $(shell find crates -name '*.rt' -o -name '*.antt')
-	rt check $*
+	@rt check $* 2>&1 | tools/progress.sh build/$*.txt $*
 
 build/%: tests/%.rs $(wildcard tests/*.rs)
-	mkdir -p build
-	$(RUSTC) -o $@ $<
+	@mkdir -p build
+	@$(RUSTC) -o $@ $<
 
 build/%: bench/%.rs $(wildcard bench/*.rs tests/*.rs)
-	mkdir -p build
-	$(RUSTC) -o $@ $<
+	@mkdir -p build
+	@$(RUSTC) -o $@ $<

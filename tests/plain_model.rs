@@ -7,17 +7,16 @@
 
 mod frames;
 mod model;
+mod piped;
 mod random;
 mod random_tapes;
 
 use model::{print_of, Plant};
-use std::io::{Read, Write};
-use std::process::{Command, Stdio};
+use std::io::Read;
 use std::sync::atomic::{AtomicBool, AtomicUsize, Ordering};
 use std::time::Instant;
 
 const THREADS: usize = 2;
-const PIPE: usize = 32_000;
 const LETTERS: &str = "OQLWU-+R";
 /// The refusals that a tape of some quotes can bring; 6 asks for 16,777,215 of them.
 const REFUSALS: [usize; 9] = [1, 2, 3, 4, 5, 7, 8, 9, 10];
@@ -77,29 +76,6 @@ impl Tally {
     }
 }
 
-/// Sends a tape in two pieces, so that a reader meets frames cut by a short read; a printer that stops early is no error.
-fn send(mut input: impl Write, tape: &[u8]) {
-    let (first, second) = tape.split_at(tape.len() / 3);
-    let _ = input.write_all(first).and_then(|()| input.write_all(second));
-}
-
-/// What the printer prints for a tape, and whether it ended well.
-fn printed(printer: &str, tape: &[u8]) -> (Vec<u8>, bool) {
-    let mut child = Command::new(printer).stdin(Stdio::piped()).stdout(Stdio::piped()).spawn().expect("the printer starts");
-    let input = child.stdin.take().unwrap();
-    let mut output = child.stdout.take().unwrap();
-    let mut print = Vec::new();
-    std::thread::scope(|scope| {
-        if tape.len() > PIPE {
-            scope.spawn(move || send(input, tape));
-        } else {
-            send(input, tape);
-        }
-        output.read_to_end(&mut print).expect("the printer's output is read");
-    });
-    (print, child.wait().expect("the printer ends").success())
-}
-
 /// Saves a tape on which printer and model differ, and says where they do.
 fn report(name: &str, tape: &[u8], want: &str, got: &[u8]) {
     let path = format!("build/failing_{name}.tape");
@@ -116,7 +92,7 @@ impl Comparison {
     fn compare(&self, name: &str, tape: &[u8], tally: &mut Tally) -> bool {
         let want = print_of(tape, self.plant);
         tally.count(&want);
-        let (got, well) = printed(&self.printer, tape);
+        let (got, well) = piped::printed(&self.printer, tape);
         let alike = got == want.as_bytes() && well;
         if alike {
             tally.alike += 1;

@@ -1,0 +1,631 @@
+//! Lists of calls made at random from a seed: sound books, made-up tables, torn ones, short loans, outputs around the
+//! answer's length, heads of any values; and small lists that go through settings, n and counts of watches one by one.
+
+use crate::call_model::{settings_hold, Head, Model, Plant, COLUMN_CELLS, LAST_POSITION, OUTPUT, PLACES, RECORDS};
+use crate::random::Random;
+
+/// Values around the edges of the fields.
+const EDGES: [u32; 16] = [
+    0,
+    1,
+    2,
+    6,
+    7,
+    8,
+    255,
+    1_023,
+    1_024,
+    1_025,
+    65_536,
+    LAST_POSITION - 1,
+    LAST_POSITION,
+    LAST_POSITION + 1,
+    u32::MAX - 1,
+    u32::MAX,
+];
+
+/// Lines that cannot be taken.
+const BAD_LINES: [&str; 16] = [
+    "",
+    "quoted 1",
+    "open 1 2",
+    "open 1 2 0 0",
+    "look",
+    "look 1 2",
+    "watch x",
+    "end -1",
+    "audit 1",
+    "look 4294967296",
+    "lend columns 6145",
+    "lend out 57401",
+    "lend watches 8",
+    "cell watches 8 1",
+    "cell lower 1024 1",
+    "cell columns 6144 0",
+];
+
+/// How the columns of a list's quotes are drawn.
+#[derive(Clone, Copy)]
+enum Values {
+    /// One of so many distinct values, so that equal quotes abound.
+    Few(u64),
+    /// Any value.
+    Wide,
+    /// Values that rise along the list.
+    Rising,
+    /// Values that fall along the list.
+    Falling,
+    /// The two lowest and the two highest values.
+    Extremes,
+}
+
+/// A list being made: its lines, and the model that has played them.
+struct List {
+    r: Random,
+    model: Model,
+    lines: Vec<String>,
+    d: u32,
+    memory: u32,
+    directions: u32,
+    values: Values,
+    steps: u32,
+}
+
+impl List {
+    /// A list that begins by lending everything and setting everything to zeros; settings in range are drawn for it.
+    fn new(mut r: Random) -> List {
+        let d = 1 + r.below(6) as u32;
+        let memory = match r.below(40) {
+            0 => 1_024,
+            1 => 17 + r.below(48) as u32,
+            2..=5 => 1,
+            6..=11 => 2,
+            _ => 3 + r.below(8) as u32,
+        };
+        let values = match r.below(8) {
+            0 => Values::Wide,
+            1 => Values::Rising,
+            2 => Values::Falling,
+            3 | 4 => Values::Extremes,
+            _ => Values::Few(1 + r.below(5)),
+        };
+        let directions = r.below(1 << d) as u32;
+        let mut list =
+            List { r, model: Model::new(Plant::Nothing), lines: Vec::new(), d, memory, directions, values, steps: 0 };
+        list.lend_all();
+        list.say("open 6 1024 0".into());
+        list.say("head 0 0 0 0 0".into());
+        list
+    }
+
+    /// Adds a line, and has the model play it.
+    fn say(&mut self, line: String) {
+        self.model.play(&line, &mut String::new());
+        self.lines.push(line);
+    }
+
+    /// Yes once in so many times.
+    fn once_in(&mut self, times: u64) -> bool {
+        self.r.below(times) == 0
+    }
+
+    /// One of some numbers.
+    fn one_of(&mut self, numbers: &[u32]) -> u32 {
+        numbers[self.r.below(numbers.len() as u64) as usize]
+    }
+
+    /// A number from one to another, both taken in.
+    fn between(&mut self, least: u32, most: u32) -> u32 {
+        least + self.r.below(u64::from(most - least) + 1) as u32
+    }
+
+    /// A value of a column.
+    fn value(&mut self) -> u32 {
+        match self.values {
+            Values::Few(k) => self.r.below(k) as u32,
+            Values::Wide => self.r.next() as u32,
+            Values::Rising => 3 * self.steps + self.r.below(4) as u32,
+            Values::Falling => 1_000_000_000 - 3 * self.steps + self.r.below(4) as u32,
+            Values::Extremes => self.one_of(&[0, 1, u32::MAX - 1, u32::MAX]),
+        }
+    }
+
+    /// A window size: mostly in range, sometimes at or beyond an edge.
+    fn window_size(&mut self) -> u32 {
+        match self.r.below(16) {
+            0 => 1,
+            1 => self.memory,
+            2 => self.memory + 1,
+            3 => self.one_of(&EDGES),
+            4 | 5 => self.between(1, self.memory),
+            _ => self.between(1, self.memory.min(12)),
+        }
+    }
+
+    /// The line of a quote, once in 30 with a column count of its own.
+    fn quote(&mut self) -> String {
+        let count = if self.once_in(30) { self.between(0, 8) } else { self.d };
+        self.steps += 1;
+        (0..count).fold("quote".into(), |line, _| format!("{line} {}", self.value()))
+    }
+
+    /// The line of some call that can have an output.
+    fn writing_call(&mut self) -> String {
+        match self.r.below(4) {
+            0 => format!("look {}", self.window_size()),
+            1 => format!("watch {}", self.window_size()),
+            _ => self.quote(),
+        }
+    }
+
+    /// The line of some call other than an opening.
+    fn any_call(&mut self) -> String {
+        match self.r.below(8) {
+            0 => format!("end {}", self.window_size()),
+            1 => "audit".into(),
+            _ => self.writing_call(),
+        }
+    }
+
+    /// Lends all of every buffer.
+    fn lend_all(&mut self) {
+        for (name, length) in [("columns", COLUMN_CELLS), ("positions", PLACES), ("lower", PLACES), ("out", OUTPUT)] {
+            self.say(format!("lend {name} {length}"));
+        }
+    }
+
+    /// An opening with the list's settings.
+    fn open(&mut self) {
+        self.say(format!("open {} {} {}", self.d, self.memory, self.directions));
+    }
+
+    /// An opening with each setting at or around an edge of its range, or any.
+    fn any_opening(&mut self) {
+        let d = if self.once_in(3) { self.one_of(&EDGES) } else { self.between(0, 7) };
+        let memory = if self.once_in(2) { self.one_of(&EDGES) } else { self.between(0, 12) };
+        let directions = match self.r.below(4) {
+            0 => self.one_of(&EDGES),
+            1 => 1 << (d % 8),
+            2 => (1 << (d % 8)) - 1,
+            _ => 0,
+        };
+        self.say(format!("open {d} {memory} {directions}"));
+        let head = self.model.head;
+        if settings_hold(head.d, head.memory, head.directions) {
+            (self.d, self.memory, self.directions) = (head.d, head.memory, head.directions);
+        }
+    }
+
+    /// The head with the list's settings, and these M and row count.
+    fn head(&mut self, newest: u32, rows: u32) {
+        self.say(format!("head {} {} {} {newest} {rows}", self.d, self.memory, self.directions));
+    }
+
+    /// Lends a table one cell too short or just long enough for the settings, and says the call.
+    fn short_loan(&mut self) {
+        let (name, asked, longest) = match self.r.below(3) {
+            0 => ("columns", self.memory * self.d, COLUMN_CELLS as u32),
+            1 => ("positions", self.memory, PLACES as u32),
+            _ => ("lower", self.memory, PLACES as u32),
+        };
+        let length = match self.r.below(6) {
+            0 => 0,
+            1 | 2 => asked.min(longest),
+            _ => asked.min(longest) - 1,
+        };
+        self.say(format!("lend {name} {length}"));
+        for _ in 0..1 + self.r.below(2) {
+            let call = self.any_call();
+            self.say(call);
+        }
+        if self.once_in(4) {
+            self.open();
+        }
+        self.say(format!("lend {name} {longest}"));
+    }
+
+    /// How many bytes or cells the answer of a call has, were the output long enough.
+    fn answer_length(&self, call: &str) -> usize {
+        let mut trial = self.model.clone();
+        let mut print = String::new();
+        trial.lent.out = OUTPUT;
+        trial.play(call, &mut print);
+        print.split(' ').nth(2).map_or(0, |count| count.parse().unwrap_or(0))
+    }
+
+    /// A call with an output that is one too short, just long enough, or one longer.
+    fn tight_output(&mut self) {
+        let call = self.writing_call();
+        let length = self.answer_length(&call);
+        if length > 0 && !self.once_in(4) {
+            self.say(format!("lend out {}", length - 1));
+            self.say(call.clone());
+        }
+        let more = usize::from(self.once_in(4) && length < OUTPUT);
+        self.say(format!("lend out {}", length + more));
+        self.say(call);
+        self.say(format!("lend out {OUTPUT}"));
+    }
+
+    /// A cell of a table or a record gets an odd value; after a call or two it is mostly put back.
+    fn poke(&mut self) {
+        let places = self.memory.min(PLACES as u32 - 2) + 2;
+        let (name, i) = match self.r.below(4) {
+            0 => ("columns", self.between(0, places * self.d - 1)),
+            1 => ("positions", self.between(0, places - 1)),
+            2 => ("lower", self.between(0, places - 1)),
+            _ => ("watches", self.between(0, RECORDS as u32 - 1)),
+        };
+        let at = i as usize;
+        let old = match name {
+            "columns" => self.model.columns[at],
+            "positions" => self.model.positions[at],
+            "lower" => self.model.lower[at],
+            _ => self.model.watches[at],
+        };
+        let near = [old.wrapping_sub(1), old.wrapping_add(1), self.model.head.newest, 0, 1, u32::MAX];
+        let value = self.one_of(&near);
+        self.say(format!("cell {name} {i} {value}"));
+        for _ in 0..1 + self.r.below(3) {
+            let call = self.any_call();
+            self.say(call);
+        }
+        if !self.once_in(4) {
+            self.say(format!("cell {name} {i} {old}"));
+        }
+    }
+
+    /// Shows tables and records, and sometimes some places past N too.
+    fn show(&mut self) {
+        self.say("show".into());
+        let Head { d, memory, directions, newest, rows } = self.model.head;
+        let more = self.between(1, 2);
+        if self.once_in(2) && settings_hold(d, memory.saturating_add(more), 0) {
+            self.say(format!("head {d} {} 0 0 0", memory + more));
+            self.say("show".into());
+            self.say(format!("head {d} {memory} {directions} {newest} {rows}"));
+        }
+    }
+
+    /// One step of a list.
+    fn step(&mut self) {
+        match self.r.below(60) {
+            0..=4 => self.tight_output(),
+            5 | 6 => self.short_loan(),
+            7 => self.poke(),
+            8 if self.memory < 100 || self.once_in(20) => self.show(),
+            9 if self.once_in(3) => self.any_opening(),
+            10 if self.once_in(3) => {
+                let bad = self.r.below(BAD_LINES.len() as u64) as usize;
+                self.say(BAD_LINES[bad].into());
+            }
+            11..=16 => {
+                let n = self.window_size();
+                self.say(format!("watch {n}"));
+            }
+            17..=30 => {
+                let call = self.any_call();
+                self.say(call);
+            }
+            _ => {
+                let quote = self.quote();
+                self.say(quote);
+            }
+        }
+    }
+
+    /// Some steps, the audit, and what the tables hold after them, past N too.
+    fn steps(&mut self, most: u64) {
+        for _ in 0..self.r.below(most + 1) {
+            self.step();
+        }
+        self.say("audit".into());
+        if self.model.head.memory < 100 || self.once_in(10) {
+            self.show();
+        }
+    }
+
+    /// Odd values in some cells before anything is called, past N too.
+    fn litter(&mut self) {
+        let places = self.memory.min(30) + 3;
+        for _ in 0..self.r.below(12) {
+            let value = self.one_of(&EDGES);
+            let line = match self.r.below(4) {
+                0 => format!("cell columns {} {value}", self.between(0, places * self.d)),
+                1 => format!("cell positions {} {value}", self.between(0, places)),
+                2 => format!("cell lower {} {value}", self.between(0, places)),
+                _ => format!("cell watches {} {value}", self.between(0, 7)),
+            };
+            self.say(line);
+        }
+        if self.memory < PLACES as u32 {
+            self.say(format!("cell positions {} {}", self.memory, u32::MAX));
+            self.say(format!("cell lower {} 7", self.memory));
+            self.say(format!("cell columns {} 9", self.memory * self.d));
+        }
+    }
+
+    /// A book from an opening and quotes.
+    fn sound_book(&mut self) {
+        self.litter();
+        self.open();
+        for _ in 0..self.r.below(u64::from(self.memory.min(20)) * 2 + 1) {
+            let quote = self.quote();
+            self.say(quote);
+        }
+    }
+
+    /// A newest position: around N, around the last one, any, or now and then one beyond the last: a torn book.
+    fn some_newest(&mut self) -> u32 {
+        match self.r.below(16) {
+            0 => 0,
+            1 => LAST_POSITION + 1,
+            2 | 3 => LAST_POSITION,
+            4 | 5 => LAST_POSITION - self.between(1, 12),
+            6 | 7 => self.between(1, LAST_POSITION),
+            8 | 9 => self.memory,
+            10..=12 => self.memory + self.between(1, 9),
+            _ => self.between(1, self.memory),
+        }
+    }
+
+    /// Tables whoever left them: any rows of the window with the newest, any lower ends below them.
+    fn made_up_book(&mut self) {
+        self.litter();
+        let newest = self.some_newest();
+        let start = (newest + 1).saturating_sub(self.memory).max(1);
+        let density = 1 + self.r.below(4);
+        let mut positions: Vec<u32> = (start..newest).filter(|_| self.r.below(4) < density).collect();
+        positions.extend((newest > 0).then_some(newest));
+        for (i, &position) in positions.iter().enumerate() {
+            let lower = match self.r.below(6) {
+                0 => 0,
+                1 => start.saturating_sub(1),
+                2 => self.between(0, position - 1),
+                3 => position - 1,
+                4 => start.min(position - 1),
+                _ => positions[self.r.below(i as u64 + 1) as usize].min(position - 1),
+            };
+            self.say(format!("cell positions {i} {position}"));
+            self.say(format!("cell lower {i} {lower}"));
+            for column in i as u32 * self.d..(i as u32 + 1) * self.d {
+                let value = self.value();
+                self.say(format!("cell columns {column} {value}"));
+            }
+        }
+        self.head(newest, positions.len() as u32);
+        self.made_up_watches();
+    }
+
+    /// Some watches, rising and followed by empties.
+    fn made_up_watches(&mut self) {
+        let odds = 1 + self.r.below(4);
+        let most = self.memory;
+        let mut watched: Vec<u32> = (1..=most).filter(|_| self.r.below(5) < odds).take(RECORDS).collect();
+        watched.resize(RECORDS, 0);
+        for (i, n) in watched.into_iter().enumerate() {
+            self.say(format!("cell watches {i} {n}"));
+        }
+    }
+
+    /// Tears head or rows in one of the ways that the paper names.
+    fn tear_rows(&mut self) {
+        let head = self.model.head;
+        let last = head.rows.max(1) - 1;
+        let any = self.between(0, last);
+        let start = (head.newest + 1).saturating_sub(self.memory).max(1);
+        match self.r.below(9) {
+            0 => self.head(head.newest, self.memory + 1),
+            1 => self.head(head.newest, u32::MAX),
+            2 => self.head(LAST_POSITION + 1, head.rows),
+            3 => self.head(head.newest.max(1), 0),
+            4 => self.head(0, head.rows.max(1)),
+            5 => {
+                let before = self.model.positions[any as usize];
+                self.say(format!("cell positions {} {before}", (any + 1).min(last)));
+                self.say(format!("cell positions {any} {}", before.saturating_add(u32::from(any == last))));
+            }
+            6 => self.say(format!("cell positions 0 {}", start - 1)),
+            7 => {
+                let wrong = if self.once_in(2) { head.newest + 1 } else { head.newest.max(1) - 1 };
+                self.say(format!("cell positions {last} {wrong}"));
+            }
+            _ => {
+                let more = self.between(0, 1);
+                let lower = self.model.positions[any as usize].saturating_add(more);
+                self.say(format!("cell lower {any} {lower}"));
+            }
+        }
+    }
+
+    /// Tears the watches in one of the ways that the paper names.
+    fn tear_watches(&mut self) {
+        let i = self.between(0, 6);
+        match self.r.below(4) {
+            0 => {
+                let n = self.model.watches[i as usize].max(1);
+                self.say(format!("cell watches {i} {n}"));
+                self.say(format!("cell watches {} {n}", i + 1));
+            }
+            1 => {
+                self.say(format!("cell watches {i} 0"));
+                self.say(format!("cell watches {} {}", i + 1, self.memory));
+            }
+            2 => {
+                let at = self.model.watches.iter().position(|&n| n == 0).unwrap_or(7);
+                self.say(format!("cell watches {at} {}", self.memory + 1));
+            }
+            _ => {
+                self.say(format!("cell watches {i} 2"));
+                self.say(format!("cell watches {} 1", i + 1));
+            }
+        }
+    }
+
+    /// A torn book, and every call on it, with every output, and under a short loan.
+    fn torn_book(&mut self) {
+        if self.once_in(2) {
+            self.sound_book();
+        } else {
+            self.made_up_book();
+        }
+        if self.once_in(3) {
+            self.tear_watches();
+        } else {
+            self.tear_rows();
+        }
+        for word in ["look", "watch", "end"] {
+            let n = self.window_size();
+            self.say(format!("{word} {n}"));
+        }
+        let quote = self.quote();
+        self.say(quote);
+        self.say("audit".into());
+        self.short_loan();
+        if self.memory < 100 {
+            self.show();
+        }
+    }
+
+    /// Heads of any values over any tables, and every call under each.
+    fn any_heads(&mut self) {
+        self.litter();
+        for _ in 0..1 + self.r.below(6) {
+            let line = (0..5).fold("head".into(), |line: String, _| format!("{line} {}", self.one_of(&EDGES)));
+            self.say(line);
+            for _ in 0..1 + self.r.below(4) {
+                let call = self.any_call();
+                self.say(call);
+            }
+            if self.once_in(8) {
+                self.say("show".into());
+            }
+        }
+        self.any_opening();
+    }
+}
+
+/// The list with an index.
+pub fn random_list(seed: u64, index: u64) -> Vec<String> {
+    let mut list = List::new(Random::new(seed, index));
+    match list.r.below(20) {
+        0..=8 => {
+            list.sound_book();
+            list.steps(60);
+        }
+        9..=14 => {
+            list.made_up_book();
+            list.steps(24);
+        }
+        15..=17 => {
+            list.torn_book();
+            list.steps(4);
+        }
+        _ => {
+            list.any_heads();
+            list.steps(6);
+        }
+    }
+    list.lines
+}
+
+/// A list with the settings given, after the lines that every list begins with.
+fn small_list(d: u32, memory: u32, directions: u32) -> List {
+    let mut list = List::new(Random::new(u64::from(d), u64::from(memory)));
+    (list.d, list.memory, list.directions, list.values) = (d, memory, directions, Values::Few(3));
+    list.open();
+    list
+}
+
+/// After each of some quotes every n from 0 to N + 1 is looked at, watched, and its watch ended.
+fn every_window(d: u32, memory: u32, directions: u32) -> Vec<String> {
+    let mut list = small_list(d, memory, directions);
+    for _ in 0..memory + 3 {
+        for word in ["look", "watch", "end"] {
+            for n in 0..=memory + 1 {
+                list.say(format!("{word} {n}"));
+            }
+        }
+        list.say("audit".into());
+        list.say(format!("watch {memory}"));
+        list.tight_output();
+        list.say("show".into());
+    }
+    list.lines
+}
+
+/// Watches set up to a count and one more, a quote under them, and each ended, in an order that differs with the count.
+fn every_count(count: u32) -> Vec<String> {
+    let mut list = small_list(2, 12, 1);
+    for i in 0..count {
+        list.say(format!("watch {}", 1 + (5 * i + count) % 12));
+        list.say("quote 3 4".into());
+        list.tight_output();
+        list.say("show".into());
+    }
+    for i in 0..12 {
+        list.say(format!("end {}", 1 + (7 * i + count) % 12));
+        list.say("show".into());
+    }
+    list.lines
+}
+
+/// Eight watches on 1,024 equal quotes, and a quote that beats them all, with an output one byte too short and in full.
+fn longest_answer() -> Vec<String> {
+    let mut list = small_list(1, 1_024, 0);
+    for _ in 0..1_024 {
+        list.say("quote 5".into());
+    }
+    for n in 1_017..=1_024 {
+        list.say(format!("watch {n}"));
+    }
+    let length = list.answer_length("quote 4");
+    for less in [1, 0] {
+        list.say(format!("lend out {}", length - less));
+        list.say("quote 4".into());
+    }
+    list.say("audit".into());
+    list.say("show".into());
+    list.lines
+}
+
+/// The marked audits of the paper: a sole row of the worst quote, of the next to the worst, and lower ends of two rows.
+fn marked_audits() -> Vec<String> {
+    let mut list = small_list(1, 2, 0);
+    for value in [u32::MAX, u32::MAX - 1] {
+        list.say("cell positions 0 2".into());
+        list.say(format!("cell columns 0 {value}"));
+        list.head(2, 1);
+        list.say("audit".into());
+    }
+    for (i, value) in [(0, 3), (1, 5)] {
+        list.say(format!("cell positions {i} {}", i + 1));
+        list.say(format!("cell columns {i} {value}"));
+    }
+    list.head(2, 2);
+    for lower in 0..3 {
+        list.say(format!("cell lower 1 {lower}"));
+        list.say("audit".into());
+        list.say("look 1".into());
+        list.say("look 2".into());
+    }
+    list.lines
+}
+
+/// Lists that go through small settings, every n, every count of watches, every sort of line that cannot be taken, and
+/// the longest answer.
+pub fn small_lists() -> Vec<Vec<String>> {
+    let mut lists = Vec::new();
+    for d in 1..=6 {
+        for memory in 1..=5 {
+            for directions in 0..1 << d {
+                lists.push(every_window(d, memory, directions));
+            }
+        }
+    }
+    lists.extend((0..=9).map(every_count));
+    lists.push(BAD_LINES.iter().map(|line| line.to_string()).collect());
+    lists.push(longest_answer());
+    lists.push(marked_audits());
+    lists
+}

@@ -1,0 +1,478 @@
+//! A plain model of the calls on any tables, written from the scope paper alone: it reads a list of calls, one a line,
+//! makes them on tables of its own and prints what is seen.
+
+use std::fmt::Write as _;
+
+pub const COLUMN_CELLS: usize = 6_144;
+pub const PLACES: usize = 1_024;
+pub const OUTPUT: usize = 57_400;
+pub const RECORDS: usize = 8;
+pub const MOST_COLUMNS: u32 = 6;
+pub const LARGEST_MEMORY: u32 = 1_024;
+pub const LAST_POSITION: u32 = 16_777_215;
+const LEAVES: u8 = 32;
+const JOINS: u8 = 33;
+
+/// A wrong reading of the rules that can be planted in the model, to show that a comparison with it fails.
+#[derive(Clone, Copy, PartialEq)]
+pub enum Plant {
+    /// No wrong reading.
+    Nothing,
+    /// Not only the lower ends that name the position that ages out become 0, but those that name an older one too.
+    Renamed,
+    /// 12 is tried before 11.
+    TornFirst,
+    /// An accepted quote sets the position behind the N places to 0.
+    PastMemory,
+    /// 13 is said of an output that is just long enough.
+    Early,
+    /// The audit does not ask for a later row that is not the worst quote.
+    Worst,
+}
+
+/// The head of a book.
+#[derive(Clone, Copy, Default, PartialEq)]
+pub struct Head {
+    pub d: u32,
+    pub memory: u32,
+    pub directions: u32,
+    pub newest: u32,
+    pub rows: u32,
+}
+
+/// How much of each buffer is lent to the calls.
+#[derive(Clone)]
+pub struct Lent {
+    pub columns: usize,
+    pub positions: usize,
+    pub lower: usize,
+    pub out: usize,
+}
+
+/// A row of the book; columns that it does not have are 0.
+#[derive(Clone, PartialEq)]
+struct Row {
+    position: u32,
+    columns: [u32; 6],
+    lower: u32,
+}
+
+/// What the model holds: the head last handed back, the tables and records, what is lent of them, and the lines read.
+#[derive(Clone)]
+pub struct Model {
+    plant: Plant,
+    pub head: Head,
+    pub columns: Vec<u32>,
+    pub positions: Vec<u32>,
+    pub lower: Vec<u32>,
+    pub watches: [u32; RECORDS],
+    pub lent: Lent,
+    lines: usize,
+}
+
+/// Whether d, N and directions are in their ranges.
+pub fn settings_hold(d: u32, memory: u32, directions: u32) -> bool {
+    (1..=MOST_COLUMNS).contains(&d) && (1..=LARGEST_MEMORY).contains(&memory) && directions < 1 << d
+}
+
+/// The positions that follow the lower ends onto the list of a window from its start on: lower end < start <= position.
+fn listed(rows: &[Row], start: u32) -> Vec<u32> {
+    rows.iter().filter(|row| row.lower < start && start <= row.position).map(|row| row.position).collect()
+}
+
+/// The frames of the changes of n from one list to another: the leaves, then the joins.
+fn changes(n: u32, before: &[u32], after: &[u32]) -> Vec<u32> {
+    let frame = |kind: u8, position: &u32| {
+        let [low, high, ..] = n.to_le_bytes();
+        [&[kind, low, high][..], &position.to_le_bytes()[..]].concat()
+    };
+    let leaves = before.iter().filter(|p| after.binary_search(p).is_err()).flat_map(|p| frame(LEAVES, p));
+    let joins = after.iter().filter(|p| before.binary_search(p).is_err()).flat_map(|p| frame(JOINS, p));
+    leaves.chain(joins).map(u32::from).collect()
+}
+
+impl Model {
+    /// A model whose buffers are zeros and wholly lent.
+    pub fn new(plant: Plant) -> Model {
+        Model {
+            plant,
+            head: Head::default(),
+            columns: vec![0; COLUMN_CELLS],
+            positions: vec![0; PLACES],
+            lower: vec![0; PLACES],
+            watches: [0; RECORDS],
+            lent: Lent { columns: COLUMN_CELLS, positions: PLACES, lower: PLACES, out: OUTPUT },
+            lines: 0,
+        }
+    }
+
+    /// Whether quote p beats quote q: no worse in every column and better in at least one.
+    fn beats(&self, p: &[u32], q: &[u32]) -> bool {
+        let better = |x: &[u32], y: &[u32], i: usize| {
+            if self.head.directions >> i & 1 == 1 {
+                x[i] > y[i]
+            } else {
+                x[i] < y[i]
+            }
+        };
+        let columns = 0..self.head.d as usize;
+        columns.clone().all(|i| !better(q, p, i)) && columns.clone().any(|i| better(p, q, i))
+    }
+
+    /// Whether no quote is worse than this one: 4,294,967,295 in low columns, 0 in high ones.
+    fn is_worst(&self, quote: &[u32]) -> bool {
+        (0..self.head.d as usize).all(|i| quote[i] == if self.head.directions >> i & 1 == 1 { 0 } else { u32::MAX })
+    }
+
+    /// The start of the window of n: the larger of 1 and M - n + 1.
+    fn start(&self, n: u32) -> u32 {
+        (self.head.newest + 1).saturating_sub(n).max(1)
+    }
+
+    /// The rows that head and tables hold.
+    fn rows(&self) -> Vec<Row> {
+        let d = self.head.d as usize;
+        let row = |i: usize| {
+            let mut columns = [0; 6];
+            columns[..d].copy_from_slice(&self.columns[i * d..(i + 1) * d]);
+            Row { position: self.positions[i], columns, lower: self.lower[i] }
+        };
+        (0..self.head.rows as usize).map(row).collect()
+    }
+
+    /// The lower end of a quote behind some rows: the position of the youngest of them that beats it, or 0.
+    fn lower_end(&self, older: &[Row], quote: &[u32]) -> u32 {
+        older.iter().rev().find(|row| self.beats(&row.columns, quote)).map_or(0, |row| row.position)
+    }
+
+    /// Whether a table is shorter than these settings ask.
+    fn short(&self, d: u32, memory: u32) -> bool {
+        let places = memory as usize;
+        self.lent.columns < places * d as usize || self.lent.positions < places || self.lent.lower < places
+    }
+
+    /// Whether head and rows are torn.
+    fn torn_rows(&self) -> bool {
+        let Head { memory, newest, rows, .. } = self.head;
+        if rows > memory || newest > LAST_POSITION || (rows == 0) != (newest == 0) {
+            return true;
+        }
+        let positions = &self.positions[..rows as usize];
+        let rising = positions.windows(2).all(|pair| pair[0] < pair[1]);
+        let inside = positions.iter().all(|&p| self.start(memory) <= p && p <= newest);
+        let ends = positions.last().map_or(true, |&p| p == newest);
+        let below = positions.iter().zip(&self.lower).all(|(&p, &lower)| lower < p);
+        !(rising && inside && ends && below)
+    }
+
+    /// Whether the watches are not rising, not ending in empties, or above N.
+    fn torn_watches(&self) -> bool {
+        let standing = self.standing();
+        let rising = standing.windows(2).all(|pair| pair[0] < pair[1]);
+        let empties = self.watches[standing.len()..].iter().all(|&n| n == 0);
+        let inside = standing.iter().all(|&n| n <= self.head.memory);
+        !(rising && empties && inside)
+    }
+
+    /// The watched n, up to the first empty record.
+    fn standing(&self) -> Vec<u32> {
+        self.watches.iter().copied().take_while(|&n| n != 0).collect()
+    }
+
+    /// The refusals that a call on the book begins with: 3, 11, 12; a look is lent no watches.
+    fn judged(&self, watches_too: bool) -> Result<(), u32> {
+        let Head { d, memory, directions, .. } = self.head;
+        if !settings_hold(d, memory, directions) {
+            return Err(3);
+        }
+        let torn = self.torn_rows() || watches_too && self.torn_watches();
+        match (self.short(d, memory), torn) {
+            (true, true) if self.plant == Plant::TornFirst => Err(12),
+            (true, _) => Err(11),
+            (false, true) => Err(12),
+            (false, false) => Ok(()),
+        }
+    }
+
+    /// 5: n is 0 or above N.
+    fn in_memory(&self, n: u32) -> Result<(), u32> {
+        if n == 0 || n > self.head.memory {
+            return Err(5);
+        }
+        Ok(())
+    }
+
+    /// An answer, or 13 if the output is shorter than it.
+    fn fitting(&self, answer: Vec<u32>) -> Result<Vec<u32>, u32> {
+        let early = usize::from(self.plant == Plant::Early && !answer.is_empty());
+        if self.lent.out < answer.len() + early {
+            return Err(13);
+        }
+        Ok(answer)
+    }
+
+    /// An opening: 3, 11; else a new book.
+    fn open(&mut self, d: u32, memory: u32, directions: u32) -> Result<Vec<u32>, u32> {
+        if !settings_hold(d, memory, directions) {
+            return Err(3);
+        }
+        if self.short(d, memory) {
+            return Err(11);
+        }
+        self.head = Head { d, memory, directions, newest: 0, rows: 0 };
+        self.store(&[]);
+        self.watches = [0; RECORDS];
+        Ok(Vec::new())
+    }
+
+    /// Rows into the N places of the tables, zeros behind them.
+    fn store(&mut self, rows: &[Row]) {
+        let (d, places) = (self.head.d as usize, self.head.memory as usize);
+        self.columns[..places * d].fill(0);
+        self.positions[..places].fill(0);
+        self.lower[..places].fill(0);
+        for (i, row) in rows.iter().enumerate() {
+            self.columns[i * d..(i + 1) * d].copy_from_slice(&row.columns[..d]);
+            self.positions[i] = row.position;
+            self.lower[i] = row.lower;
+        }
+    }
+
+    /// The rows after a quote: without those that it beats and the one that ages out, and with its own.
+    fn rows_after(&self, quote: &[u32]) -> Vec<Row> {
+        let position = self.head.newest + 1;
+        let aged = position.saturating_sub(self.head.memory);
+        let named = |lower: u32| lower == aged || self.plant == Plant::Renamed && lower < aged;
+        let mut rows = self.rows();
+        rows.retain(|row| row.position != aged && !self.beats(quote, &row.columns));
+        for row in &mut rows {
+            row.lower = if named(row.lower) { 0 } else { row.lower };
+        }
+        let mut columns = [0; 6];
+        columns[..quote.len()].copy_from_slice(quote);
+        rows.push(Row { position, columns, lower: self.lower_end(&rows, quote) });
+        rows
+    }
+
+    /// A quote: 3, 11, 12, 4, 6, 13; else its row and the changes of each watch.
+    fn quote(&mut self, quote: &[u32]) -> Result<Vec<u32>, u32> {
+        self.judged(true)?;
+        if quote.len() != self.head.d as usize {
+            return Err(4);
+        }
+        if self.head.newest == LAST_POSITION {
+            return Err(6);
+        }
+        let (before, after) = (self.rows(), self.rows_after(quote));
+        let head = Head { newest: self.head.newest + 1, rows: after.len() as u32, ..self.head };
+        let start_after = |n: u32| (head.newest + 1).saturating_sub(n).max(1);
+        let change = |n: u32| changes(n, &listed(&before, self.start(n)), &listed(&after, start_after(n)));
+        let answer = self.fitting(self.standing().into_iter().flat_map(change).collect())?;
+        self.head = head;
+        self.store(&after);
+        if self.plant == Plant::PastMemory && self.positions.len() > self.head.memory as usize {
+            self.positions[self.head.memory as usize] = 0;
+        }
+        Ok(answer)
+    }
+
+    /// A look: 3, 11, 12, 5, 13; else the list of n.
+    fn look(&self, n: u32) -> Result<Vec<u32>, u32> {
+        self.judged(false)?;
+        self.in_memory(n)?;
+        self.fitting(listed(&self.rows(), self.start(n)))
+    }
+
+    /// A watch: 3, 11, 12, 5, 8, 9, 13; else n is added, and its joins are the answer.
+    fn watch(&mut self, n: u32) -> Result<Vec<u32>, u32> {
+        self.judged(true)?;
+        self.in_memory(n)?;
+        let mut standing = self.standing();
+        if standing.contains(&n) {
+            return Err(8);
+        }
+        if standing.len() == RECORDS {
+            return Err(9);
+        }
+        let answer = self.fitting(changes(n, &[], &listed(&self.rows(), self.start(n))))?;
+        standing.push(n);
+        standing.sort_unstable();
+        self.set_watches(&standing);
+        Ok(answer)
+    }
+
+    /// An end: 3, 11, 12, 5, 10; else n is dropped.
+    fn end(&mut self, n: u32) -> Result<Vec<u32>, u32> {
+        self.judged(true)?;
+        self.in_memory(n)?;
+        let mut standing = self.standing();
+        if !standing.contains(&n) {
+            return Err(10);
+        }
+        standing.retain(|&watched| watched != n);
+        self.set_watches(&standing);
+        Ok(Vec::new())
+    }
+
+    /// The watched n into the records, empties behind them.
+    fn set_watches(&mut self, standing: &[u32]) {
+        self.watches = [0; RECORDS];
+        self.watches[..standing.len()].copy_from_slice(standing);
+    }
+
+    /// The audit: 3, 11; else whether some tape leaves these rows, by the paper's plain rules.
+    pub fn audit(&self) -> Result<bool, u32> {
+        let Head { d, memory, directions, .. } = self.head;
+        if !settings_hold(d, memory, directions) {
+            return Err(3);
+        }
+        if self.short(d, memory) {
+            return Err(11);
+        }
+        if self.torn_rows() {
+            return Ok(false);
+        }
+        let rows = self.rows();
+        let beaten = |i: usize| rows[i + 1..].iter().any(|younger| self.beats(&younger.columns, &rows[i].columns));
+        let right = |i: usize| rows[i].lower == self.lower_end(&rows[..i], &rows[i].columns);
+        let sound = (0..rows.len()).all(|i| !beaten(i) && right(i));
+        Ok(sound && self.zeros_behind() && self.gaps_filled(&rows))
+    }
+
+    /// Whether the places from the count up to N are zeros.
+    fn zeros_behind(&self) -> bool {
+        let Head { d, memory, rows, .. } = self.head;
+        let (d, memory, rows) = (d as usize, memory as usize, rows as usize);
+        let cells = self.columns[rows * d..memory * d].iter();
+        cells.chain(&self.positions[rows..memory]).chain(&self.lower[rows..memory]).all(|&cell| cell == 0)
+    }
+
+    /// Whether for every position of the window of N that has no row, some later row is not the worst quote.
+    fn gaps_filled(&self, rows: &[Row]) -> bool {
+        let last = rows.iter().rev().find(|row| self.plant == Plant::Worst || !self.is_worst(&row.columns));
+        let filled = |p: u32| rows.iter().any(|row| row.position == p) || last.is_some_and(|row| p < row.position);
+        (self.start(self.head.memory)..=self.head.newest).all(filled)
+    }
+
+    /// The line of a call's answer, with the head handed back, and the line of its output.
+    fn answer(&self, answer: Result<Vec<u32>, u32>, head: Head, print: &mut String) {
+        let (number, output) = match answer {
+            Ok(output) => (0, output),
+            Err(number) => (number, Vec::new()),
+        };
+        let Head { d, memory, directions, newest, rows } = head;
+        writeln!(print, "A {number} {} {d} {memory} {directions} {newest} {rows}", output.len()).unwrap();
+        if !output.is_empty() {
+            line_of("X", &output, print);
+        }
+    }
+
+    /// The lines of `show`: of tables whose settings are out of range there is nothing to show.
+    fn show(&self, print: &mut String) {
+        let Head { d, memory, .. } = self.head;
+        let in_range = (1..=MOST_COLUMNS).contains(&d) && (1..=LARGEST_MEMORY).contains(&memory);
+        let places = if in_range { memory as usize } else { 0 };
+        let cells = if in_range { places * d as usize } else { 0 };
+        line_of("C", &self.columns[..cells], print);
+        line_of("P", &self.positions[..places], print);
+        line_of("E", &self.lower[..places], print);
+        line_of("W", &self.watches, print);
+    }
+
+    /// Lends another length of a buffer; none if the buffer has no such length.
+    fn lend(&mut self, name: &str, length: u32) -> Option<()> {
+        let (lent, longest) = match name {
+            "columns" => (&mut self.lent.columns, COLUMN_CELLS),
+            "positions" => (&mut self.lent.positions, PLACES),
+            "lower" => (&mut self.lent.lower, PLACES),
+            "out" => (&mut self.lent.out, OUTPUT),
+            _ => return None,
+        };
+        if length as usize > longest {
+            return None;
+        }
+        *lent = length as usize;
+        Some(())
+    }
+
+    /// Pokes a cell of a table or a record; none if there is no such cell.
+    fn cell(&mut self, name: &str, i: u32, value: u32) -> Option<()> {
+        let cells = match name {
+            "columns" => &mut self.columns[..],
+            "positions" => &mut self.positions[..],
+            "lower" => &mut self.lower[..],
+            "watches" => &mut self.watches[..],
+            _ => return None,
+        };
+        *cells.get_mut(i as usize)? = value;
+        Some(())
+    }
+
+    /// Makes the call of a word and its numbers, or none if there is no such call.
+    fn call(&mut self, word: &str, numbers: &[u32], print: &mut String) -> Option<()> {
+        let answer = match (word, numbers) {
+            ("open", &[d, memory, directions]) => self.open(d, memory, directions),
+            ("quote", columns) => self.quote(columns),
+            ("look", &[n]) => self.look(n),
+            ("watch", &[n]) => self.watch(n),
+            ("end", &[n]) => self.end(n),
+            _ => return None,
+        };
+        let refused_opening = word == "open" && answer.is_err();
+        let head = if refused_opening { Head::default() } else { self.head };
+        self.answer(answer, head, print);
+        Some(())
+    }
+
+    /// The line of the audit's answer.
+    fn verdict(&self, print: &mut String) {
+        match self.audit() {
+            Ok(true) => print.push_str("V yes\n"),
+            Ok(false) => print.push_str("V no\n"),
+            Err(number) => writeln!(print, "V {number}").unwrap(),
+        }
+    }
+
+    /// Does what a line says, or none if it cannot be taken.
+    fn take(&mut self, line: &str, print: &mut String) -> Option<()> {
+        let words: Vec<_> = line.split(' ').collect();
+        if let ["lend" | "cell", name, ref rest @ ..] = words[..] {
+            return match (words[0], &numbers(rest)?[..]) {
+                ("lend", &[length]) => self.lend(name, length),
+                ("cell", &[i, value]) => self.cell(name, i, value),
+                _ => None,
+            };
+        }
+        match (words[0], &numbers(&words[1..])?[..]) {
+            ("audit", &[]) => self.verdict(print),
+            ("show", &[]) => self.show(print),
+            ("head", &[d, memory, directions, newest, rows]) => {
+                self.head = Head { d, memory, directions, newest, rows }
+            }
+            (word, numbers) => return self.call(word, numbers, print),
+        }
+        Some(())
+    }
+
+    /// Does what the next line says and prints what is seen; a line that cannot be taken is named by its number.
+    pub fn play(&mut self, line: &str, print: &mut String) {
+        self.lines += 1;
+        if self.take(line, print).is_none() {
+            writeln!(print, "? {}", self.lines).unwrap();
+        }
+    }
+}
+
+/// The numbers of some words, each below 2^32; none if one is no such number.
+fn numbers(words: &[&str]) -> Option<Vec<u32>> {
+    words.iter().map(|word| word.parse().ok()).collect()
+}
+
+/// A letter and numbers, one space between.
+fn line_of(letter: &str, numbers: &[u32], print: &mut String) {
+    print.push_str(letter);
+    for number in numbers {
+        write!(print, " {number}").unwrap();
+    }
+    print.push('\n');
+}
