@@ -11,8 +11,9 @@ ghost use Prim.Native.Nat.{_+_, _*_, _≤_, _<_};
 ghost use mathlib.Core.Bool.{true, false};
 ghost use mathlib.Core.List.{[]};
 ghost use lib.ListN.{length, take, drop};
+ghost use Rattle.head.specs.Replies.{finding};
 ghost use Rattle.model.specs.Rows.{rowAt, rowsIn};
-ghost use Rattle.model.specs.Audit.{worstAt, isWorst, zeroFrom, passes, auditVerdict};
+ghost use Rattle.model.specs.Audit.{worstAt, isWorst, zeroFrom, passes, auditFinding};
 ghost use Rattle.rows.specs.Lent.{tables};
 ghost use Rattle.audits.specs.Parts.{rightRow, rightRows, openGap};
 
@@ -166,7 +167,7 @@ fn meets_rules(head: Head, columns: &[u32], positions: &[u32], lower_ends: &[u32
 
 // The audit: refused with 3, then 11, else yes exactly if some tape leaves exactly this head and these tables.
 pub fn audit(head: Head, columns: &[u32], positions: &[u32], lower_ends: &[u32]) -> Verdict
-    ensures { λ r. ⌜ r ≡ auditVerdict head (tables (now (columns .entry)) (now (positions .entry)) (now («lower_ends» .entry))) ⌝ }
+    ensures { λ r. ⌜ finding r ≡ auditFinding head (tables (now (columns .entry)) (now (positions .entry)) (now («lower_ends» .entry))) ⌝ }
 {
     if !head.settings_hold() {
         return Verdict::Refused(Refusal::Settings);

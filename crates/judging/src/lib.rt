@@ -4,7 +4,7 @@ ghost use mathlib.Core.Bool.{not};
 ghost use mathlib.Core.List.{[], _∷_};
 ghost use Rattle.head.specs.declared.Refusal.the-variants.{Settings};
 ghost use Rattle.head.specs.Heads.{settingsHold};
-ghost use Rattle.head.specs.Refusals.{first, settled};
+ghost use Rattle.head.specs.Refusals.{number, numberOf, firstOf, granted};
 ghost use Rattle.model.specs.Book.{shortTables, answerOf, watchfulAnswer, outOfRange};
 ghost use Rattle.model.specs.Promises.{tables};
 ghost use Rattle.judging.specs.Answers.{loanAnswer};
@@ -32,7 +32,7 @@ pub fn out_of_range(head: Head, n: u32) -> bool
 
 // An answer with one more test behind it: an acceptance becomes this refusal if the test holds.
 pub fn with_test(answer: Answer, test: bool, refusal: Refusal) -> Answer
-    ensures { λ r. ⌜ r ≡ settled answer (first ((test, refusal) ∷ [])) answer ⌝ }
+    ensures { λ r. ⌜ numberOf r ≡ granted (numberOf answer) (firstOf ((test, number refusal) ∷ [])) (numberOf answer) ⌝ }
 {
     match answer {
         Answer::Accepted => {}
@@ -48,14 +48,14 @@ pub fn with_test(answer: Answer, test: bool, refusal: Refusal) -> Answer
 
 // The answer of a call by its head's settings: 3.
 pub fn judge_settings(head: Head) -> Answer
-    ensures { λ r. ⌜ r ≡ first ((not (settingsHold (head .dimensions) (head .capacity) (head .directions)), Settings) ∷ []) ⌝ }
+    ensures { λ r. ⌜ numberOf r ≡ firstOf ((not (settingsHold (head .dimensions) (head .capacity) (head .directions)), number Settings) ∷ []) ⌝ }
 {
     with_test(Answer::Accepted, !head.settings_hold(), Refusal::Settings)
 }
 
 // The answer of a call that is lent the tables, before it reads them: 3, 11.
 pub fn judge_loan(head: Head, columns: &[u32], positions: &[u32], lower_ends: &[u32]) -> Answer
-    ensures { λ r. ⌜ r ≡ loanAnswer head (tables (now (columns .entry)) (now (positions .entry)) (now («lower_ends» .entry))) ⌝ }
+    ensures { λ r. ⌜ numberOf r ≡ loanAnswer head (tables (now (columns .entry)) (now (positions .entry)) (now («lower_ends» .entry))) ⌝ }
 {
     let settings = judge_settings(head);
     let short = short_tables(head, columns, positions, lower_ends);
@@ -64,7 +64,7 @@ pub fn judge_loan(head: Head, columns: &[u32], positions: &[u32], lower_ends: &[
 
 // The answer of a call on the tables alone, before what the call adds: 3, 11, 12.
 pub fn judge(head: Head, columns: &[u32], positions: &[u32], lower_ends: &[u32]) -> Answer
-    ensures { λ r. ⌜ r ≡ answerOf head (tables (now (columns .entry)) (now (positions .entry)) (now («lower_ends» .entry))) [] ⌝ }
+    ensures { λ r. ⌜ numberOf r ≡ answerOf head (tables (now (columns .entry)) (now (positions .entry)) (now («lower_ends» .entry))) [] ⌝ }
 {
     let answer = judge_loan(head, columns, positions, lower_ends);
     match answer {
@@ -88,7 +88,7 @@ pub fn judge_watchful(
     lower_ends: &[u32],
     watches: [u32; 8],
 ) -> Answer
-    ensures { λ r. ⌜ r ≡ watchfulAnswer head (tables (now (columns .entry)) (now (positions .entry)) (now («lower_ends» .entry))) watches [] ⌝ }
+    ensures { λ r. ⌜ numberOf r ≡ watchfulAnswer head (tables (now (columns .entry)) (now (positions .entry)) (now («lower_ends» .entry))) watches [] ⌝ }
 {
     let answer = judge(head, columns, positions, lower_ends);
     with_test(answer, torn(head.capacity, watches), Refusal::Torn)

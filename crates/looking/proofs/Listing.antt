@@ -1,5 +1,5 @@
 -- The list of n of a book, read off the cells, and a look: its answer, and what it leaves.
-use mathlib.Core.Path.{_≡_, refl, ap, sym, _∙_}
+use mathlib.Core.Path.{_≡_, refl, ap, _∙_}
 use Prim.Native.Nat.{ℕ, _≤_}
 use native.Mathlib.Omega.{arith}
 use mathlib.Core.Bool.{Bool}
@@ -14,15 +14,16 @@ use Rattle.head.specs.declared.Head.{Head}
 use Rattle.head.specs.declared.Answer.{Answer}
 use Rattle.head.specs.declared.Answer.the-variants.{Accepted, Refused}
 use Rattle.head.specs.declared.Refusal.{Refusal}
-use Rattle.head.specs.declared.Refusal.the-variants.{WindowSize, ShortOutput}
-use Rattle.head.proofs.Answers.{accepted-passed}
+use Rattle.head.specs.Refusals.{numberOf}
+use Rattle.head.proofs.Numbers.{zero-passed, accepted-number}
 use Rattle.model.specs.Rows.{Row, Tables, rowsIn, listed}
-use Rattle.model.specs.Book.{bookRows, listOf, outOfRange, lookCells, lookAnswer, lookReply, lookOut}
+use Rattle.model.specs.Book.{bookRows, listOf, lookCells, lookAnswer, lookReply, lookOut}
+use Rattle.model.proofs.Replying.{refused-reply, refused-left, accepted-reply, accepted-left}
 use Rattle.rows.proofs.Reading.{length-rows}
 use Rattle.changes.specs.Picked.{bareRows}
 use Rattle.changes.proofs.Picking.{bare-listed}
 use Rattle.model.specs.Promises.{Looked}
-use Rattle.judging.proofs.Answering.{Passed, rows-stand, answer-passed, refused-reply, refused-left, accepted-reply, accepted-left}
+use Rattle.judging.proofs.Answering.{Passed, rows-stand, answer-passed}
 
 module _ (h : Head) (t : Tables) where
   -- at most 1,024 rows of a book that passed are listed
@@ -51,23 +52,23 @@ module _ (h : Head) (t : Tables) where
     list-room room s c = rw (c, list-cells s)
 
     -- an accepted look: the tables passed, and the list has room
-    pub look-passed : {room : ℕ} {a : Answer} → a ≡ lookAnswer h n t room → a ≡ Accepted → Passed h t × (length (listOf h (bookRows h t) n) ≤ room)
+    pub look-passed : {room : ℕ} {a : Answer} → numberOf a ≡ lookAnswer h n t room → a ≡ Accepted → Passed h t × (length (listOf h (bookRows h t) n) ≤ room)
     unfolding lookAnswer lookCells
-    look-passed {room} e f =
-        let p = answer-passed h t _ (sym e ∙ f) in
-        let s = accepted-passed (outOfRange h n) WindowSize _ (p .1) in
-        let o = accepted-passed (ltb room (length (listOf h (bookRows h t) n))) ShortOutput _ (s .1) in
+    look-passed {room} {a} e f =
+        let p = answer-passed h t _ (accepted-number a e f) in
+        let s = zero-passed _ _ _ (p .1) in
+        let o = zero-passed _ _ _ (s .1) in
         (p .0, ltb-false room (length (listOf h (bookRows h t) n)) (o .0))
 
     -- so the rows stand in the cells, and those listed fit the output
-    pub look-fits : {room start : ℕ} {a : Answer} → a ≡ lookAnswer h n t room → a ≡ Accepted → start ≡ windowStart (h .newest) n
+    pub look-fits : {room start : ℕ} {a : Answer} → numberOf a ≡ lookAnswer h n t room → a ≡ Accepted → start ≡ windowStart (h .newest) n
         → (h .rows ≤ length (t .positions)) × ((h .rows ≤ length (t .lowerEnds)) × (length (listed start (bareRows (t .positions) (t .lowerEnds) (h .rows))) ≤ room))
     look-fits e f s =
         let p = look-passed e f in
         let stand = rows-stand h t (p .0) in
         (stand .0, (stand .1, rw (list-cells s) (p .1)))
 
-    module _ (out : List ℕ) {a : Answer} (e : a ≡ lookAnswer h n t (length out)) where
+    module _ (out : List ℕ) {a : Answer} (e : numberOf a ≡ lookAnswer h n t (length out)) where
       -- what a refused look leaves
       pub look-refused : {k : Refusal} → a ≡ Refused k → Looked h n t out (record { answer = a; head = h; count = 0 }) out
       unfolding lookReply lookOut

@@ -2,6 +2,7 @@
 ghost use mathlib.Core.Path.{_≡_};
 ghost use mathlib.Core.List.{[], _∷_};
 ghost use Rattle.head.specs.declared.Refusal.the-variants.{WindowSize};
+ghost use Rattle.head.specs.Refusals.{number, numberOf};
 ghost use Rattle.model.specs.Book.{answerOf, outOfRange, lookAnswer};
 ghost use Rattle.model.specs.Promises.{tables, Looked};
 use changes::count_listed;
@@ -17,7 +18,7 @@ use judging::with_test;
 
 // The answer of a look but for the output: 3, 11, 12, 5.
 fn judge_size(head: Head, n: u32, columns: &[u32], positions: &[u32], lower_ends: &[u32]) -> Answer
-    ensures { λ r. ⌜ r ≡ answerOf head (tables (now (columns .entry)) (now (positions .entry)) (now («lower_ends» .entry))) ((outOfRange head n, WindowSize) ∷ []) ⌝ }
+    ensures { λ r. ⌜ numberOf r ≡ answerOf head (tables (now (columns .entry)) (now (positions .entry)) (now («lower_ends» .entry))) ((outOfRange head n, number WindowSize) ∷ []) ⌝ }
 {
     with_test(
         judge(head, columns, positions, lower_ends),
@@ -35,7 +36,7 @@ fn judge_look(
     lower_ends: &[u32],
     room: usize,
 ) -> Answer
-    ensures { λ r. ⌜ r ≡ lookAnswer head n (tables (now (columns .entry)) (now (positions .entry)) (now («lower_ends» .entry))) room ⌝ }
+    ensures { λ r. ⌜ numberOf r ≡ lookAnswer head n (tables (now (columns .entry)) (now (positions .entry)) (now («lower_ends» .entry))) room ⌝ }
 {
     let answer = judge_size(head, n, columns, positions, lower_ends);
     match answer {

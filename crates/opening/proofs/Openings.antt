@@ -1,5 +1,5 @@
 -- An opening that is lent eight watches: its answer, and what it leaves.
-use mathlib.Core.Path.{_≡_, refl, sym, _∙_}
+use mathlib.Core.Path.{_≡_, refl, _∙_}
 use Prim.Native.Nat.{ℕ, _*_}
 use native.Mathlib.Omega.{arith}
 use mathlib.Core.Bool.{or-false}
@@ -11,36 +11,40 @@ use Rattle.head.specs.declared.Answer.{Answer}
 use Rattle.head.specs.declared.Answer.the-variants.{Accepted, Refused}
 use Rattle.head.specs.declared.Refusal.{Refusal}
 use Rattle.head.specs.Heads.{freshHead}
+use Rattle.head.specs.Refusals.{numberOf}
+use Rattle.head.proofs.Numbers.{accepted-number}
 use Rattle.head.proofs.Settings.{Within}
 use Rattle.model.specs.Rows.{Tables, filled}
 use Rattle.model.specs.Book.{shortLoan, openAnswer, openReply, openTables, openWatches}
 use Rattle.model.specs.Promises.{Opened}
+use Rattle.model.proofs.Replying.{refused-reply, refused-left, accepted-reply, accepted-left}
 use Rattle.judging.specs.Answers.{loanAnswer}
-use Rattle.judging.proofs.Answering.{Long, loan-passed, refused-reply, refused-left, accepted-reply, accepted-left}
+use Rattle.judging.proofs.Answering.{Long, loan-passed}
 
 -- eight empty watches
 abbrev pub empties : List ℕ
 empties = 0 ∷ 0 ∷ 0 ∷ 0 ∷ 0 ∷ 0 ∷ 0 ∷ 0 ∷ []
 
-module _ (d N directions : ℕ) (t : Tables) {h : Head} {a : Answer} (fresh : h ≡ freshHead d N directions) (e : a ≡ loanAnswer h t) where
+-- eight watches are as many as a loan asks
+loan-opens : (d N directions : ℕ) (t : Tables) {h : Head} (ws : List ℕ) → h ≡ freshHead d N directions → length ws ≡ 8 → loanAnswer h t ≡ openAnswer d N directions t ws
+unfolding loanAnswer openAnswer shortLoan
+loan-opens d N directions t ws fresh eight = rw (fresh, eight, or-false)
+
+module _ (d N directions : ℕ) (t : Tables) {h : Head} {a : Answer} (fresh : h ≡ freshHead d N directions) (e : numberOf a ≡ loanAnswer h t) where
   -- what is known where an opening is accepted
   pub open-passed : a ≡ Accepted → Within d N × Long t d N
-  open-passed f = loan-passed (freshHead d N directions) t (rw fresh at (sym e ∙ f))
+  open-passed f = loan-passed (freshHead d N directions) t (rw fresh at (accepted-number a e f))
 
   module _ (ws : List ℕ) (eight : length ws ≡ 8) where
-    -- eight watches are as many as a loan asks
-    open-judged : a ≡ openAnswer d N directions t ws
-    unfolding loanAnswer openAnswer shortLoan
-    open-judged = e ∙ rw (fresh, eight, or-false)
-
     -- what a refused opening leaves
     pub open-refused : {k : Refusal} {none : Head} → a ≡ Refused k → none ≡ freshHead 0 0 0 → Opened d N directions t ws (record { answer = a; head = none; count = 0 }) t ws
     unfolding openReply openTables openWatches
     open-refused f z =
+        let judged = e ∙ loan-opens d N directions t ws fresh eight in
         record {
-          reply = rw z (refused-reply open-judged f (freshHead 0 0 0) (freshHead d N directions) 0);
-          lent = refused-left open-judged f t (filled d N [] t);
-          watches = refused-left open-judged f ws (padded 8 [] ws);
+          reply = rw z (refused-reply judged f (freshHead 0 0 0) (freshHead d N directions) 0);
+          lent = refused-left judged f t (filled d N [] t);
+          watches = refused-left judged f ws (padded 8 [] ws);
         }
 
     -- what an accepted opening leaves
@@ -49,8 +53,9 @@ module _ (d N directions : ℕ) (t : Tables) {h : Head} {a : Answer} (fresh : h 
         → Opened d N directions t ws (record { answer = a; head = h; count = 0 }) (record { columns = cs; positions = ps; lowerEnds = ls }) empties
     unfolding openReply openTables openWatches filled flat padded
     open-done f c p l =
+        let judged = e ∙ loan-opens d N directions t ws fresh eight in
         record {
-          reply = accepted-reply open-judged f (freshHead 0 0 0) fresh refl;
-          lent = accepted-left open-judged f t (rw (c, p, l));
-          watches = accepted-left open-judged f ws (let beyond : drop 8 ws ≡ [] = drop-of-length-le ws {i = 8} (omega arith) in rw beyond);
+          reply = accepted-reply judged f (freshHead 0 0 0) fresh refl;
+          lent = accepted-left judged f t (rw (c, p, l));
+          watches = accepted-left judged f ws (let beyond : drop 8 ws ≡ [] = drop-of-length-le ws {i = 8} (omega arith) in rw beyond);
         }

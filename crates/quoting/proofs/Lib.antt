@@ -3,4 +3,3 @@ pub mod Marks
 pub mod Room
 pub mod Quotes
 pub mod Reaching
-pub mod Made

@@ -23,12 +23,13 @@ use Rattle.head.specs.declared.Answer.{Answer}
 use Rattle.head.specs.declared.Answer.the-variants.{Accepted, Refused}
 use Rattle.head.specs.declared.Refusal.{Refusal}
 use Rattle.head.specs.declared.Reply.{Reply}
-use Rattle.head.specs.declared.Refusal.the-variants.{ColumnCount, TapeFull, ShortOutput}
 use Rattle.head.specs.Heads.{lastPosition, afterQuote}
-use Rattle.head.specs.Refusals.{first}
-use Rattle.head.proofs.Answers.{accepted-passed, first-more, first-holds, first-fails}
+use Rattle.head.specs.Refusals.{numberOf, granted}
+use Rattle.head.specs.Replies.{Outcome, outcome}
+use Rattle.head.proofs.Numbers.{zero-passed}
 use Rattle.model.specs.Rows.{Row, Tables, rowAt, rowsIn, filled, expiring, remains, remaining, lowerEndAmong, rowsAfter}
 use Rattle.model.specs.Book.{tornWatches, bookRows, watchfulAnswer, quoteRows, quoteHead, quoteBytes, quoteAnswer, quoteReply, quoteTables, quoteOut, replyOf}
+use Rattle.model.proofs.Replying.{refused-reply, refused-left, accepted-left}
 use Rattle.model.proofs.ChangesFit.{changes-fit}
 use Rattle.cells.specs.Removed.{removedPlaces}
 use Rattle.cells.proofs.Selecting.{selected-filter}
@@ -44,7 +45,7 @@ use Rattle.quoting.specs.declared.Finding.{Finding}
 use Rattle.quoting.specs.Answers.{rowAnswer}
 use Rattle.quoting.specs.Stages.{Findable, Finds, foundBytes, Writable, roomAnswer, Written}
 use Rattle.quoting.proofs.Marks.{rest-counted}
-use Rattle.judging.proofs.Answering.{Passed, rows-stand, begun, stays, watchful-passed, refused-reply, refused-left, accepted-reply, accepted-left}
+use Rattle.judging.proofs.Answering.{Passed, rows-stand, tested-more, stays, watchful-passed}
 
 -- what is known where a quote passed every test but the last
 pub record Admitted (h : Head) (x : List ℕ) (t : Tables) (ws : List ℕ) : Type 0 where
@@ -53,12 +54,12 @@ pub record Admitted (h : Head) (x : List ℕ) (t : Tables) (ws : List ℕ) : Typ
   pub wide : length x ≡ h .dimensions
   pub below : h .newest < lastPosition
 
-pub admitted : (h : Head) (x : List ℕ) (t : Tables) (ws : List ℕ) → rowAnswer h x t ws ≡ Accepted → Admitted h x t ws
+pub admitted : (h : Head) (x : List ℕ) (t : Tables) (ws : List ℕ) → rowAnswer h x t ws ≡ 0 → Admitted h x t ws
 unfolding rowAnswer
 admitted h x t ws e =
     let p = watchful-passed h t ws _ e in
-    let c = accepted-passed (not (eqb (length x) (h .dimensions))) ColumnCount _ (p .2) in
-    let f = accepted-passed (leb lastPosition (h .newest)) TapeFull [] (c .1) in
+    let c = zero-passed _ _ _ (p .2) in
+    let f = zero-passed _ _ _ (c .1) in
     record {
       passed = p .0;
       untorn = p .1;
@@ -142,7 +143,7 @@ module _ (d directions g n : ℕ) (x : List ℕ) (t : Tables) where
 
 -- what is known once the rows are compared with the quote
 pub record Marked (h : Head) (x : List ℕ) (t : Tables) (ws : List ℕ) (f : Finding) (kept : List Bool) (places : List ℕ) : Type 0 where
-  pub accepted : rowAnswer h x t ws ≡ Accepted
+  pub accepted : rowAnswer h x t ws ≡ 0
   pub admitted : Admitted h x t ws
   pub eight : length ws ≡ 8
   pub finds : Finds h x (t .columns) (t .positions) f kept places
@@ -233,16 +234,16 @@ module _ {h : Head} {x : List ℕ} {t : Tables} {ws : List ℕ} {f : Finding} {k
   module _ {out after : List ℕ} {r : Reply} (w : Written h (f .rows) bytes out r after) where
     -- the room for the changes decides
     room-decides : roomAnswer (length out) bytes ≡ quoteAnswer h x t ws (length out)
-    unfolding rowAnswer quoteAnswer watchfulAnswer
-    room-decides = rw bytes-are (sym (first-more _ _ (v .accepted)))
+    unfolding rowAnswer quoteAnswer watchfulAnswer granted
+    room-decides = rw bytes-are (tested-more _ _ (sym (v .accepted)) refl refl)
 
-    reply-is : r ≡ quoteReply h x t ws (length out)
+    reply-is : outcome r ≡ quoteReply h x t ws (length out)
     unfolding quoteReply quoteHead quoteRows
     reply-is = w .reply ∙ rw (room-decides, rows-are, bytes-are)
 
-    answer-is : r .answer ≡ quoteAnswer h x t ws (length out)
+    answer-is : numberOf (r .answer) ≡ quoteAnswer h x t ws (length out)
     unfolding quoteReply replyOf
-    answer-is = ap Reply.answer reply-is
+    answer-is = ap Outcome.number reply-is
 
     out-is : after ≡ quoteOut h x t ws out
     unfolding quoteOut
@@ -258,12 +259,10 @@ module _ {h : Head} {x : List ℕ} {t : Tables} {ws : List ℕ} {f : Finding} {k
     unfolding quoteTables quoteRows
     quote-done e l = record { reply = reply-is; lent = accepted-left answer-is e t l; out = out-is }
 
--- what a quote leaves that is refused before its rows are marked
-module _ (h : Head) (x : List ℕ) (t : Tables) (ws out : List ℕ) {a : Answer} {k : Refusal} (e : a ≡ rowAnswer h x t ws) (f : a ≡ Refused k) where
-  answer-stays : a ≡ quoteAnswer h x t ws (length out)
-  unfolding rowAnswer quoteAnswer watchfulAnswer
-  answer-stays = stays _ _ e f
-
-  pub quote-refused : Quoted h x t ws out (record { answer = a; head = h; count = 0 }) t out
-  unfolding quoteReply quoteTables quoteOut
-  quote-refused = record { reply = refused-reply answer-stays f h _ _; lent = refused-left answer-stays f t _; out = refused-left answer-stays f out _ }
+-- a quote that is refused before its rows are marked leaves everything as it was
+pub quote-refused : (h : Head) (x : List ℕ) (t : Tables) (ws out : List ℕ) {a : Answer} {k : Refusal} → numberOf a ≡ rowAnswer h x t ws → a ≡ Refused k
+    → Quoted h x t ws out (record { answer = a; head = h; count = 0 }) t out
+unfolding rowAnswer quoteAnswer watchfulAnswer quoteReply quoteTables quoteOut
+quote-refused h x t ws out {a} e f =
+    let judged : numberOf a ≡ quoteAnswer h x t ws (length out) = stays _ _ e f refl in
+    record { reply = refused-reply judged f h _ _; lent = refused-left judged f t _; out = refused-left judged f out _ }

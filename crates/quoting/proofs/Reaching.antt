@@ -8,7 +8,6 @@ use mathlib.Core.List.{List, map, List·Memᴰ}
 use Rattle.lists.specs.Lists.{run}
 use Rattle.lists.proofs.Members.{into-map, of-map}
 use Rattle.lists.proofs.Runs.{into-run, of-run}
-use Rattle.head.specs.declared.Answer.{Answer}
 use Rattle.head.specs.declared.Head.{Head}
 use Rattle.head.specs.Heads.{freshHead}
 use Rattle.model.specs.Rows.{Row, Tables, rowAt, rowsIn}
@@ -17,7 +16,7 @@ use Rattle.model.specs.Reference.{Reference, unopened, rowsOf, headOf}
 use Rattle.model.specs.Calls.{Lent, World, Reached}
 use Rattle.model.proofs.Tables.{cells-counted}
 use Rattle.model.proofs.Sound.{rows-none, rows-few, rows-wide}
-use Rattle.model.proofs.Joined.{Faithful, some-capacity}
+use Rattle.model.proofs.Simulation.{Invariant, some-capacity}
 use Rattle.model.proofs.Reached.{reached-by, reached-judged, reached-names}
 use Rattle.rows.specs.Lent.{Cleared}
 use Rattle.rows.proofs.Clears.{cleared-all, cleared-filled}
@@ -28,7 +27,7 @@ use Rattle.quoting.specs.Stages.{Known}
 use Rattle.judging.proofs.Answering.{Passed}
 
 -- a quote on it is answered by its settings and the quote's own tests
-pub reached-answers : {h : Head} (x : List ℕ) {t : Tables} {ws : List ℕ} {a : Answer} → Reached (world h t ws) → a ≡ reachedAnswer h x → a ≡ rowAnswer h x t ws
+pub reached-answers : {h : Head} (x : List ℕ) {t : Tables} {ws : List ℕ} {a : ℕ} → Reached (world h t ws) → a ≡ reachedAnswer h x → a ≡ rowAnswer h x t ws
 unfolding rowAnswer reachedAnswer
 reached-answers {h} x r e = e ∙ sym (reached-judged (quoteTests h x) r)
 
@@ -38,15 +37,15 @@ unfolding headOf
 unopened-cleared l = rw (rows-none unopened refl) (cleared-all (freshHead 0 0 0) (l .tables))
 
 -- from then on it counts the rows that fill the tables
-faithful-cleared : (s : Reference) (l : Lent) → Faithful s l → Cleared (headOf s) (headOf s .rows) (l .tables)
+invariant-cleared : (s : Reference) (l : Lent) → Invariant s l → Cleared (headOf s) (headOf s .rows) (l .tables)
 unfolding headOf
-faithful-cleared s l f =
+invariant-cleared s l f =
     subst (Cleared (headOf s) (headOf s .rows)) (f .tables)
     (cleared-filled (headOf s) (rowsOf s) (l .tables) refl (rows-few s (some-capacity s l f)) (omega (arith, cells-counted (s .dimensions) (rowsOf s) (rows-wide s (f .wide)))))
 
 -- so only the places of the rows are in use
 reached-cleared : {w : World} → Reached w → Cleared (w .head) (w .head .rows) (w .lent .tables)
-reached-cleared = reached-by (λ w. Cleared (w .head) (w .head .rows) (w .lent .tables)) unopened-cleared faithful-cleared
+reached-cleared = reached-by (λ w. Cleared (w .head) (w .head .rows) (w .lent .tables)) unopened-cleared invariant-cleared
 
 -- each lower end is 0 or names a row
 reached-named : {w : World} → Reached w → Named (w .lent .tables .positions) (w .lent .tables .lowerEnds) (w .head .rows)

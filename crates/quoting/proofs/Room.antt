@@ -12,8 +12,10 @@ use Rattle.head.specs.declared.Head.{Head}
 use Rattle.head.specs.declared.Answer.the-variants.{Accepted, Refused}
 use Rattle.head.specs.declared.Refusal.the-variants.{ShortOutput}
 use Rattle.head.specs.Heads.{afterQuote}
-use Rattle.head.proofs.Answers.{first-holds, first-fails}
-use Rattle.judging.proofs.Answering.{begun, refused-reply, refused-left, accepted-reply, accepted-left}
+use Rattle.head.specs.Refusals.{number, numberOf}
+use Rattle.head.proofs.Numbers.{firstOf-holds, firstOf-fails}
+use Rattle.model.proofs.Replying.{refused-reply, refused-left, accepted-reply, accepted-left}
+use Rattle.judging.proofs.Answering.{begun}
 use Rattle.quoting.specs.Stages.{roomAnswer, Written}
 
 -- 57,400 bytes are room enough for no more than that
@@ -28,12 +30,12 @@ module _ (bytes before : List ℕ) {over : Bool} (o : over ≡ ltb (length befor
   -- what is left where the changes do not fit
   pub written-none : {h : Head} {rows : ℕ} → over ≡ true → Written h rows bytes before (record { answer = Refused ShortOutput; head = h; count = 0 }) before
   written-none {h} f =
-      let e : Refused ShortOutput ≡ roomAnswer (length before) bytes = sym (first-holds (ltb (length before) (length bytes)) ShortOutput [] (sym o ∙ f)) in
-      record { reply = refused-reply e refl h _ _; out = refused-left e refl before _ }
+      let e : numberOf (Refused ShortOutput) ≡ roomAnswer (length before) bytes = sym (firstOf-holds (ltb (length before) (length bytes)) (number ShortOutput) [] (sym o ∙ f)) in
+      record { reply = refused-reply {a = Refused ShortOutput} e refl h _ _; out = refused-left {a = Refused ShortOutput} e refl before _ }
 
   -- what is left once they are written
   pub written-all : {h next : Head} {rows count : ℕ} {after : List ℕ} → over ≡ false → next ≡ afterQuote h rows → count ≡ length bytes → after ≡ laid bytes before
       → Written h rows bytes before (record { answer = Accepted; head = next; count = count }) after
   written-all {h} f d c l =
-      let e : Accepted ≡ roomAnswer (length before) bytes = begun ∙ sym (first-fails (ltb (length before) (length bytes)) ShortOutput [] (sym o ∙ f)) in
+      let e : numberOf Accepted ≡ roomAnswer (length before) bytes = begun ∙ sym (firstOf-fails (ltb (length before) (length bytes)) (number ShortOutput) [] (sym o ∙ f)) in
       record { reply = accepted-reply e refl h d c; out = accepted-left e refl before l }

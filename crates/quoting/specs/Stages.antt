@@ -7,12 +7,12 @@ use lib.Dec.{ltb}
 use lib.ListN.{length, take}
 use Rattle.lists.specs.Lists.{laid}
 use Rattle.skyline.specs.Skyline.{windowStart}
-use Rattle.head.specs.declared.Answer.{Answer}
 use Rattle.head.specs.declared.Head.{Head}
 use Rattle.head.specs.declared.Reply.{Reply}
 use Rattle.head.specs.declared.Refusal.the-variants.{ShortOutput}
 use Rattle.head.specs.Heads.{lastPosition, afterQuote}
-use Rattle.head.specs.Refusals.{first, settled}
+use Rattle.head.specs.Refusals.{number, firstOf, granted}
+use Rattle.head.specs.Replies.{outcome}
 use Rattle.model.specs.Rows.{Tables}
 use Rattle.model.specs.Book.{bookRows, tornWatches, replyOf}
 use Rattle.model.specs.Promises.{tables}
@@ -59,14 +59,14 @@ pub record Writable (h : Head) (f : Finding) (unknown : ℕ) (kept : List Bool) 
   pub expired : f .gone ≤ windowStart (h .newest) (h .capacity)
   pub most : length (foundBytes h f kept positions lowers ws) ≤ 57400
 
--- the last test of a quote whose changes are these bytes: 13
-abbrev pub roomAnswer : ℕ → List ℕ → Answer
-roomAnswer room bytes = first ((ltb room (length bytes), ShortOutput) ∷ [])
+-- the last test of a quote whose changes are these bytes, 0 if it is passed: 13
+abbrev pub roomAnswer : ℕ → List ℕ → ℕ
+roomAnswer room bytes = firstOf ((ltb room (length bytes), number ShortOutput) ∷ [])
 
 -- what the changes leave: they are written if they fit
 pub record Written (h : Head) (rows : ℕ) (bytes before : List ℕ) (r : Reply) (after : List ℕ) : Type 0 where
-  pub reply : r ≡ replyOf (roomAnswer (length before) bytes) h (afterQuote h rows) (length bytes)
-  pub out : after ≡ settled (roomAnswer (length before) bytes) (laid bytes before) before
+  pub reply : outcome r ≡ replyOf (roomAnswer (length before) bytes) h (afterQuote h rows) (length bytes)
+  pub out : after ≡ granted (roomAnswer (length before) bytes) (laid bytes before) before
 
 -- only the first of a book's places, so many, may hold what no call left: behind them and the rows stand zeros, and where there are
 -- none each lower end is 0 or names a row

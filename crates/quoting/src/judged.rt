@@ -1,6 +1,6 @@
 // The judgement of a quote but for the output, on any tables and on a book that calls left.
 ghost use mathlib.Core.Path.{_≡_};
-ghost use Rattle.head.specs.Refusals.{first, settled};
+ghost use Rattle.head.specs.Refusals.{numberOf, firstOf, granted};
 ghost use Rattle.model.specs.Promises.{tables};
 ghost use Rattle.quoting.specs.Answers.{quoteTests, rowAnswer, reachedAnswer};
 use head::Answer;
@@ -12,7 +12,7 @@ use judging::with_test;
 
 // An answer with the tests of the quote itself behind it: 4, 6.
 fn with_quote(answer: Answer, head: Head, quote: &[u32]) -> Answer
-    ensures { λ r. ⌜ r ≡ settled answer (first (quoteTests head (now (quote .entry)))) answer ⌝ }
+    ensures { λ r. ⌜ numberOf r ≡ granted (numberOf answer) (firstOf (quoteTests head (now (quote .entry)))) (numberOf answer) ⌝ }
 {
     let d = head.dimensions as usize;
     let wide = with_test(answer, quote.len() != d, Refusal::ColumnCount);
@@ -28,7 +28,7 @@ pub fn judge_row(
     lower_ends: &[u32],
     watches: [u32; 8],
 ) -> Answer
-    ensures { λ r. ⌜ r ≡ rowAnswer head (now (quote .entry)) (tables (now (columns .entry)) (now (positions .entry)) (now («lower_ends» .entry))) watches ⌝ }
+    ensures { λ r. ⌜ numberOf r ≡ rowAnswer head (now (quote .entry)) (tables (now (columns .entry)) (now (positions .entry)) (now («lower_ends» .entry))) watches ⌝ }
 {
     let judged = judge_watchful(head, columns, positions, lower_ends, watches);
     with_quote(judged, head, quote)
@@ -36,7 +36,7 @@ pub fn judge_row(
 
 // The answer of a quote on a book that calls left, but for the output: 3, 4, 6.
 pub fn judge_reached(head: Head, quote: &[u32]) -> Answer
-    ensures { λ r. ⌜ r ≡ reachedAnswer head (now (quote .entry)) ⌝ }
+    ensures { λ r. ⌜ numberOf r ≡ reachedAnswer head (now (quote .entry)) ⌝ }
 {
     with_quote(judge_settings(head), head, quote)
 }

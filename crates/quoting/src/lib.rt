@@ -2,7 +2,6 @@
 ghost use Prim.Native.Nat.{_≤_};
 ghost use mathlib.Core.Path.{_≡_};
 ghost use lib.ListN.{length};
-ghost use Rattle.head.specs.declared.Answer.the-variants.{Accepted};
 ghost use Rattle.model.specs.Calls.{Reached};
 ghost use Rattle.model.specs.Promises.{tables, world, Quoted};
 ghost use Rattle.quoting.specs.Answers.{rowAnswer};
@@ -48,7 +47,7 @@ fn enter(
 ) -> Reply
     requires { ⌜ head .rows ≤ length (now keep) ⌝ }
     requires { ⌜ head .rows ≤ length (now places) ⌝ }
-    requires { ⌜ rowAnswer head (now quote) (tables (now columns) (now positions) (now «lower_ends»)) watches ≡ Accepted ⌝ }
+    requires { ⌜ rowAnswer head (now quote) (tables (now columns) (now positions) (now «lower_ends»)) watches ≡ 0 ⌝ }
     requires { ⌜ Known head unknown (tables (now columns) (now positions) (now «lower_ends»)) ⌝ }
     ensures { λ r. ⌜ Quoted head (now (quote .entry)) (tables (now (columns .entry)) (now (positions .entry)) (now («lower_ends» .entry))) watches (now (out .entry)) r (tables (now (columns .exit)) (now (positions .exit)) (now («lower_ends» .exit))) (now (out .exit)) ⌝ }
 {

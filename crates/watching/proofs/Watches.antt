@@ -1,27 +1,27 @@
 -- A watch on a book: the joins of its list, its answer, and what it leaves.
-use mathlib.Core.Path.{_≡_, sym, _∙_}
+use mathlib.Core.Path.{_≡_}
 use Prim.Native.Nat.{ℕ, _*_, _≤_, _<_}
 use mathlib.Core.Bool.{false}
 use mathlib.Core.List.{List, map}
-use lib.Dec.{ltb, leb}
+use lib.Dec.{ltb}
 use lib.ListN.{length}
 use borrow.Author.Tests.{ltb-false, leb-false}
-use Rattle.lists.specs.Lists.{contains, insert, laid, padded}
+use Rattle.lists.specs.Lists.{insert, laid, padded}
 use Rattle.skyline.specs.Skyline.{windowStart}
 use Rattle.head.specs.declared.Head.{Head}
 use Rattle.head.specs.declared.Answer.{Answer}
 use Rattle.head.specs.declared.Answer.the-variants.{Accepted, Refused}
 use Rattle.head.specs.declared.Refusal.{Refusal}
-use Rattle.head.specs.declared.Refusal.the-variants.{WindowSize, AlreadyWatched, NoFreeRecord, ShortOutput}
-use Rattle.head.proofs.Answers.{accepted-passed}
-use Rattle.frames.specs.declared.Message.the-variants.{Join}
+use Rattle.head.specs.Refusals.{numberOf}
+use Rattle.head.proofs.Numbers.{zero-passed, accepted-number}
 use Rattle.model.specs.Rows.{Tables, listed}
-use Rattle.model.specs.Changes.{frames}
-use Rattle.model.specs.Book.{tornWatches, standing, bookRows, listOf, outOfRange, watchBytes, watchAnswer, watchReply, watchWatches, watchOut}
+use Rattle.model.specs.Changes.{join, frames}
+use Rattle.model.specs.Book.{tornWatches, standing, bookRows, listOf, watchBytes, watchAnswer, watchReply, watchWatches, watchOut}
+use Rattle.model.proofs.Replying.{refused-reply, refused-left, accepted-reply, accepted-left}
 use Rattle.changes.specs.Picked.{bareRows}
 use Rattle.changes.proofs.Framing.{joins-length}
 use Rattle.model.specs.Promises.{Watched}
-use Rattle.judging.proofs.Answering.{Passed, InRange, rows-stand, in-range, watchful-passed, refused-reply, refused-left, accepted-reply, accepted-left}
+use Rattle.judging.proofs.Answering.{Passed, InRange, rows-stand, in-range, watchful-passed}
 use Rattle.looking.proofs.Listing.{list-cells}
 
 -- what is known where a watch is accepted
@@ -39,15 +39,15 @@ module _ (h : Head) (n : ℕ) (t : Tables) (ws : List ℕ) where
   unfolding watchBytes
   joins-room room s c = rw (c, list-cells h t n s, joins-length n (listOf h (bookRows h t) n))
 
-  pub watch-free : {room : ℕ} {a : Answer} → a ≡ watchAnswer h n t ws room → a ≡ Accepted → Free h n t ws room
+  pub watch-free : {room : ℕ} {a : Answer} → numberOf a ≡ watchAnswer h n t ws room → a ≡ Accepted → Free h n t ws room
   unfolding watchAnswer watchBytes
-  watch-free {room} e f =
-      let p = watchful-passed h t ws _ (sym e ∙ f) in
-      let s = accepted-passed (outOfRange h n) WindowSize _ (p .2) in
-      let w = accepted-passed (contains n (standing ws)) AlreadyWatched _ (s .1) in
-      let r = accepted-passed (leb 8 (length (standing ws))) NoFreeRecord _ (w .1) in
-      let bytes = frames (map (Join n) (listOf h (bookRows h t) n)) in
-      let o = accepted-passed (ltb room (length bytes)) ShortOutput _ (r .1) in
+  watch-free {room} {a} e f =
+      let p = watchful-passed h t ws _ (accepted-number a e f) in
+      let s = zero-passed _ _ _ (p .2) in
+      let w = zero-passed _ _ _ (s .1) in
+      let r = zero-passed _ _ _ (w .1) in
+      let bytes = frames (map (join n) (listOf h (bookRows h t) n)) in
+      let o = zero-passed _ _ _ (r .1) in
       record {
         passed = p .0;
         range = in-range h n (s .0);
@@ -63,7 +63,7 @@ module _ (h : Head) (n : ℕ) (t : Tables) (ws : List ℕ) where
       let stand = rows-stand h t (v .passed) in
       (stand .0, (stand .1, rw (list-cells h t n s) (v .fits)))
 
-  module _ (out : List ℕ) {a : Answer} (e : a ≡ watchAnswer h n t ws (length out)) where
+  module _ (out : List ℕ) {a : Answer} (e : numberOf a ≡ watchAnswer h n t ws (length out)) where
     -- what a refused watch leaves
     pub watch-refused : {k : Refusal} → a ≡ Refused k → Watched h n t ws out (record { answer = a; head = h; count = 0 }) ws out
     unfolding watchReply watchWatches watchOut
@@ -76,8 +76,8 @@ module _ (h : Head) (n : ℕ) (t : Tables) (ws : List ℕ) where
 
     -- what an accepted watch leaves
     pub watch-done : {start count : ℕ} {head : Head} {ws' after : List ℕ} → a ≡ Accepted → start ≡ windowStart (h .newest) n
-        → count ≡ length (frames (map (Join n) (listed start (bareRows (t .positions) (t .lowerEnds) (h .rows)))))
-        → after ≡ laid (frames (map (Join n) (listed start (bareRows (t .positions) (t .lowerEnds) (h .rows))))) out
+        → count ≡ length (frames (map (join n) (listed start (bareRows (t .positions) (t .lowerEnds) (h .rows)))))
+        → after ≡ laid (frames (map (join n) (listed start (bareRows (t .positions) (t .lowerEnds) (h .rows))))) out
         → head ≡ h → ws' ≡ padded 8 (insert n (standing ws)) ws → Watched h n t ws out (record { answer = a; head = head; count = count }) ws' after
     unfolding watchReply watchWatches watchOut watchBytes
     watch-done f s c l d w =

@@ -4,13 +4,14 @@ use mathlib.Core.List.{List, [], _∷_}
 use lib.Dec.{leb}
 use lib.ListN.{length}
 use Rattle.lists.specs.Lists.{contains}
-use Rattle.head.specs.declared.Answer.{Answer}
 use Rattle.head.specs.declared.Head.{Head}
 use Rattle.head.specs.declared.Refusal.the-variants.{WindowSize, AlreadyWatched, NoFreeRecord}
+use Rattle.head.specs.Refusals.{number}
 use Rattle.model.specs.Rows.{Tables}
 use Rattle.model.specs.Book
 
--- the answer of a watch of n but for the output: 3, 11, 12, 5, 8, 9
-unfoldable pub recordAnswer : Head → ℕ → Tables → List ℕ → Answer
+-- the answer of a watch of n but for the output, 0 if accepted: 3, 11, 12, 5, 8, 9
+unfoldable pub recordAnswer : Head → ℕ → Tables → List ℕ → ℕ
 recordAnswer h n t ws =
-    Book.watchfulAnswer h t ws ((Book.outOfRange h n, WindowSize) ∷ (contains n (Book.standing ws), AlreadyWatched) ∷ (leb 8 (length (Book.standing ws)), NoFreeRecord) ∷ [])
+    Book.watchfulAnswer h t ws ((Book.outOfRange h n, number WindowSize) ∷ (contains n (Book.standing ws), number AlreadyWatched)
+    ∷ (leb 8 (length (Book.standing ws)), number NoFreeRecord) ∷ [])

@@ -2,6 +2,7 @@
 ghost use mathlib.Core.Path.{_≡_};
 ghost use mathlib.Core.List.{[], _∷_};
 ghost use Rattle.head.specs.declared.Refusal.the-variants.{WindowSize};
+ghost use Rattle.head.specs.Refusals.{number, numberOf};
 ghost use Rattle.model.specs.Book.{watchfulAnswer, outOfRange, watchAnswer, endAnswer};
 ghost use Rattle.model.specs.Promises.{tables, Watched, Ended};
 ghost use Rattle.watching.specs.Answers.{recordAnswer};
@@ -30,7 +31,7 @@ fn judge_watch_size(
     lower_ends: &[u32],
     watches: [u32; 8],
 ) -> Answer
-    ensures { λ r. ⌜ r ≡ watchfulAnswer head (tables (now (columns .entry)) (now (positions .entry)) (now («lower_ends» .entry))) watches ((outOfRange head n, WindowSize) ∷ []) ⌝ }
+    ensures { λ r. ⌜ numberOf r ≡ watchfulAnswer head (tables (now (columns .entry)) (now (positions .entry)) (now («lower_ends» .entry))) watches ((outOfRange head n, number WindowSize) ∷ []) ⌝ }
 {
     with_test(
         judge_watchful(head, columns, positions, lower_ends, watches),
@@ -48,7 +49,7 @@ fn judge_end(
     lower_ends: &[u32],
     watches: [u32; 8],
 ) -> Answer
-    ensures { λ r. ⌜ r ≡ endAnswer head n (tables (now (columns .entry)) (now (positions .entry)) (now («lower_ends» .entry))) watches ⌝ }
+    ensures { λ r. ⌜ numberOf r ≡ endAnswer head n (tables (now (columns .entry)) (now (positions .entry)) (now («lower_ends» .entry))) watches ⌝ }
 {
     let answer = judge_watch_size(head, n, columns, positions, lower_ends, watches);
     with_test(answer, !find(watches, n), Refusal::NotWatched)
@@ -63,7 +64,7 @@ fn judge_record(
     lower_ends: &[u32],
     watches: [u32; 8],
 ) -> Answer
-    ensures { λ r. ⌜ r ≡ recordAnswer head n (tables (now (columns .entry)) (now (positions .entry)) (now («lower_ends» .entry))) watches ⌝ }
+    ensures { λ r. ⌜ numberOf r ≡ recordAnswer head n (tables (now (columns .entry)) (now (positions .entry)) (now («lower_ends» .entry))) watches ⌝ }
 {
     let sized = judge_watch_size(head, n, columns, positions, lower_ends, watches);
     let answer = with_test(sized, find(watches, n), Refusal::AlreadyWatched);
@@ -80,7 +81,7 @@ fn judge_watch(
     watches: [u32; 8],
     room: usize,
 ) -> Answer
-    ensures { λ r. ⌜ r ≡ watchAnswer head n (tables (now (columns .entry)) (now (positions .entry)) (now («lower_ends» .entry))) watches room ⌝ }
+    ensures { λ r. ⌜ numberOf r ≡ watchAnswer head n (tables (now (columns .entry)) (now (positions .entry)) (now («lower_ends» .entry))) watches room ⌝ }
 {
     let answer = judge_record(head, n, columns, positions, lower_ends, watches);
     match answer {

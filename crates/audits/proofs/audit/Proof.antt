@@ -1,8 +1,8 @@
--- `audit` meets its contract: each return is one case of the verdict.
+-- `audit` meets its contract: each return is one case of what the audit finds.
 use mathlib.Core.Path.{sym, _∙_}
 use borrow.Author.Needs.{needs}
 use borrow.Author.Tests.{not-true, not-false}
-use Rattle.model.specs.Audit.{verdictOf}
+use Rattle.model.specs.Audit.{findingOf}
 use Rattle.judging.proofs.Answering.{long-enough}
 use Rattle.audits.proofs.Verdicts.{wrong-settings, too-short, by-rules}
 use Rattle.audits.proofs.audit.Statement.{statement}
@@ -29,14 +29,14 @@ meets-rules-requires c κs =
     (room .columns, (room .positions, room .lowerEnds))
 
 returns-3 : tie.Need-returns-3
-unfolding verdictOf
+unfolding findingOf
 returns-3 c =
     sym (
     by-rules _ _ (sym (c .before .before .before .before .before .settings-hold .ensures) ∙ not-false _ (c .before .before .before .before .if1 .left)) (sym (c .before .before .before .short-tables .ensures) ∙ c .before .before .if2 .left) _ (sym (c .before .meets-rules .ensures) ∙ c .if3 .taken)
     )
 
 returns-4 : tie.Need-returns-4
-unfolding verdictOf
+unfolding findingOf
 returns-4 c =
     sym (
     by-rules _ _ (sym (c .before .before .before .before .before .settings-hold .ensures) ∙ not-false _ (c .before .before .before .before .if1 .left)) (sym (c .before .before .before .short-tables .ensures) ∙ c .before .before .if2 .left) _ (sym (c .before .meets-rules .ensures) ∙ c .if3 .left)

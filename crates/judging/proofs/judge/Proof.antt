@@ -1,6 +1,7 @@
 -- `judge` meets its contract: torn rows are sought where the settings and lengths pass.
-use mathlib.Core.Path.{sym, _∙_}
+use mathlib.Core.Path.{refl, _∙_}
 use borrow.Author.Needs.{needs}
+use Rattle.head.proofs.Numbers.{accepted-number}
 use Rattle.model.specs.Book.{answerOf}
 use Rattle.rows.proofs.Torn.{torn-columns}
 use Rattle.judging.specs.Answers.{loanAnswer}
@@ -19,11 +20,11 @@ enum-told-2 c = search needs
 
 returns : tie.Need-returns
 unfolding loanAnswer answerOf
-returns c = stays _ _ (c .before .before .judge-loan .ensures) (c .enum-told2 .given .1)
+returns c = stays _ _ (c .before .before .judge-loan .ensures) (c .enum-told2 .given .1) refl
 
 torn-rows-requires : tie.Need-torn-rows-requires
 torn-rows-requires c κs =
-    let long = loan-passed _ _ (sym (c .before .before .judge-loan .ensures) ∙ c .enum-told .given .1) .1 in
+    let long = loan-passed _ _ (accepted-number _ (c .before .before .judge-loan .ensures) (c .enum-told .given .1)) .1 in
     (long .positions, long .lowerEnds)
 
 with-test-requires : tie.Need-with-test-requires
@@ -32,7 +33,7 @@ with-test-requires c κs = search needs
 returns-2 : tie.Need-returns-2
 unfolding loanAnswer answerOf
 returns-2 c =
-    tested _ _ _ (c .before .before .before .before .judge-loan .ensures) (c .before .torn-rows .ensures ∙ torn-columns _ _ _ _ _) (c .with-test .ensures)
+    tested _ _ _ (c .before .before .before .before .judge-loan .ensures) (c .before .torn-rows .ensures ∙ torn-columns _ _ _ _ _) (c .with-test .ensures) refl
 
 pub judge-spec : {M : Type 1} → statement M
 judge-spec =

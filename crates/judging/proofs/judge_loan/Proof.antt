@@ -1,4 +1,5 @@
 -- `judge_loan` meets its contract: the lengths are tested behind the settings.
+use mathlib.Core.Path.{refl}
 use borrow.Author.Needs.{needs}
 use Rattle.judging.specs.Answers.{loanAnswer}
 use Rattle.judging.proofs.Answering.{tested}
@@ -16,7 +17,7 @@ with-test-requires c κs = search needs
 
 returns : tie.Need-returns
 unfolding loanAnswer
-returns c = tested _ _ _ (c .before .before .judge-settings .ensures) (c .before .short-tables .ensures) (c .with-test .ensures)
+returns c = tested _ _ _ (c .before .before .judge-settings .ensures) (c .before .short-tables .ensures) (c .with-test .ensures) refl
 
 pub judge-loan-spec : {M : Type 1} → statement M
 judge-loan-spec =

@@ -1,5 +1,5 @@
 -- `judge_settings` meets its contract: the settings alone are tested.
-use mathlib.Core.Path.{ap}
+use mathlib.Core.Path.{refl, ap}
 use mathlib.Core.Bool.{not}
 use mathlib.Core.List.{[]}
 use borrow.Author.Needs.{needs}
@@ -14,7 +14,7 @@ with-test-requires : tie.Need-with-test-requires
 with-test-requires c κs = search needs
 
 returns : tie.Need-returns
-returns c = tested [] _ _ begun (ap not (c .before .settings-hold .ensures)) (c .with-test .ensures)
+returns c = tested [] _ _ begun (ap not (c .before .settings-hold .ensures)) (c .with-test .ensures) refl
 
 pub judge-settings-spec : {M : Type 1} → statement M
 judge-settings-spec = tie.close (tie.spec settings-hold-requires with-test-requires returns)

@@ -1,6 +1,8 @@
 -- `with_test` meets its contract: a refusal stays, and an acceptance goes by the test.
+use mathlib.Core.Path.{sym}
 use borrow.Author.Needs.{needs}
-use Rattle.head.specs.Refusals.{first, settled}
+use Rattle.head.specs.Refusals.{firstOf, granted}
+use Rattle.head.proofs.Numbers.{refused-granted}
 use Rattle.judging.proofs.with_test.Statement.{statement}
 use Rattle.judging.proofs.with_test.Tie as tie
 
@@ -11,15 +13,14 @@ enum-told-2 : tie.Need-enum-told-2
 enum-told-2 c = search needs
 
 returns : tie.Need-returns
-unfolding settled
-returns c = rw (c .enum-told2 .given .1)
+returns c = rw (c .enum-told2 .given .1) (sym (refused-granted (c .enum-told2 .given .0 .0) _ _))
 
 returns-2 : tie.Need-returns-2
-unfolding settled first
+unfolding granted firstOf
 returns-2 c = rw (c .before .enum-told .given .1, c .if1 .taken)
 
 returns-3 : tie.Need-returns-3
-unfolding settled first
+unfolding granted firstOf
 returns-3 c = rw (c .before .enum-told .given .1, c .if1 .left)
 
 pub with-test-spec : {M : Type 1} → statement M

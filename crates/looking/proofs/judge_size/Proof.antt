@@ -1,4 +1,5 @@
 -- `judge_size` meets its contract: the test of n stands behind those of the tables.
+use mathlib.Core.Path.{refl}
 use borrow.Author.Needs.{needs}
 use Rattle.model.specs.Book.{answerOf}
 use Rattle.judging.proofs.Answering.{tested}
@@ -16,7 +17,7 @@ with-test-requires c κs = search needs
 
 returns : tie.Need-returns
 unfolding answerOf
-returns c = tested _ _ _ (c .before .before .judge .ensures) (c .before .out-of-range .ensures) (c .with-test .ensures)
+returns c = tested _ _ _ (c .before .before .judge .ensures) (c .before .out-of-range .ensures) (c .with-test .ensures) refl
 
 pub judge-size-spec : {M : Type 1} → statement M
 judge-size-spec = tie.close (tie.spec judge-requires out-of-range-requires with-test-requires returns)

@@ -1,7 +1,8 @@
 -- `quote` meets its contract: it is judged, and takes the tables for any.
-use mathlib.Core.Path.{refl, sym, _∙_}
+use mathlib.Core.Path.{refl}
 use native.Mathlib.Omega.{arith}
 use borrow.Author.Needs.{needs}
+use Rattle.head.proofs.Numbers.{accepted-number}
 use Rattle.quoting.proofs.Quotes.{admitted, few-rows, quote-refused}
 use Rattle.quoting.proofs.Reaching.{any-known}
 use Rattle.quoting.proofs.quote.Statement.{statement}
@@ -44,7 +45,7 @@ slice-aggregate-enter-2 c = search needs
 enter-requires : tie.Need-enter-requires
 enter-requires c κs =
     let judged = c .before .before .before .before .before .before .before .before .before .before in
-    let accepted = sym (judged .judge-row .ensures) ∙ c .before .before .before .before .before .before .before .before .enum-told .given .1 in
+    let accepted = accepted-number _ (judged .judge-row .ensures) (c .before .before .before .before .before .before .before .before .enum-told .given .1) in
     let known = admitted _ _ _ _ accepted in
     let test = c .before .before .before .before .before .before .if1 in
     (omega (arith, few-rows known), (omega (arith, few-rows known), (accepted, any-known (known .passed))))
@@ -73,7 +74,7 @@ slice-aggregate-enter-4 c = search needs
 enter-requires-2 : tie.Need-enter-requires-2
 enter-requires-2 c κs =
     let judged = c .before .before .before .before .before .before .before .before .before .before in
-    let accepted = sym (judged .judge-row .ensures) ∙ c .before .before .before .before .before .before .before .before .enum-told .given .1 in
+    let accepted = accepted-number _ (judged .judge-row .ensures) (c .before .before .before .before .before .before .before .before .enum-told .given .1) in
     let known = admitted _ _ _ _ accepted in
     let test = c .before .before .before .before .before .before .if1 in
     (omega (arith, few-rows known), (omega (arith, few-rows known), (accepted, any-known (known .passed))))

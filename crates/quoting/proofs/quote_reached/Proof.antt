@@ -1,7 +1,7 @@
 -- `quote_reached` meets its contract: a book that calls left is answered by the settings and the quote.
-use mathlib.Core.Path.{sym, _∙_}
 use native.Mathlib.Omega.{arith}
 use borrow.Author.Needs.{needs}
+use Rattle.head.proofs.Numbers.{accepted-number}
 use Rattle.quoting.proofs.Quotes.{admitted, few-rows, quote-refused}
 use Rattle.quoting.proofs.Reaching.{reached-answers, reached-known}
 use Rattle.quoting.proofs.quote_reached.Statement.{statement}
@@ -35,7 +35,8 @@ slice-aggregate-enter-2 c = search needs
 enter-requires : tie.Need-enter-requires
 enter-requires c κs =
     let reached = c .before .before .before .before .before .before .before .before .before .before .before .before .before .before .before .before .pre in
-    let accepted = sym (reached-answers _ reached (c .before .before .before .before .before .before .before .before .before .before .judge-reached .ensures)) ∙ c .before .before .before .before .before .before .before .before .enum-told .given .1 in
+    let judged = reached-answers _ reached (c .before .before .before .before .before .before .before .before .before .before .judge-reached .ensures) in
+    let accepted = accepted-number _ judged (c .before .before .before .before .before .before .before .before .enum-told .given .1) in
     let known = admitted _ _ _ _ accepted in
     let test = c .before .before .before .before .before .before .if1 in
     (omega (arith, few-rows known), (omega (arith, few-rows known), (accepted, reached-known reached)))
@@ -64,7 +65,8 @@ slice-aggregate-enter-4 c = search needs
 enter-requires-2 : tie.Need-enter-requires-2
 enter-requires-2 c κs =
     let reached = c .before .before .before .before .before .before .before .before .before .before .before .before .before .before .before .before .pre in
-    let accepted = sym (reached-answers _ reached (c .before .before .before .before .before .before .before .before .before .before .judge-reached .ensures)) ∙ c .before .before .before .before .before .before .before .before .enum-told .given .1 in
+    let judged = reached-answers _ reached (c .before .before .before .before .before .before .before .before .before .before .judge-reached .ensures) in
+    let accepted = accepted-number _ judged (c .before .before .before .before .before .before .before .before .enum-told .given .1) in
     let known = admitted _ _ _ _ accepted in
     let test = c .before .before .before .before .before .before .if1 in
     (omega (arith, few-rows known), (omega (arith, few-rows known), (accepted, reached-known reached)))

@@ -2,7 +2,7 @@
 use mathlib.Core.Path.{refl}
 use borrow.Author.Needs.{needs}
 use Rattle.model.specs.Book.{endReply, endWatches}
-use Rattle.judging.proofs.Answering.{refused-reply, refused-left, accepted-reply, accepted-left}
+use Rattle.model.proofs.Replying.{refused-reply, refused-left, accepted-reply, accepted-left}
 use Rattle.watching.proofs.end.Statement.{statement}
 use Rattle.watching.proofs.end.Tie as tie
 

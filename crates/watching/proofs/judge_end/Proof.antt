@@ -1,5 +1,5 @@
 -- `judge_end` meets its contract: the watches are searched behind the other tests.
-use mathlib.Core.Path.{ap}
+use mathlib.Core.Path.{refl, ap}
 use mathlib.Core.Bool.{not}
 use borrow.Author.Needs.{needs}
 use Rattle.model.specs.Book.{watchfulAnswer, endAnswer}
@@ -18,7 +18,7 @@ with-test-requires c κs = search needs
 
 returns : tie.Need-returns
 unfolding watchfulAnswer endAnswer
-returns c = tested _ _ _ (c .before .before .judge-watch-size .ensures) (ap not (c .before .find .ensures)) (c .with-test .ensures)
+returns c = tested _ _ _ (c .before .before .judge-watch-size .ensures) (ap not (c .before .find .ensures)) (c .with-test .ensures) refl
 
 pub judge-end-spec : {M : Type 1} → statement M
 judge-end-spec = tie.close (tie.spec judge-watch-size-requires find-requires with-test-requires returns)

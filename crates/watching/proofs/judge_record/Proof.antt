@@ -1,5 +1,5 @@
 -- `judge_record` meets its contract: the watches are searched and counted behind the other tests.
-use mathlib.Core.Path.{ap}
+use mathlib.Core.Path.{refl, ap}
 use borrow.Author.Needs.{needs}
 use lib.Dec.{leb}
 use Rattle.model.specs.Book.{watchfulAnswer}
@@ -27,8 +27,8 @@ returns : tie.Need-returns
 unfolding watchfulAnswer recordAnswer
 returns c =
     let known = c .before .before in
-    tested _ _ _ (tested _ _ _ (known .before .before .judge-watch-size .ensures) (known .before .find .ensures) (known .with-test .ensures))
-    (ap (leb 8) (c .before .standing-count .ensures)) (c .with-test2 .ensures)
+    tested _ _ _ (tested _ _ _ (known .before .before .judge-watch-size .ensures) (known .before .find .ensures) (known .with-test .ensures) refl)
+    (ap (leb 8) (c .before .standing-count .ensures)) (c .with-test2 .ensures) refl
 
 pub judge-record-spec : {M : Type 1} → statement M
 judge-record-spec =

@@ -1,4 +1,5 @@
 -- `judge_watch_size` meets its contract: the test of n stands behind those of the tables and watches.
+use mathlib.Core.Path.{refl}
 use borrow.Author.Needs.{needs}
 use Rattle.model.specs.Book.{watchfulAnswer}
 use Rattle.judging.proofs.Answering.{tested}
@@ -16,7 +17,7 @@ with-test-requires c κs = search needs
 
 returns : tie.Need-returns
 unfolding watchfulAnswer
-returns c = tested _ _ _ (c .before .before .judge-watchful .ensures) (c .before .out-of-range .ensures) (c .with-test .ensures)
+returns c = tested _ _ _ (c .before .before .judge-watchful .ensures) (c .before .out-of-range .ensures) (c .with-test .ensures) refl
 
 pub judge-watch-size-spec : {M : Type 1} → statement M
 judge-watch-size-spec =

@@ -1,4 +1,5 @@
 -- `judge_reached` meets its contract: the quote is tested behind the settings.
+use mathlib.Core.Path.{refl}
 use borrow.Author.Needs.{needs}
 use Rattle.quoting.specs.Answers.{reachedAnswer}
 use Rattle.judging.proofs.Answering.{tested-more}
@@ -13,7 +14,7 @@ with-quote-requires c κs = search needs
 
 returns : tie.Need-returns
 unfolding reachedAnswer
-returns c = tested-more _ _ (c .before .judge-settings .ensures) (c .with-quote .ensures)
+returns c = tested-more _ _ (c .before .judge-settings .ensures) (c .with-quote .ensures) refl
 
 pub judge-reached-spec : {M : Type 1} → statement M
 judge-reached-spec = tie.close (tie.spec judge-settings-requires with-quote-requires returns)

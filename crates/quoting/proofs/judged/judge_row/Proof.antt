@@ -1,4 +1,5 @@
 -- `judge_row` meets its contract: the quote is tested behind the tables and watches.
+use mathlib.Core.Path.{refl}
 use borrow.Author.Needs.{needs}
 use Rattle.model.specs.Book.{watchfulAnswer}
 use Rattle.quoting.specs.Answers.{rowAnswer}
@@ -14,7 +15,7 @@ with-quote-requires c κs = search needs
 
 returns : tie.Need-returns
 unfolding rowAnswer watchfulAnswer
-returns c = tested-more _ _ (c .before .judge-watchful .ensures) (c .with-quote .ensures)
+returns c = tested-more _ _ (c .before .judge-watchful .ensures) (c .with-quote .ensures) refl
 
 pub judge-row-spec : {M : Type 1} → statement M
 judge-row-spec = tie.close (tie.spec judge-watchful-requires with-quote-requires returns)

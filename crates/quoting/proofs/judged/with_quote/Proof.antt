@@ -1,4 +1,5 @@
 -- `with_quote` meets its contract: the column count is tested, and behind it the position.
+use mathlib.Core.Path.{refl}
 use borrow.Author.Needs.{needs}
 use Rattle.judging.proofs.Answering.{tested-twice}
 use Rattle.quoting.proofs.judged.with_quote.Statement.{statement}
@@ -14,7 +15,7 @@ with-test-requires-2 : tie.Need-with-test-requires-2
 with-test-requires-2 c κs = search needs
 
 returns : tie.Need-returns
-returns c = tested-twice _ _ _ (c .before .before .with-test .ensures) (c .with-test2 .ensures)
+returns c = tested-twice _ _ _ (c .before .before .with-test .ensures) (c .with-test2 .ensures) refl
 
 pub with-quote-spec : {M : Type 1} → statement M
 with-quote-spec = tie.close (tie.spec cast-d with-test-requires with-test-requires-2 returns)
