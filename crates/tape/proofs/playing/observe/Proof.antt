@@ -1,11 +1,7 @@
 -- `observe` meets its contract, by the cases of the message.
-use native.Mathlib.Omega.{arith}
+use Rattle.tape.specs.Placing.{observed}
+use Rattle.tape.proofs.Plays.{nothing-observed, nothing-turned}
 use borrow.Author.Needs.{needs}
-use Rattle.printed.proofs.Decoding.{laid-nothing}
-use Rattle.tape.specs.Steps.{textRoom}
-use Rattle.tape.specs.Turns.{observed}
-use Rattle.tape.proofs.Turning.{look-turned, still-turned}
-use Rattle.tape.proofs.Plays.{nothing-observed}
 use Rattle.tape.proofs.playing.observe.Statement.{statement}
 use Rattle.tape.proofs.playing.observe.Tie as tie
 
@@ -16,8 +12,7 @@ cast-look : tie.Need-cast-look
 cast-look c = search needs
 
 look-requires : tie.Need-look-requires
-unfolding textRoom
-look-requires c κs = omega arith
+look-requires c κs = search needs
 
 enum-known-message-2 : tie.Need-enum-known-message-2
 enum-known-message-2 c = search needs
@@ -35,22 +30,20 @@ cast-end : tie.Need-cast-end
 cast-end c = search needs
 
 end-requires : tie.Need-end-requires
-unfolding textRoom
-end-requires c κs = omega arith
+end-requires c κs = search needs
 
 enum-known-message-4 : tie.Need-enum-known-message-4
 enum-known-message-4 c = search needs
 
-refuse-requires : tie.Need-refuse-requires
-unfolding textRoom
-refuse-requires c κs = omega arith
+put-refusal-requires : tie.Need-put-refusal-requires
+put-refusal-requires c κs = search needs
 
 same-length : tie.Need-same-length
 same-length c = search needs
 
 returns : tie.Need-returns
 unfolding observed
-returns c = rw (c .before .before .before .before .before .message .given .1) (look-turned _ _ _ _ _ (c .before .before .look .ensures _ _))
+returns c = rw (c .before .before .before .before .before .message .given .1) (c .before .before .look .ensures _)
 
 same-length-2 : tie.Need-same-length-2
 same-length-2 c = search needs
@@ -74,10 +67,10 @@ same-length-5 c = search needs
 
 returns-4 : tie.Need-returns-4
 unfolding observed
-returns-4 c = rw (c .before .before .before .before .before .message4 .given .1) (still-turned _ _ _ _ (c .before .before .refuse .ensures))
+returns-4 c = rw (c .before .before .before .before .before .message4 .given .1) (c .before .before .put-refusal .ensures _ _)
 
 returns-5 : tie.Need-returns-5
-returns-5 c = rw (nothing-observed _ _ (c .match .keys5)) (still-turned _ _ _ _ (laid-nothing _))
+returns-5 c = rw (nothing-observed _ _ (c .match .keys5)) (nothing-turned _ _ _ _ _)
 
 pub observe-spec : {M : Type 1} → statement M
 observe-spec =
@@ -93,7 +86,7 @@ observe-spec =
     cast-end
     end-requires
     enum-known-message-4
-    refuse-requires
+    put-refusal-requires
     same-length
     returns
     same-length-2

@@ -1,0 +1,3 @@
+-- The definitions of the crate.
+pub mod Print
+pub mod Turns

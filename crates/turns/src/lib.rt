@@ -1,0 +1,20 @@
+// The calls of a tape: each made, and its lines laid at the start of a lent text.
+mod laying;
+mod making;
+
+use head::Answer;
+use head::Head;
+pub use laying::put_opening;
+pub use laying::put_quote;
+pub use laying::put_refusal;
+pub use making::end;
+pub use making::look;
+pub use making::watch;
+
+// What a call of a tape leaves: its answer, how many bytes of text, and the head and the watches for the next one.
+pub struct Turn {
+    pub answer: Answer,
+    pub count: usize,
+    pub head: Head,
+    pub watches: [u32; 8],
+}
