@@ -9,9 +9,8 @@ use lib.ListN.{length, getD, take}
 use types.Run.{OneOf, miss}
 use denote.Enum.Declared.{tagOf}
 use borrow.Author.Tests.{eq-eqb, ne-eqb}
-use Rattle.lists.specs.Lists.{run, laid}
+use Rattle.lists.specs.Lists.{run}
 use Rattle.head.specs.declared.Head.{Head}
-use Rattle.head.specs.declared.Answer.the-variants.{Accepted}
 use Rattle.head.specs.declared.Refusal.the-variants.{OutOfPlace}
 use Rattle.head.specs.Heads.{settingsHold}
 use Rattle.octets.specs.Bytes.{number2, number4}
@@ -25,9 +24,10 @@ use Rattle.model.specs.Rows.{Tables}
 use Rattle.turns.specs.declared.Turn.{Turn}
 use Rattle.turns.specs.Print.{Request}
 use Rattle.turns.specs.Turns.{Player, bookMake, player, Outcome, made, refusedWith, Turned}
+use Rattle.turns.specs.Messages.{observed, unquoted}
 use Rattle.tape.specs.declared.Step.{Step}
 use Rattle.tape.specs.Play.{asked, Played, playAsked, playAt, begun, bookPlay}
-use Rattle.tape.specs.Placing.{outOfPlace, placed, columnCount, nothing, observed, unquoted, taken}
+use Rattle.tape.specs.Placing.{outOfPlace, placed, columnCount, taken}
 use Rattle.tape.specs.Steps.{Stepped}
 
 -- ---- the message
@@ -112,32 +112,6 @@ read-six tape place (whole k h) = refl
 pub columns-six : (tape : List ℕ) (place : ℕ) {r : Read} → r ≡ readAt tape place → length (r .columns) ≡ 6
 columns-six tape place e = rw e (read-six tape place (found tape place))
 
--- no call is made of these
-pub nothing-observed : (m : Message) (k : Player) → OneOf (0 ∷ 4 ∷ 5 ∷ 6 ∷ 7 ∷ []) (tagOf the-type m) → observed m k ≡ nothing k
-unfolding observed
-nothing-observed (Quote n) k one = refl
-nothing-observed (Look n) k one = absurd (miss (0 ∷ 4 ∷ 5 ∷ 6 ∷ 7 ∷ []) 1 tt one)
-nothing-observed (Watch n) k one = absurd (miss (0 ∷ 4 ∷ 5 ∷ 6 ∷ 7 ∷ []) 2 tt one)
-nothing-observed (Unwatch n) k one = absurd (miss (0 ∷ 4 ∷ 5 ∷ 6 ∷ 7 ∷ []) 3 tt one)
-nothing-observed (Leave n p) k one = refl
-nothing-observed (Join n p) k one = refl
-nothing-observed (Open d N directions) k one = refl
-nothing-observed End k one = refl
-nothing-observed (Refused refusal) k one = absurd (miss (0 ∷ 4 ∷ 5 ∷ 6 ∷ 7 ∷ []) 8 tt one)
-
--- all but a quote and an opening leave the tables as they are
-pub other-observed : (m : Message) (k : Player) → OneOf (0 ∷ 1 ∷ 2 ∷ 3 ∷ 4 ∷ 5 ∷ 7 ∷ 8 ∷ []) (tagOf the-type m) → unquoted m k ≡ observed m k
-unfolding unquoted
-other-observed (Quote n) k one = refl
-other-observed (Look n) k one = refl
-other-observed (Watch n) k one = refl
-other-observed (Unwatch n) k one = refl
-other-observed (Leave n p) k one = refl
-other-observed (Join n p) k one = refl
-other-observed (Open d N directions) k one = absurd (miss (0 ∷ 1 ∷ 2 ∷ 3 ∷ 4 ∷ 5 ∷ 7 ∷ 8 ∷ []) 6 tt one)
-other-observed End k one = refl
-other-observed (Refused refusal) k one = refl
-
 -- what is no quote is taken without columns
 taken-unquoted : (m : Message) (columns : List ℕ) (k : Player) → OneOf (1 ∷ 2 ∷ 3 ∷ 4 ∷ 5 ∷ 6 ∷ 7 ∷ 8 ∷ []) (tagOf the-type m) → taken m columns k ≡ unquoted m k
 unfolding taken
@@ -150,12 +124,6 @@ taken-unquoted (Join n p) columns k one = refl
 taken-unquoted (Open d N directions) columns k one = refl
 taken-unquoted End columns k one = refl
 taken-unquoted (Refused refusal) columns k one = refl
-
--- a turn of nothing
-pub nothing-turned : (h : Head) (t : Tables) (ws bytes before : List ℕ)
-    → Turned (nothing (player h t ws bytes)) before (record { answer = Accepted; count = 0; head = h; watches = ws }) t bytes before
-unfolding laid
-nothing-turned h t ws bytes before = record { answer = refl; count = refl; head = refl; watches = refl; lent = refl; bytes = refl; text = refl }
 
 -- what is played with this outcome
 abbrev playedAs : Outcome → ℕ → Bool → Played Player

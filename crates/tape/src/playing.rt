@@ -5,15 +5,14 @@ ghost use lib.Dec.{eqb};
 ghost use lib.ListN.{length};
 ghost use Rattle.model.specs.Calls.{Reached};
 ghost use Rattle.model.specs.Promises.{tables, world};
-ghost use Rattle.turns.specs.Turns.{changeBytes, textBytes, player, Turned};
+ghost use Rattle.turns.specs.Turns.{textBytes, player};
 ghost use Rattle.tape.specs.Steps.{Stepped};
-ghost use Rattle.tape.specs.Placing.{outOfPlace, placed, observed, unquoted};
+ghost use Rattle.tape.specs.Placing.{outOfPlace, placed};
 use crate::CHANGE_BYTES;
 use crate::Step;
 use crate::TEXT_BYTES;
 use frames::Message;
 use frames::read_at;
-use head::Answer;
 use head::Head;
 use head::Refusal;
 use turns::Turn;
@@ -43,99 +42,6 @@ fn placed(begun: bool, message: Message) -> Message
         return Message::Refused(Refusal::OutOfPlace);
     }
     message
-}
-
-// Makes the call of a message that leaves the tables as they are, and lays its lines; any other message lays none.
-fn observe(
-    message: Message,
-    head: Head,
-    columns: &[u32],
-    positions: &[u32],
-    lower_ends: &[u32],
-    watches: [u32; 8],
-    bytes: &mut [u8],
-    text: &mut [u8],
-) -> Turn
-    requires { ⌜ (length (now bytes) ≤ changeBytes) × (textBytes ≤ length (now text)) ⌝ }
-    ensures { λ r. ⌜ Turned (observed message (player head (tables (now (columns .entry)) (now (positions .entry)) (now («lower_ends» .entry))) watches (now (bytes .entry)))) (now (text .entry)) r (tables (now (columns .entry)) (now (positions .entry)) (now («lower_ends» .entry))) (now (bytes .exit)) (now (text .exit)) ⌝ }
-{
-    match message {
-        Message::Look(n) => turns::look(
-            head,
-            n as u32,
-            columns,
-            positions,
-            lower_ends,
-            watches,
-            text,
-        ),
-        Message::Watch(n) => turns::watch(
-            head,
-            n as u32,
-            columns,
-            positions,
-            lower_ends,
-            watches,
-            bytes,
-            text,
-        ),
-        Message::Unwatch(n) => turns::end(
-            head,
-            n as u32,
-            columns,
-            positions,
-            lower_ends,
-            watches,
-            text,
-        ),
-        Message::Refused(refusal) => turns::put_refusal(refusal, head, watches, text),
-        _ => Turn {
-            answer: Answer::Accepted,
-            count: 0,
-            head,
-            watches,
-        },
-    }
-}
-
-// Makes the call of a message that is in its place and no quote, and lays its lines.
-fn play_other(
-    message: Message,
-    head: Head,
-    columns: &mut [u32],
-    positions: &mut [u32],
-    lower_ends: &mut [u32],
-    watches: [u32; 8],
-    bytes: &mut [u8],
-    text: &mut [u8],
-) -> Turn
-    requires { ⌜ (length (now bytes) ≤ changeBytes) × (textBytes ≤ length (now text)) ⌝ }
-    ensures { λ r. ⌜ Turned (unquoted message (player head (tables (now (columns .entry)) (now (positions .entry)) (now («lower_ends» .entry))) watches (now (bytes .entry)))) (now (text .entry)) r (tables (now (columns .exit)) (now (positions .exit)) (now («lower_ends» .exit))) (now (bytes .exit)) (now (text .exit)) ⌝ }
-{
-    match message {
-        Message::Open(d, n, directions) => {
-            let opened = calls::open(
-                d as u32,
-                n as u32,
-                directions as u32,
-                columns,
-                positions,
-                lower_ends,
-                watches,
-            );
-            turns::put_opening(head, d as u32, n as u32, directions as u32, opened, text)
-        }
-        _ => observe(
-            message,
-            head,
-            columns,
-            positions,
-            lower_ends,
-            watches,
-            bytes,
-            text,
-        ),
-    }
 }
 
 // The step that a turn makes: the tape is over where nothing could be read, and the place stayed.
@@ -190,7 +96,7 @@ pub fn play(
         _ => step(
             place,
             next,
-            play_other(
+            turns::make_other(
                 message,
                 head,
                 columns,
@@ -241,7 +147,7 @@ pub fn play_reached(
         _ => step(
             place,
             next,
-            play_other(
+            turns::make_other(
                 message,
                 head,
                 columns,

@@ -3,3 +3,4 @@ pub mod Written
 pub mod Rooms
 pub mod Behind
 pub mod Turning
+pub mod Messages

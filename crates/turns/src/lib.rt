@@ -4,12 +4,8 @@ mod making;
 
 use head::Answer;
 use head::Head;
-pub use laying::put_opening;
 pub use laying::put_quote;
-pub use laying::put_refusal;
-pub use making::end;
-pub use making::look;
-pub use making::watch;
+pub use making::make_other;
 
 // What a call of a tape leaves: its answer, how many bytes of text, and the head and the watches for the next one.
 pub struct Turn {

@@ -37,8 +37,8 @@ put-quote-requires c κs = (omega (arith, quote-fits (c .before .before .before 
 step-requires : tie.Need-step-requires
 step-requires c κs = search needs
 
-play-other-requires : tie.Need-play-other-requires
-play-other-requires c κs = search needs
+make-other-requires : tie.Need-make-other-requires
+make-other-requires c κs = search needs
 
 step-requires-2 : tie.Need-step-requires-2
 step-requires-2 c κs = search needs
@@ -71,7 +71,7 @@ same-length-8 : tie.Need-same-length-8
 same-length-8 c = search needs
 
 returns-2 : tie.Need-returns-2
-returns-2 c = other-played _ _ _ _ _ _ _ (c .before .before .before .before .before .before .before .before .before .before .before .before .before .before .before .before .before .before .before .read-at .ensures) (c .before .before .before .before .before .before .before .before .before .before .before .before .before .before .before .before .before .settings-hold .ensures) (c .before .before .before .before .before .before .before .before .before .before .before .before .before .before .before .before .placed .ensures) (c .step2 .ensures) (c .before .before .before .before .before .before .before .before .before .before .before .before .before .before .before .match .keys2) (c .before .before .before .before .before .before .before .before .before .play-other .ensures)
+returns-2 c = other-played _ _ _ _ _ _ _ (c .before .before .before .before .before .before .before .before .before .before .before .before .before .before .before .before .before .before .before .read-at .ensures) (c .before .before .before .before .before .before .before .before .before .before .before .before .before .before .before .before .before .settings-hold .ensures) (c .before .before .before .before .before .before .before .before .before .before .before .before .before .before .before .before .placed .ensures) (c .step2 .ensures) (c .before .before .before .before .before .before .before .before .before .before .before .before .before .before .before .match .keys2) (c .before .before .before .before .before .before .before .before .before .make-other .ensures)
 
 pub play-reached-spec : {M : Type 1} → statement M
 play-reached-spec =
@@ -87,7 +87,7 @@ play-reached-spec =
     quote-reached-requires
     put-quote-requires
     step-requires
-    play-other-requires
+    make-other-requires
     step-requires-2
     same-length
     same-length-2

@@ -1,9 +1,9 @@
 -- `observe` meets its contract, by the cases of the message.
-use Rattle.tape.specs.Placing.{observed}
-use Rattle.tape.proofs.Plays.{nothing-observed, nothing-turned}
+use Rattle.turns.specs.Messages.{observed}
+use Rattle.turns.proofs.Messages.{nothing-observed, nothing-turned}
 use borrow.Author.Needs.{needs}
-use Rattle.tape.proofs.playing.observe.Statement.{statement}
-use Rattle.tape.proofs.playing.observe.Tie as tie
+use Rattle.turns.proofs.making.observe.Statement.{statement}
+use Rattle.turns.proofs.making.observe.Tie as tie
 
 enum-known-message : tie.Need-enum-known-message
 enum-known-message c = search needs

@@ -1,9 +1,9 @@
--- `play_other` meets its contract: an opening is made and its line laid, and all else is observed.
-use Rattle.tape.specs.Placing.{unquoted}
-use Rattle.tape.proofs.Plays.{other-observed}
+-- `make_other` meets its contract: an opening is made and its line laid, and all else is observed.
+use Rattle.turns.specs.Messages.{unquoted}
+use Rattle.turns.proofs.Messages.{other-observed}
 use borrow.Author.Needs.{needs}
-use Rattle.tape.proofs.playing.play_other.Statement.{statement}
-use Rattle.tape.proofs.playing.play_other.Tie as tie
+use Rattle.turns.proofs.making.make_other.Statement.{statement}
+use Rattle.turns.proofs.making.make_other.Tie as tie
 
 enum-known-message : tie.Need-enum-known-message
 enum-known-message c = search needs
@@ -69,8 +69,8 @@ same-length-9 c = search needs
 returns-2 : tie.Need-returns-2
 returns-2 c = rw (other-observed _ _ (c .before .before .before .before .before .before .before .before .before .before .match .keys2)) (c .before .before .before .before .observe .ensures)
 
-pub play-other-spec : {M : Type 1} → statement M
-play-other-spec =
+pub make-other-spec : {M : Type 1} → statement M
+make-other-spec =
     tie.close
     (tie.spec
     enum-known-message
