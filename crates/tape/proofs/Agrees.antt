@@ -14,7 +14,7 @@ use Rattle.lists.proofs.Booleans.{none-left, none-right, clash}
 use Rattle.lists.proofs.Writing.{length-laid, length-padded}
 use Rattle.head.specs.declared.Answer.{Answer}
 use Rattle.head.specs.declared.Answer.the-variants.{Accepted, Refused}
-use Rattle.head.specs.Refusals.{settled}
+use Rattle.head.specs.Refusals.{numberOf, settled}
 use Rattle.head.specs.Heads.{freshHead, settingsHold}
 use Rattle.head.proofs.Answers.{accepted-passed}
 use Rattle.frames.specs.Frames.{readAt}
@@ -26,8 +26,9 @@ use Rattle.model.proofs.Tables.{cells-counted}
 use Rattle.model.proofs.Sound.{rows-few, rows-wide}
 use Rattle.model.proofs.Joined.{Faithful, Joined, referenceWith, some-capacity, shown-opened, long-tables, long-records}
 use Rattle.model.proofs.Replay.{call-agrees, replay-ends}
-use Rattle.tape.specs.Print.{Request, Asked, finished, unread, misplaced, request, asked, textOf}
-use Rattle.tape.specs.Play.{Played, playAsked, playAt, printFrom, print, fedOf, referenceMake, lengthsOf, Player, begun, callOf, bytesAfter, bookMake}
+use Rattle.turns.specs.Print.{Request, Answered, textOf}
+use Rattle.turns.specs.Turns.{Player, callOf, bytesAfter, bookMake}
+use Rattle.tape.specs.Play.{Asked, finished, unread, misplaced, request, asked, Played, playAsked, playAt, printFrom, print, fedOf, referenceMake, lengthsOf, begun}
 use Rattle.tape.specs.Ample.{Reaches, start, onward}
 
 -- ---- lengths
@@ -183,8 +184,9 @@ begun-alike : {lengths : Lengths} {room : ℕ} (s : Reference) (k : Player) → 
 unfolding begun opened headOf
 begun-alike s k v = rw (v .joined .head)
 
--- two players after one frame: the same lines and the same place, both over or neither, and the models alike
+-- two players after one frame: the same number, the same lines and the same place, both over or neither, and the models alike
 pub record Matches (lengths : Lengths) (room : ℕ) (one : Played Player) (other : Played Reference) : Type 0 where
+  pub number : one .number ≡ other .number
   pub text : one .text ≡ other .text
   pub next : one .next ≡ other .next
   pub over : one .over ≡ other .over
@@ -195,11 +197,17 @@ module _ (lengths : Lengths) (room : ℕ) where
   asked-matches : (a : Asked) (next : ℕ) (s : Reference) (k : Player) → Alike lengths room s k
       → Matches lengths room (playAsked begun bookMake a next k) (playAsked opened (referenceMake lengths room) a next s)
   unfolding playAsked
-  asked-matches finished next s k v = record { text = refl; next = refl; over = refl; state = v }
-  asked-matches (unread e) next s k v = record { text = refl; next = refl; over = refl; state = v }
-  asked-matches misplaced next s k v = record { text = refl; next = refl; over = refl; state = v }
+  asked-matches finished next s k v = record { number = refl; text = refl; next = refl; over = refl; state = v }
+  asked-matches (unread e) next s k v = record { number = refl; text = refl; next = refl; over = refl; state = v }
+  asked-matches misplaced next s k v = record { number = refl; text = refl; next = refl; over = refl; state = v }
   asked-matches (request r) next s k v =
-      record { text = ap (textOf r) (answered-alike lengths room r s k v); next = refl; over = refl; state = left-alike lengths room r s k v }
+      let same = answered-alike lengths room r s k v in record {
+        number = ap (λ (a : Answered). numberOf (a .answer)) same;
+        text = ap (textOf r) same;
+        next = refl;
+        over = refl;
+        state = left-alike lengths room r s k v;
+      }
 
   -- one frame is played alike by both models
   pub frame-agrees : (tape : List ℕ) (place : ℕ) (s : Reference) (k : Player) → Alike lengths room s k

@@ -21,7 +21,7 @@ use Rattle.model.proofs.Watcher.{bounded}
 use Rattle.text.specs.Text.{line}
 use Rattle.printed.specs.Printed.{changeLines}
 use Rattle.printed.proofs.Again.{Changes, changes-again, changes-joins, changes-all}
-use Rattle.tape.specs.Print.{Request, linesOf, answerText, textOf, changesText}
+use Rattle.turns.specs.Print.{Request, linesOf, answerText, textOf, changesText}
 use Rattle.tape.specs.Play.{fedOf, referenceMake}
 use Rattle.tape.specs.Ample.{Reaches}
 use Rattle.tape.proofs.Agrees.{reached-alike}

@@ -1,8 +1,4 @@
 -- The laws of the crate.
-pub mod Written
-pub mod Rooms
-pub mod Behind
-pub mod Turning
 pub mod Plays
 pub mod Reached
 pub mod Waits

@@ -31,9 +31,10 @@ use Rattle.model.specs.Calls.{Call, Lent, World, bookStep, fed, expectedStep}
 use Rattle.model.proofs.Joined.{Joined, referenceWith, in-range}
 use Rattle.model.proofs.Replay.{call-agrees}
 use Rattle.model.proofs.ChangesFit.{room-suffices}
-use Rattle.tape.specs.Print.{Request, Asked, finished, unread, misplaced, request, asked}
-use Rattle.tape.specs.Play.{playAsked, playAt, printFrom, print, fedOf, referenceMake, lengthsOf, Player, begun, bookMake}
-use Rattle.tape.specs.Ample.{Reaches, Ample}
+use Rattle.turns.specs.Print.{Request}
+use Rattle.turns.specs.Turns.{Player, bookMake}
+use Rattle.tape.specs.Play.{Asked, finished, unread, misplaced, request, asked, playAsked, playAt, printFrom, print, fedOf, referenceMake, lengthsOf, begun}
+use Rattle.tape.specs.Ample.{Reaches, Ample, Unshort}
 use Rattle.tape.proofs.Agrees.{print-agrees, Alike, frame-agrees, begins-alike, reached-alike}
 
 -- ---- an opening
@@ -147,11 +148,7 @@ unnamed (c ∷ cs) k n e = go (c .0) e (unnamed cs k (none-right (eqb (number (c
         same = cc
     go false f rest = rest f
 
--- the answer is neither 11 nor 13
-abbrev pub Unshort : Answer → Type 0
-Unshort answer = (answer ≡ Refused ShortLoan → ⊥) × (answer ≡ Refused ShortOutput → ⊥)
-
--- nor is an answer by conditions of which none gives 11 or 13
+-- an answer by conditions of which none gives 11 or 13 is neither
 plainly : (cs : List (Bool × Refusal)) {answer : Answer} → answer ≡ first cs → named ShortLoan cs ≡ false → named ShortOutput cs ≡ false → Unshort answer
 plainly cs e u v = (λ f. unnamed cs ShortLoan u (sym e ∙ f), λ f. unnamed cs ShortOutput v (sym e ∙ f))
 

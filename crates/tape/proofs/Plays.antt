@@ -1,33 +1,34 @@
 -- One frame played: the message in its place, its call, and what the player hands back.
-use mathlib.Core.Path.{_≡_, refl, sym, ap, _∙_}
+use mathlib.Core.Path.{_≡_, refl, sym, _∙_}
 use Prim.Native.Nat.{ℕ, _+_, _≤_}
 use native.Mathlib.Omega.{arith}
 use mathlib.Core.Bool.{Bool, true, false, cond}
 use mathlib.Core.List.{List, [], _∷_}
-use lib.Dec.{ltb, eqb}
-use lib.ListN.{length, getD}
+use lib.Dec.{eqb}
+use lib.ListN.{length, getD, take}
 use types.Run.{OneOf, miss}
 use denote.Enum.Declared.{tagOf}
 use borrow.Author.Tests.{eq-eqb, ne-eqb}
-use Rattle.lists.specs.Lists.{laid}
+use Rattle.lists.specs.Lists.{run}
 use Rattle.head.specs.declared.Head.{Head}
-use Rattle.head.specs.declared.Answer.the-variants as Answer
-use Rattle.head.specs.declared.Refusal.the-variants.{OutOfPlace, ShortOutput}
+use Rattle.head.specs.declared.Refusal.the-variants.{OutOfPlace}
 use Rattle.head.specs.Heads.{settingsHold}
-use Rattle.head.specs.Refusals.{first}
 use Rattle.octets.specs.Bytes.{number2, number4}
 use Rattle.frames.specs.declared.Message.{Message}
 use Rattle.frames.specs.declared.Message.the-variants.{Quote, Look, Watch, Unwatch, Leave, Join, Open, End, Refused}
 use Rattle.frames.specs.declared.Read.{Read}
-use Rattle.frames.specs.Frames.{within, bodyLength, messageAt, stays, readAt}
+use Rattle.frames.specs.Frames.{within, bodyLength, messageAt, columnsAt, stays, readAt}
 use Rattle.frames.proofs.Message.{the-type}
 use Rattle.frames.proofs.Reading.{within-bounds, Found, beyond, at-end, unknown, cut, whole, found}
 use Rattle.model.specs.Rows.{Tables}
-use Rattle.tape.specs.declared.Turn.{Turn}
-use Rattle.tape.specs.Print.{asked}
-use Rattle.tape.specs.Play.{Played, playAsked, playAt, Player, begun, bookMake}
-use Rattle.tape.specs.Steps.{player, textRoom, stepAt, stepAnswer, stepReply, Stepped}
-use Rattle.tape.specs.Turns.{outOfPlace, placed, columnCount, made, observed, taken, Turned}
+use Rattle.turns.specs.declared.Turn.{Turn}
+use Rattle.turns.specs.Print.{Request}
+use Rattle.turns.specs.Turns.{Player, bookMake, player, Outcome, made, refusedWith, Turned}
+use Rattle.turns.specs.Messages.{observed, unquoted}
+use Rattle.tape.specs.declared.Step.{Step}
+use Rattle.tape.specs.Play.{asked, Played, playAsked, playAt, begun, bookPlay}
+use Rattle.tape.specs.Placing.{outOfPlace, placed, columnCount, taken}
+use Rattle.tape.specs.Steps.{Stepped}
 
 -- ---- the message
 
@@ -84,7 +85,7 @@ read-message tape place (whole k h) =
     (m .0, ne-eqb (place + 1 + bodyLength (getD tape place 0)) place (λ e. omega arith) ∙ sym (m .1))
 
 -- the message in its place has at most six columns
-pub placed-columns : (tape : List ℕ) (place : ℕ) (begun : Bool) {r : Read} {m : Message} → r ≡ readAt tape place → m ≡ placed begun (r .message) → columnCount m ≤ 6
+placed-columns : (tape : List ℕ) (place : ℕ) (begun : Bool) {r : Read} {m : Message} → r ≡ readAt tape place → m ≡ placed begun (r .message) → columnCount m ≤ 6
 unfolding placed columnCount
 placed-columns tape place begun {r} e f =
     let few : columnCount (r .message) ≤ 6 = rw e (read-message tape place (found tape place) .0) in
@@ -94,37 +95,44 @@ placed-columns tape place begun {r} e f =
     go true m h = omega arith
     go false m h = h
 
--- no call is made of these
-pub nothing-observed : (m : Message) (k : Player) → OneOf (0 ∷ 4 ∷ 5 ∷ 6 ∷ 7 ∷ []) (tagOf the-type m) → observed m k ≡ ([], k)
-unfolding observed
-nothing-observed (Quote n) k one = refl
-nothing-observed (Look n) k one = absurd (miss (0 ∷ 4 ∷ 5 ∷ 6 ∷ 7 ∷ []) 1 tt one)
-nothing-observed (Watch n) k one = absurd (miss (0 ∷ 4 ∷ 5 ∷ 6 ∷ 7 ∷ []) 2 tt one)
-nothing-observed (Unwatch n) k one = absurd (miss (0 ∷ 4 ∷ 5 ∷ 6 ∷ 7 ∷ []) 3 tt one)
-nothing-observed (Leave n p) k one = refl
-nothing-observed (Join n p) k one = refl
-nothing-observed (Open d N directions) k one = refl
-nothing-observed End k one = refl
-nothing-observed (Refused refusal) k one = absurd (miss (0 ∷ 4 ∷ 5 ∷ 6 ∷ 7 ∷ []) 8 tt one)
+-- a quote that is in its place has at most six columns
+pub quote-few : (tape : List ℕ) (place : ℕ) (begun : Bool) {r : Read} {m : Message} {n : ℕ} → r ≡ readAt tape place → m ≡ placed begun (r .message) → m ≡ Quote n → n ≤ 6
+unfolding columnCount
+quote-few tape place begun e f q = rw q at (placed-columns tape place begun e f)
 
--- all but a quote and an opening leave the tables as they are
-pub taken-observed : (m : Message) (columns : List ℕ) (k : Player) → OneOf (1 ∷ 2 ∷ 3 ∷ 4 ∷ 5 ∷ 7 ∷ 8 ∷ []) (tagOf the-type m) → taken m columns k ≡ observed m k
+-- what is read has six columns, with zeros behind those of its quote
+read-six : (tape : List ℕ) (place : ℕ) {r : Read} → Found tape place r → length (r .columns) ≡ 6
+unfolding stays columnsAt run
+read-six tape place (beyond h) = refl
+read-six tape place (at-end e) = refl
+read-six tape place unknown = refl
+read-six tape place cut = refl
+read-six tape place (whole k h) = refl
+
+pub columns-six : (tape : List ℕ) (place : ℕ) {r : Read} → r ≡ readAt tape place → length (r .columns) ≡ 6
+columns-six tape place e = rw e (read-six tape place (found tape place))
+
+-- what is no quote is taken without columns
+taken-unquoted : (m : Message) (columns : List ℕ) (k : Player) → OneOf (1 ∷ 2 ∷ 3 ∷ 4 ∷ 5 ∷ 6 ∷ 7 ∷ 8 ∷ []) (tagOf the-type m) → taken m columns k ≡ unquoted m k
 unfolding taken
-taken-observed (Quote n) columns k one = absurd (miss (1 ∷ 2 ∷ 3 ∷ 4 ∷ 5 ∷ 7 ∷ 8 ∷ []) 0 tt one)
-taken-observed (Look n) columns k one = refl
-taken-observed (Watch n) columns k one = refl
-taken-observed (Unwatch n) columns k one = refl
-taken-observed (Leave n p) columns k one = refl
-taken-observed (Join n p) columns k one = refl
-taken-observed (Open d N directions) columns k one = absurd (miss (1 ∷ 2 ∷ 3 ∷ 4 ∷ 5 ∷ 7 ∷ 8 ∷ []) 6 tt one)
-taken-observed End columns k one = refl
-taken-observed (Refused refusal) columns k one = refl
+taken-unquoted (Quote n) columns k one = absurd (miss (1 ∷ 2 ∷ 3 ∷ 4 ∷ 5 ∷ 6 ∷ 7 ∷ 8 ∷ []) 0 tt one)
+taken-unquoted (Look n) columns k one = refl
+taken-unquoted (Watch n) columns k one = refl
+taken-unquoted (Unwatch n) columns k one = refl
+taken-unquoted (Leave n p) columns k one = refl
+taken-unquoted (Join n p) columns k one = refl
+taken-unquoted (Open d N directions) columns k one = refl
+taken-unquoted End columns k one = refl
+taken-unquoted (Refused refusal) columns k one = refl
+
+-- what is played with this outcome
+abbrev playedAs : Outcome → ℕ → Bool → Played Player
+playedAs one next over = record { number = one .number; text = one .text; state = one .state; next = next; over = over }
 
 -- what is asked at a place is the message in its place, taken
 asked-taken : (begun' : Bool) (m : Message) (columns : List ℕ) (next : ℕ) (k : Player)
-    → playAsked begun bookMake (asked begun' m columns) next k
-    ≡ record { text = taken (placed begun' m) columns k .0; state = taken (placed begun' m) columns k .1; next = next; over = ends m }
-unfolding playAsked asked taken observed placed outOfPlace ends made
+    → playAsked begun bookMake (asked begun' m columns) next k ≡ playedAs (taken (placed begun' m) columns k) next (ends m)
+unfolding playAsked asked taken unquoted observed placed outOfPlace ends made refusedWith
 asked-taken true (Quote n) columns next k = refl
 asked-taken true (Look n) columns next k = refl
 asked-taken true (Watch n) columns next k = refl
@@ -141,39 +149,41 @@ asked-taken b End columns next k = refl
 asked-taken b (Refused refusal) columns next k = refl
 
 -- ---- the step
-module _ (tape : List ℕ) (place : ℕ) (h : Head) (t : Tables) (ws bytes before : List ℕ) where
+module _ (tape : List ℕ) (place : ℕ) (h : Head) (t : Tables) (ws bytes before : List ℕ) {r : Read} {held : Bool} {m : Message} (e : r ≡ readAt tape place)
+    (f : held ≡ settingsHold (h .dimensions) (h .capacity) (h .directions)) (g : m ≡ placed held (r .message)) where
   -- the player before the frame
   abbrev k : Player
   k = player h t ws bytes
 
-  -- a text that is too short: nothing is played
-  pub step-short : true ≡ ltb (length before) (textRoom (length bytes))
-      → Stepped tape place k before (record { answer = Answer.Refused ShortOutput; over = true; next = place; count = 0; head = h; watches = ws }) t bytes before
-  unfolding stepReply stepAnswer stepAt first laid
-  step-short e = record { reply = rw (← e); lent = rw (← e); bytes = rw (← e); text = rw (← e) }
-
-  -- what is played where the text is long enough
-  played : false ≡ ltb (length before) (textRoom (length bytes)) → {r : Read} {held : Bool} {m : Message} → r ≡ readAt tape place
-      → held ≡ settingsHold (h .dimensions) (h .capacity) (h .directions) → m ≡ placed held (r .message)
-      → stepAt tape place k (length before) ≡ record { text = taken m (r .columns) k .0; state = taken m (r .columns) k .1; next = r .next; over = eqb (r .next) place }
-  unfolding stepAt playAt begun
-  played e f g p =
-      rw (← e, p, g, f, read-message tape place (found tape place) .1)
+  -- what is played
+  played : bookPlay tape place k ≡ playedAs (taken m (r .columns) k) (r .next) (eqb (r .next) place)
+  unfolding playAt begun
+  played =
+      rw (g, f, e, read-message tape place (found tape place) .1)
       (asked-taken (begun k) (readAt tape place .message) (readAt tape place .columns) (readAt tape place .next) k)
 
-  -- a frame is played
-  pub step-played : false ≡ ltb (length before) (textRoom (length bytes)) → {r : Read} {held : Bool} {m : Message} {turn : Turn} {t' : Tables} {bytes' after : List ℕ}
-      → r ≡ readAt tape place → held ≡ settingsHold (h .dimensions) (h .capacity) (h .directions) → m ≡ placed held (r .message)
-      → Turned (taken m (r .columns) k) before turn t' bytes' after
-      → Stepped tape place k before
-      (record { answer = Answer.Accepted; over = eqb (r .next) place; next = r .next; count = turn .count; head = turn .head; watches = turn .watches })
-      t' bytes' after
-  unfolding stepReply stepAnswer first
-  step-played e {r} {held} {m} {turn} f g p u =
-      let one = played e f g p in
-      record {
-        reply = rw (one, ← e, u .count, u .head, u .watches);
-        lent = u .lent ∙ ap (λ (s : Played Player). s .state .world .lent .tables) (sym one);
-        bytes = u .bytes ∙ ap (λ (s : Played Player). s .state .bytes) (sym one);
-        text = u .text ∙ ap (λ (s : Played Player). laid (s .text) before) (sym one);
-      }
+  module _ {turn : Turn} {step : Step} {t' : Tables} {bytes' after : List ℕ}
+      (w : step ≡ record { answer = turn .answer; over = eqb (r .next) place; next = r .next; count = turn .count; head = turn .head; watches = turn .watches }) where
+    -- the step of a turn
+    step-played : Turned (taken m (r .columns) k) before turn t' bytes' after → Stepped tape place k before step t' bytes' after
+    step-played u =
+        rw w record {
+          answer = rw played (u .answer);
+          over = rw played;
+          next = rw played;
+          count = rw played (u .count);
+          head = rw played (u .head);
+          watches = rw played (u .watches);
+          lent = rw played (u .lent);
+          bytes = rw played (u .bytes);
+          text = rw played (u .text);
+        }
+
+    -- that of a quote
+    pub quote-played : {n : ℕ} → m ≡ Quote n → Turned (made (Request.Quote (take n (r .columns))) k) before turn t' bytes' after → Stepped tape place k before step t' bytes' after
+    unfolding taken
+    quote-played q u = step-played (rw q u)
+
+    -- and that of any other message
+    pub other-played : OneOf (1 ∷ 2 ∷ 3 ∷ 4 ∷ 5 ∷ 6 ∷ 7 ∷ 8 ∷ []) (tagOf the-type m) → Turned (unquoted m k) before turn t' bytes' after → Stepped tape place k before step t' bytes' after
+    other-played one u = step-played (rw (taken-unquoted m (r .columns) k one) u)

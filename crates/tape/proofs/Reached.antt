@@ -1,19 +1,16 @@
 -- A book that calls left, once a frame is played on it: each frame makes one call more, or none.
 use Prim.Native.Nat.{ℕ}
-use mathlib.Core.Bool.{Bool, true, false, cond}
-use mathlib.Core.List.{List, []}
-use lib.Dec.{ltb}
-use lib.ListN.{length}
+use mathlib.Core.List.{List}
 use Rattle.head.specs.declared.Head.{Head}
 use Rattle.model.specs.Rows.{Tables}
 use Rattle.model.specs.Calls.{Reached}
 use Rattle.model.proofs.Reached.{reached-step}
 use Rattle.frames.specs.Frames.{readAt}
 use Rattle.model.specs.Promises.{world}
+use Rattle.turns.specs.Turns.{Player, callOf, bookMake, player}
 use Rattle.tape.specs.declared.Step.{Step}
-use Rattle.tape.specs.Print.{Asked, finished, unread, misplaced, request, asked}
-use Rattle.tape.specs.Play.{Played, playAsked, playAt, Player, begun, callOf, bookMake}
-use Rattle.tape.specs.Steps.{player, textRoom, stepAt, stepReply, Stepped}
+use Rattle.tape.specs.Play.{Asked, finished, unread, misplaced, request, asked, playAsked, playAt, begun, bookPlay}
+use Rattle.tape.specs.Steps.{Stepped}
 
 module _ (k : Player) (c : Reached (k .world)) where
   -- what stands at a place, played
@@ -24,18 +21,13 @@ module _ (k : Player) (c : Reached (k .world)) where
   asked-reached misplaced next = c
   asked-reached (request r) next = reached-step (callOf r (k .bytes)) c
 
-  -- one frame, or none where the text is too short
-  frame-reached : (tape : List ℕ) (place room : ℕ) → Reached (stepAt tape place k room .state .world)
-  unfolding stepAt playAt
-  frame-reached tape place room = go (ltb room (textRoom (length (k .bytes))))
-    where
-      go : (short : Bool) → Reached (cond short (record { text = []; state = k; next = place; over = true }) (playAt begun bookMake tape place k) .state .world)
-      go true = c
-      go false = asked-reached (asked (begun k) (readAt tape place .message) (readAt tape place .columns)) (readAt tape place .next)
+  -- one frame
+  frame-reached : (tape : List ℕ) (place : ℕ) → Reached (bookPlay tape place k .state .world)
+  unfolding playAt
+  frame-reached tape place = asked-reached (asked (begun k) (readAt tape place .message) (readAt tape place .columns)) (readAt tape place .next)
 
 -- what playing one frame leaves
 pub step-reached : {tape : List ℕ} {place : ℕ} {h : Head} {t t' : Tables} {ws bytes before bytes' after : List ℕ} {r : Step}
     → Stepped tape place (player h t ws bytes) before r t' bytes' after → Reached (world h t ws) → Reached (world (r .head) t' (r .watches))
-unfolding stepReply
-step-reached {tape} {place} {h} {t} {t'} {ws} {bytes} {before} s c =
-    rw (s .reply, s .lent) (frame-reached (player h t ws bytes) c tape place (length before))
+step-reached {tape} {place} {h} {t} {t'} {ws} {bytes} s c =
+    rw (s .head, s .watches, s .lent) (frame-reached (player h t ws bytes) c tape place)

@@ -21,10 +21,11 @@ use Rattle.frames.specs.Frames.{within, bodyLength, messageAt, columnsAt, stays
 use Rattle.frames.proofs.Reading.{message-drop, columns-drop, within-bounds, quote-body, Kind, quotes, looks, watches, unwatches, leaves, joins, opens, kind-of, Found, beyond, at-end, unknown, cut, whole, found}
 use Rattle.model.specs.Reference.{unopened, opened}
 use Rattle.model.specs.Calls.{Lent}
-use Rattle.tape.specs.Print.{Request, Asked, finished, unread, misplaced, request, asked, Answered}
-use Rattle.tape.specs.Play.{Played, playAsked, playAt, printFrom, print, referenceMake, lengthsOf, begun, bookMake}
+use Rattle.turns.specs.Print.{Request, Answered}
+use Rattle.turns.specs.Turns.{bookMake}
+use Rattle.tape.specs.Play.{Asked, finished, unread, misplaced, request, asked, Played, playAsked, playAt, printFrom, print, referenceMake, lengthsOf, begun}
 use Rattle.tape.specs.Steps.{ready}
-use Rattle.tape.specs.Streams.{linesFrom, Streams, plays, stops, drops, fills}
+use Rattle.tape.specs.Streams.{linesFrom, further, Streams, plays, stops, drops, fills}
 use Rattle.tape.proofs.Agrees.{print-agrees}
 
 -- ---- what is read, however the tape goes on
@@ -196,10 +197,6 @@ read-behind before tape place =
 -- ---- one frame
 
 module _ {S : Type 0} (begun : S → Bool) (make : Request → S → Answered × S) where
-  -- one frame played where it stands with this many bytes before it
-  abbrev pub further : ℕ → Played S → Played S
-  further n one = record { text = one .text; state = one .state; next = n + one .next; over = one .over }
-
   -- a frame that is ready is played the same however the tape goes on
   pub ready-same : (piece rest : List ℕ) (place : ℕ) (s : S) → ready piece place ≡ true → playAt begun make (piece ++ rest) place s ≡ playAt begun make piece place s
   unfolding playAt

@@ -3,8 +3,12 @@ use mathlib.Core.Path.{_≡_}
 use Prim.Native.Nat.{ℕ, _≤_}
 use mathlib.Core.Bool.{Bool, false}
 use mathlib.Core.List.{List}
+use Rattle.head.specs.declared.Answer.{Answer}
+use Rattle.head.specs.declared.Answer.the-variants.{Refused}
+use Rattle.head.specs.declared.Refusal.the-variants.{ShortLoan, ShortOutput}
 use Rattle.model.specs.Reference.{Lengths}
-use Rattle.tape.specs.Print.{Request, Answered}
+use Rattle.turns.specs.Print.{Request, Answered}
+use Rattle.turns.specs.Turns.{changeBytes}
 use Rattle.tape.specs.Play.{playAt}
 
 -- the places that a tape comes to, and who then makes the calls: its start, and the place behind each frame that does not end it
@@ -19,4 +23,8 @@ pub record Ample (lengths : Lengths) (room : ℕ) : Type 0 where
   pub positions : 1024 ≤ lengths .positions
   pub lowerEnds : 1024 ≤ lengths .lowerEnds
   pub watches : 8 ≤ lengths .watches
-  pub bytes : 57400 ≤ room
+  pub bytes : changeBytes ≤ room
+
+-- the answer is neither 11 nor 13
+abbrev pub Unshort : Answer → Type 0
+Unshort answer = (answer ≡ Refused ShortLoan → ⊥) × (answer ≡ Refused ShortOutput → ⊥)

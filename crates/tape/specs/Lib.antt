@@ -1,7 +1,8 @@
 -- The definitions of the crate.
-pub mod Print
 pub mod Play
+pub mod Placing
 pub mod Steps
-pub mod Turns
 pub mod Streams
+pub mod Prints
 pub mod Ample
+pub mod Worked

@@ -2,16 +2,46 @@
 use Prim.Native.Nat.{ℕ, zero, suc}
 use mathlib.Core.Bool.{Bool, true, false, cond}
 use mathlib.Core.List.{List, [], _++_}
-use lib.ListN.{length, take, replicate}
+use lib.ListN.{length, take}
+use Rattle.head.specs.declared.Refusal.{Refusal}
 use Rattle.head.specs.declared.Refusal.the-variants.{OutOfPlace}
+use Rattle.head.specs.Refusals.{number, numberOf}
 use Rattle.head.specs.Heads.{settingsHold}
+use Rattle.frames.specs.declared.Message.{Message}
+use Rattle.frames.specs.declared.Message.the-variants as Message
 use Rattle.frames.specs.Frames.{readAt}
 use Rattle.model.specs.Reference.{Reference, Lengths, Fed, referenceStep}
-use Rattle.model.specs.Calls.{Call, Lent, World, bookStep}
-use Rattle.tape.specs.Print.{Request, Asked, finished, unread, misplaced, request, asked, Answered, refusalLine, textOf}
+use Rattle.model.specs.Calls.{Lent}
+use Rattle.turns.specs.Print.{Request, Answered, refusalLine, textOf}
+use Rattle.turns.specs.Turns.{Player, bookMake}
 
--- after one frame: its lines, who makes the calls, the place behind it, and whether the tape is over
+-- ---- what a frame asks for
+
+-- what stands at a place of a tape, for a player: its end, something that cannot be read, a frame out of place (01: 7), or a call
+pub data Asked : Type 0 where
+  finished : Asked
+  unread : Refusal → Asked
+  misplaced : Asked
+  request : Request → Asked
+
+-- what was read, before or after an accepted opening: an opening after one, any other frame before one, and a change are out of place
+unfoldable pub asked : Bool → Message → List ℕ → Asked
+asked begun (Message.Open d N directions) columns = cond begun misplaced (request (Request.Open d N directions))
+asked begun (Message.Quote k) columns = cond begun (request (Request.Quote (take k columns))) misplaced
+asked begun (Message.Look n) columns = cond begun (request (Request.Look n)) misplaced
+asked begun (Message.Watch n) columns = cond begun (request (Request.Watch n)) misplaced
+asked begun (Message.Unwatch n) columns = cond begun (request (Request.End n)) misplaced
+asked begun (Message.Leave n p) columns = misplaced
+asked begun (Message.Join n p) columns = misplaced
+asked begun Message.End columns = finished
+asked begun (Message.Refused k) columns = unread k
+
+-- ---- frame by frame
+
+-- after one frame: its number (0: accepted, or the end of the tape), its lines, who makes the calls, the place behind it, and whether the
+-- tape is over
 pub record Played (S : Type 0) : Type 0 where
+  pub number : ℕ
   pub text : List ℕ
   pub state : S
   pub next : ℕ
@@ -21,10 +51,12 @@ module _ {S : Type 0} (begun : S → Bool) (make : Request → S → Answered ×
   -- what stands at a place, played: the end prints nothing, what cannot be read its number, and both end the tape (01: after 1 or 2 it
   -- stops); a frame out of place prints its number, a call its lines, and the tape goes on
   unfoldable pub playAsked : Asked → ℕ → S → Played S
-  playAsked finished next s = record { text = []; state = s; next = next; over = true }
-  playAsked (unread k) next s = record { text = refusalLine k; state = s; next = next; over = true }
-  playAsked misplaced next s = record { text = refusalLine OutOfPlace; state = s; next = next; over = false }
-  playAsked (request r) next s = let made = make r s in record { text = textOf r (made .0); state = made .1; next = next; over = false }
+  playAsked finished next s = record { number = 0; text = []; state = s; next = next; over = true }
+  playAsked (unread k) next s = record { number = number k; text = refusalLine k; state = s; next = next; over = true }
+  playAsked misplaced next s = record { number = number OutOfPlace; text = refusalLine OutOfPlace; state = s; next = next; over = false }
+  playAsked (request r) next s =
+      let made = make r s in
+      record { number = numberOf (made .0 .answer); text = textOf r (made .0); state = made .1; next = next; over = false }
 
   -- one frame of a tape, at a place
   unfoldable pub playAt : List ℕ → ℕ → S → Played S
@@ -69,36 +101,10 @@ referenceMake lengths room r s =
 
 -- ---- by the book model
 
--- a book that plays a tape: its head, tables and watches, and the output for changes
-pub record Player : Type 0 where
-  pub world : World
-  pub bytes : List ℕ
-
 -- an opening was accepted
 unfoldable pub begun : Player → Bool
 begun k = let h = k .world .head in settingsHold (h .dimensions) (h .capacity) (h .directions)
 
--- the call with its output: for changes the lent bytes, for positions 1,024 cells of its own
-unfoldable pub callOf : Request → List ℕ → Call
-callOf (Request.Open d N directions) bytes = Call.Open d N directions
-callOf (Request.Quote x) bytes = Call.Quote x bytes
-callOf (Request.Look n) bytes = Call.Look n (replicate 1024 0)
-callOf (Request.Watch n) bytes = Call.Watch n bytes
-callOf (Request.End n) bytes = Call.End n
-
--- the output for changes after a call whose own output is this
-unfoldable pub bytesAfter : Request → List ℕ → List ℕ → List ℕ
-bytesAfter (Request.Open d N directions) out bytes = bytes
-bytesAfter (Request.Quote x) out bytes = out
-bytesAfter (Request.Look n) out bytes = bytes
-bytesAfter (Request.Watch n) out bytes = out
-bytesAfter (Request.End n) out bytes = bytes
-
--- a call made by the book model
-unfoldable pub bookMake : Request → Player → Answered × Player
-bookMake r k =
-    let made = bookStep (callOf r (k .bytes)) (k .world) in
-    let reply = made .0 .reply in (
-      record { answer = reply .answer; head = reply .head; written = take (reply .count) (made .0 .out) },
-      record { world = made .1; bytes = bytesAfter r (made .0 .out) (k .bytes) },
-    )
+-- one frame of a tape, at a place
+abbrev pub bookPlay : List ℕ → ℕ → Player → Played Player
+bookPlay = playAt begun bookMake

@@ -5,14 +5,18 @@ use Prim.Native.Nat.{ℕ, suc, _+_, _-_}
 use mathlib.Core.Bool.{Bool, true, false}
 use mathlib.Core.List.{List, [], _++_}
 use lib.ListN.{length}
-use Rattle.tape.specs.Print.{Request, Answered}
-use Rattle.tape.specs.Play.{playAt, printFrom}
+use Rattle.turns.specs.Print.{Request, Answered}
+use Rattle.tape.specs.Play.{Played, playAt, printFrom}
 use Rattle.tape.specs.Steps.{ready}
 
 module _ {S : Type 0} (begun : S → Bool) (make : Request → S → Answered × S) where
   -- the lines of all frames from a place on
   unfoldable pub linesFrom : List ℕ → ℕ → S → List ℕ
   linesFrom tape place s = printFrom begun make (suc (length tape - place)) tape place s
+
+-- one frame played where it stands with this many bytes before it
+abbrev pub further : {S : Type 0} → ℕ → Played S → Played S
+further n one = record { number = one .number; text = one .text; state = one .state; next = n + one .next; over = one .over }
 
 -- what is printed from a buffer with this piece of the tape, from a place of it on, by this player, while the rest is still to come:
 -- a frame is played where it is ready or nothing more comes; the bytes before the place may be dropped; more bytes may come in

@@ -2,22 +2,21 @@
 use mathlib.Core.Path.{_≡_, refl, sym, ap, _∙_}
 use Prim.Native.Nat.{ℕ, _+_, _-_, _≤_, _<_}
 use native.Mathlib.Omega.{arith}
-use mathlib.Core.Bool.{Bool, true, false, _&&_, _||_, not, cond, true≢false}
-use mathlib.Core.List.{List, []}
-use lib.Dec.{ltb}
+use mathlib.Core.Bool.{Bool, true, false, _&&_, _||_, not, true≢false}
+use mathlib.Core.List.{List}
 use lib.ListN.{length, getD, drop, length-append, length-drop}
 use Rattle.lists.specs.Lists.{laid}
 use Rattle.frames.specs.declared.Read.{Read}
 use Rattle.frames.specs.Frames.{messageAt, columnsAt, stays, readAt}
 use Rattle.frames.proofs.Reading.{Found, beyond, at-end, unknown, cut, whole, found}
-use Rattle.tape.specs.Print.{Asked, finished, unread, misplaced, request, asked}
-use Rattle.tape.specs.Play.{Played, playAsked, playAt, Player, begun, bookMake}
+use Rattle.turns.specs.Turns.{textBytes, Player, bookMake}
+use Rattle.tape.specs.Play.{Asked, finished, unread, misplaced, request, asked, playAsked, playAt, begun, bookPlay}
 use Rattle.head.specs.declared.Head.{Head}
 use Rattle.model.specs.Rows.{Tables}
 use Rattle.model.specs.Calls.{Reached}
 use Rattle.model.specs.Promises.{tables, world}
 use Rattle.tape.specs.declared.Step.{Step}
-use Rattle.tape.specs.Steps.{textRoom, stepAt, stepReply, Stepped}
+use Rattle.tape.specs.Steps.{Stepped}
 use Rattle.tape_printer.specs.Stands.{left, Advanced}
 
 module _ (tape : List ℕ) (place : ℕ) (k : Player) (h : place ≤ length tape) where
@@ -40,13 +39,9 @@ module _ (tape : List ℕ) (place : ℕ) (k : Player) (h : place ≤ length tape
       asked-on (asked (begun k) (messageAt tape (place + 1) (getD tape place 0)) (columnsAt tape (place + 1) (getD tape place 0))) _ (omega arith) t
 
   -- a step
-  pub advanced : (room : ℕ) → Advanced tape place (stepReply tape place k room .next) (stepReply tape place k room .over)
-  unfolding stepReply stepAt playAt left
-  advanced room = go (ltb room (textRoom (length (k .bytes))))
-    where
-      go : (b : Bool) → let one = cond b (record { text = []; state = k; next = place; over = true }) (playAt begun bookMake tape place k) in Advanced tape place (one .next) (one .over)
-      go true = record { inside = h; less = omega arith }
-      go false = read-on (readAt tape place) (found tape place)
+  pub advanced : Advanced tape place (bookPlay tape place k .next) (bookPlay tape place k .over)
+  unfolding playAt
+  advanced = read-on (readAt tape place) (found tape place)
 
 -- ---- what a frame that was played leaves
 
@@ -57,7 +52,7 @@ module _ {tape : List ℕ} {place : ℕ} {k : Player} {before : List ℕ} {r : S
   stepped-on over e h = rw (← e) (go over)
     where
       one : Advanced tape place (r .next) (r .over)
-      one = rw (s .reply) (advanced tape place k (omega (arith, e)) (length before))
+      one = rw (s .next, s .over) (advanced tape place k (omega (arith, e)))
 
       go : (b : Bool) → Advanced tape place (r .next) (b || r .over)
       go true = record { inside = one .inside; less = omega arith }
@@ -65,26 +60,25 @@ module _ {tape : List ℕ} {place : ℕ} {k : Player} {before : List ℕ} {r : S
 
   -- the lines fit the text
   pub stepped-fits : length after ≡ length before → r .count ≤ length before
-  unfolding stepReply laid
+  unfolding laid
   stepped-fits e =
-      let l : List ℕ = stepAt tape place k (length before) .text in
-      let n : r .count ≡ length l = ap (λ (x : Step). x .count) (s .reply) in
-      omega (arith, n, ap length (s .text), e, length-append l (drop (length l) before), length-drop (length l) before)
+      let l : List ℕ = bookPlay tape place k .text in
+      omega (arith, s .count, ap length (s .text), e, length-append l (drop (length l) before), length-drop (length l) before)
 
 -- ---- the frames of a piece
 
--- what holds from frame to frame: the lines fit the text, the place stands within the tape, all that is lent keeps its length, and the
--- book is one that calls left
-pub record Playing (tape : List ℕ) (end : ℕ) (columns₀ positions₀ lower-ends₀ bytes₀ text₀ columns positions lower-ends bytes text : List ℕ) (place ended used : ℕ) (head : Head) (watches : List ℕ) : Type 0 where
-  pub columns-long : length columns ≡ length columns₀
-  pub positions-long : length positions ≡ length positions₀
-  pub lower-ends-long : length lower-ends ≡ length lower-ends₀
-  pub bytes-long : length bytes ≡ length bytes₀
-  pub text-long : length text ≡ length text₀
+-- what holds from frame to frame: the lines fit the text, the place stands within the tape, and the book is one that calls left
+pub record Playing (tape : List ℕ) (end : ℕ) (text₀ columns positions lower-ends text : List ℕ) (place ended used : ℕ) (head : Head) (watches : List ℕ) : Type 0 where
+  pub long : length text ≡ length text₀
+  pub room : textBytes ≤ length text
   pub inside : place ≤ length tape
   pub same : ended ≡ end
   pub fits : used ≤ length text
   pub reached : Reached (world head (tables columns positions lower-ends) watches)
+
+-- what fits a text fits one of the same length
+pub fits-as : {n m room : ℕ} → n ≡ m → room ≤ m → room ≤ n
+fits-as e h = omega (arith, e)
 
 -- the same head and watches, by other names
 pub same-reached : {h h' : Head} {t : Tables} {ws ws' : List ℕ} → h' ≡ h → ws' ≡ ws → Reached (world h t ws) → Reached (world h' t ws')

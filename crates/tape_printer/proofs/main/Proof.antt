@@ -2,17 +2,17 @@
 use mathlib.Core.Path.{_≡_, refl, sym, _∙_}
 use Prim.Native.Nat.{_≤_}
 use native.Mathlib.Omega.{arith}
-use lib.ListN.{length}
-use borrow.Author.Needs.{needs}
+use lib.ListN.{length, length-take}
 use Rattle.model.specs.Calls.{Reached}
 use Rattle.model.proofs.Reached.{reached-first}
 use Rattle.model.specs.Promises.{tables, world}
 use Rattle.tape_printer.proofs.Advancing.{same-reached}
+use borrow.Author.Needs.{needs}
 use Rattle.tape_printer.proofs.main.Statement.{statement}
 use Rattle.tape_printer.proofs.main.Tie as tie
 
 abbrev Inv-loop : tie.InvT-loop
-Inv-loop columns₀ positions₀ lower-ends₀ bytes₀ tape₀ text₀ stand₀ turns₀ columns positions lower-ends bytes tape text stand turns = (stand .used ≤ length text) × (stand .place ≤ stand .end) × (stand .end ≤ length tape) × (length tape ≡ 65536) × (length columns ≡ 6144) × (length positions ≡ 1024) × (length lower-ends ≡ 1024) × (length bytes ≡ 57400) × (length text ≡ 273613) × Reached (world (stand .head) (tables columns positions lower-ends) (stand .watches))
+Inv-loop columns₀ positions₀ lower-ends₀ bytes₀ tape₀ text₀ stand₀ turns₀ columns positions lower-ends bytes tape text stand turns = (stand .used ≤ length text) × (stand .place ≤ stand .end) × (stand .end ≤ length tape) × (length tape ≡ 65536) × (length text ≡ 273613) × Reached (world (stand .head) (tables columns positions lower-ends) (stand .watches))
 
 abbrev μ-loop : tie.MeasureT-loop
 μ-loop columns₀ positions₀ lower-ends₀ bytes₀ tape₀ text₀ stand₀ turns₀ columns positions lower-ends bytes tape text stand turns = turns
@@ -21,43 +21,46 @@ fresh-requires : tie.Need-fresh-requires Inv-loop μ-loop
 fresh-requires c κs = search needs
 
 loop-holds : tie.Need-loop-holds Inv-loop μ-loop
-loop-holds c = (omega arith, omega arith, omega arith, refl, refl, refl, refl, refl, refl, same-reached (c .fresh .ensures) refl (reached-first _))
+loop-holds c = (omega arith, omega arith, omega arith, refl, refl, same-reached (c .fresh .ensures) refl (reached-first _))
 
 sub-turns : tie.Need-sub-turns Inv-loop μ-loop
 sub-turns c = search needs
 
-slice-aggregate-read-on : tie.Need-slice-aggregate-read-on Inv-loop μ-loop
-slice-aggregate-read-on c = sym (c .before .before .before .before .loop .inv .3)
-
-slice-aggregate-read-on-2 : tie.Need-slice-aggregate-read-on-2 Inv-loop μ-loop
-slice-aggregate-read-on-2 c = sym (c .before .before .before .before .before .loop .inv .4)
-
-slice-aggregate-read-on-3 : tie.Need-slice-aggregate-read-on-3 Inv-loop μ-loop
-slice-aggregate-read-on-3 c = sym (c .before .before .before .before .before .before .loop .inv .5)
-
-slice-aggregate-read-on-4 : tie.Need-slice-aggregate-read-on-4 Inv-loop μ-loop
-slice-aggregate-read-on-4 c = sym (c .before .before .before .before .before .before .before .loop .inv .6)
-
-slice-aggregate-read-on-5 : tie.Need-slice-aggregate-read-on-5 Inv-loop μ-loop
-slice-aggregate-read-on-5 c = sym (c .before .before .before .before .before .before .before .before .loop .inv .7)
-
-slice-aggregate-read-on-6 : tie.Need-slice-aggregate-read-on-6 Inv-loop μ-loop
-slice-aggregate-read-on-6 c = sym (c .before .before .before .before .before .before .before .before .before .loop .inv .8)
-
-read-on-requires : tie.Need-read-on-requires Inv-loop μ-loop
-read-on-requires c κs = let i = c .before .before .before .before .before .before .before .before .before .loop .inv in (i .0, i .1, i .2, i .9)
-
-loop-less : tie.Need-loop-less Inv-loop μ-loop
-loop-less c = search needs
-
-loop-again : tie.Need-loop-again Inv-loop μ-loop
-loop-again c = let k = c .before .before .before .before .before .before .«read-on» .kept in let e = c .before .before .before .before .before .before .«read-on» .ensures in let i = c .before .before .before .before .before .before .before .before .before .before .before .before .before .before .before .before .loop .inv in (omega (arith, e .0, k .1 .1 .1 .1 .1 .1 .0, i .8), e .1, omega (arith, e .2, k .1 .0, i .3), k .1 .0 ∙ i .3, k .1 .1 .0 ∙ i .4, k .1 .1 .1 .0 ∙ i .5, k .1 .1 .1 .1 .0 ∙ i .6, k .1 .1 .1 .1 .1 .0 ∙ i .7, k .1 .1 .1 .1 .1 .1 .0 ∙ i .8, e .3)
-
 slice-aggregate-flush : tie.Need-slice-aggregate-flush Inv-loop μ-loop
-slice-aggregate-flush c = sym (c .before .before .loop .inv .8)
+slice-aggregate-flush c = sym (c .before .before .before .before .loop .inv .4)
 
 flush-requires : tie.Need-flush-requires Inv-loop μ-loop
-flush-requires c κs = c .before .before .loop .inv .0
+flush-requires c κs = c .before .before .before .before .loop .inv .0
+
+slice-aggregate-refill : tie.Need-slice-aggregate-refill Inv-loop μ-loop
+slice-aggregate-refill c = sym (c .before .before .before .before .before .before .loop .inv .3)
+
+refill-requires : tie.Need-refill-requires Inv-loop μ-loop
+refill-requires c κs = let i = c .before .before .before .before .before .before .loop .inv in let f = c .before .flush .ensures in (omega (arith, f .1, f .2, i .1), omega (arith, f .2, i .2))
+
+array-share-prefix-tape : tie.Need-array-share-prefix-tape Inv-loop μ-loop
+array-share-prefix-tape c = omega (arith, c .before .refill .ensures .2, c .before .refill .kept .1 .0)
+
+slice-aggregate-play-piece : tie.Need-slice-aggregate-play-piece Inv-loop μ-loop
+slice-aggregate-play-piece c = simp length-take (omega (arith, c .before .before .refill .ensures .2, c .before .before .refill .kept .1 .0))
+
+slice-aggregate-play-piece-2 : tie.Need-slice-aggregate-play-piece-2 Inv-loop μ-loop
+slice-aggregate-play-piece-2 c = sym (c .before .before .before .before .before .before .before .before .before .before .before .before .before .before .loop .inv .4)
+
+play-piece-requires : tie.Need-play-piece-requires Inv-loop μ-loop
+play-piece-requires c κs = let i = c .before .before .before .before .before .before .before .before .before .before .before .before .before .before .loop .inv in let f = c .before .before .before .before .before .before .before .before .before .flush .ensures in let r = c .before .before .before .before .before .before .before .refill .ensures in (omega (arith, r .0, f .0), omega (arith, i .4), simp length-take (omega (arith, r .1, r .2, c .before .before .before .before .before .before .before .refill .kept .1 .0)), same-reached (r .3 ∙ f .3) (r .4 ∙ f .4) (i .5))
+
+loop-less : tie.Need-loop-less Inv-loop μ-loop
+loop-less c = omega (arith, c .before .before .before .before .before .before .before .before .before .before .before .before .before .before .before .loop-test .taken)
+
+loop-again : tie.Need-loop-again Inv-loop μ-loop
+loop-again c = let i = c .before .before .before .before .before .before .before .before .before .before .before .before .before .before .before .before .loop .inv in let r = c .before .before .before .before .before .before .before .before .before .refill in let p = c .before .«play-piece» in (omega (arith, p .ensures .0, p .kept .1 .1 .1 .1 .1 .1 .0), omega (arith, rw length-take at (p .ensures .1), p .ensures .2), omega (arith, p .ensures .2, r .ensures .2, r .kept .1 .0), r .kept .1 .0 ∙ i .3, p .kept .1 .1 .1 .1 .1 .1 .0 ∙ i .4, p .ensures .3)
+
+slice-aggregate-flush-2 : tie.Need-slice-aggregate-flush-2 Inv-loop μ-loop
+slice-aggregate-flush-2 c = sym (c .before .before .loop .inv .4)
+
+flush-requires-2 : tie.Need-flush-requires-2 Inv-loop μ-loop
+flush-requires-2 c κs = c .before .before .loop .inv .0
 
 returns : tie.Need-returns Inv-loop μ-loop
 returns c = search needs
@@ -71,15 +74,16 @@ main-spec =
     fresh-requires
     loop-holds
     sub-turns
-    slice-aggregate-read-on
-    slice-aggregate-read-on-2
-    slice-aggregate-read-on-3
-    slice-aggregate-read-on-4
-    slice-aggregate-read-on-5
-    slice-aggregate-read-on-6
-    read-on-requires
-    loop-less
-    loop-again
     slice-aggregate-flush
     flush-requires
+    slice-aggregate-refill
+    refill-requires
+    array-share-prefix-tape
+    slice-aggregate-play-piece
+    slice-aggregate-play-piece-2
+    play-piece-requires
+    loop-less
+    loop-again
+    slice-aggregate-flush-2
+    flush-requires-2
     returns)

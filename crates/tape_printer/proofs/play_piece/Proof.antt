@@ -1,54 +1,60 @@
 -- `play_piece` meets its contract: the lines stay within the text, and the place within the tape.
-use mathlib.Core.Path.{_≡_, refl, _∙_, sym}
-use Prim.Native.Nat.{_≤_}
+use mathlib.Core.Path.{refl, _∙_}
 use native.Mathlib.Omega.{arith}
+use mathlib.Core.Bool.{_||_}
 use denote.Ref.{now}
-use lib.ListN.{length}
-use borrow.Author.Needs.{needs}
+use Prim.Native.Nat.{_-_}
+use lib.ListN.{length, length-take, length-drop}
+use borrow.Rule.Slice.PartMut.{same-len-mid}
 use Rattle.tape.specs.Steps.{ready}
-use Rattle.tape_printer.proofs.Advancing.{Playing, less-left}
+use Rattle.tape.proofs.Reached.{step-reached}
 use Rattle.tape_printer.specs.Stands.{left}
+use Rattle.tape_printer.proofs.Advancing.{stepped-on, stepped-fits, Playing, fits-as, same-reached, less-left}
+use borrow.Author.Needs.{needs}
 use Rattle.tape_printer.proofs.play_piece.Statement.{statement}
 use Rattle.tape_printer.proofs.play_piece.Tie as tie
 
 abbrev Inv-loop : tie.InvT-loop
-Inv-loop tape columns₀ positions₀ lower-ends₀ bytes₀ text₀ now₀ columns positions lower-ends bytes text now = Playing tape (now₀ .end) columns₀ positions₀ lower-ends₀ bytes₀ text₀ columns positions lower-ends bytes text (now .place) (now .end) (now .used) (now .head) (now .watches)
+Inv-loop tape columns₀ positions₀ lower-ends₀ bytes₀ text₀ now₀ columns positions lower-ends bytes text now = Playing tape (now₀ .end) text₀ columns positions lower-ends text (now .place) (now .end) (now .used) (now .head) (now .watches)
 
 abbrev μ-loop : tie.MeasureT-loop
 μ-loop tape columns₀ positions₀ lower-ends₀ bytes₀ text₀ now₀ columns positions lower-ends bytes text now = left tape (now .place) (now .over)
 
 loop-holds : tie.Need-loop-holds Inv-loop μ-loop
-loop-holds c = record { columns-long = refl; positions-long = refl; lower-ends-long = refl; bytes-long = refl; text-long = refl; inside = c .before .before .before .before .before .before .pre .1; same = refl; fits = c .before .before .before .before .before .before .pre .0; reached = c .before .before .before .before .before .before .pre .2 }
+loop-holds c = let p = c .before .before .pre in record { long = refl; room = p .1; inside = p .2; same = refl; fits = p .0; reached = p .3 }
 
 plays-requires : tie.Need-plays-requires Inv-loop μ-loop
 plays-requires c κs = search needs
 
-play-one-requires : tie.Need-play-one-requires Inv-loop μ-loop
-play-one-requires c κs = let i = c .before .before .before .before .before .before .before .loop .inv in (i .fits, i .inside, i .reached)
+with-room-requires : tie.Need-with-room-requires Inv-loop μ-loop
+with-room-requires c κs = let i = c .before .before .before .loop .inv in (i .fits, i .room)
+
+sub-play-reached : tie.Need-sub-play-reached Inv-loop μ-loop
+sub-play-reached c = omega (arith, c .before .before .before .before .before .before .«with-room» .ensures .0)
+
+part-play-reached-start : tie.Need-part-play-reached-start Inv-loop μ-loop
+part-play-reached-start c = omega (arith, c .before .before .before .before .before .before .«with-room» .ensures .0)
+
+part-play-reached-end : tie.Need-part-play-reached-end Inv-loop μ-loop
+part-play-reached-end c = search needs
+
+play-reached-requires : tie.Need-play-reached-requires Inv-loop μ-loop
+play-reached-requires c κs = let e = c .before .before .before .before .before .before .before .«with-room» .ensures in (simp (length-take, length-drop) (omega (arith, e .0)), same-reached (e .3) (e .4) (c .before .before .before .before .before .before .before .before .before .before .before .loop .inv .reached))
+
+add-t27 : tie.Need-add-t27 Inv-loop μ-loop
+add-t27 c = let made = c .before .before .before .before .before .play-reached in omega (arith, stepped-fits (made .ensures) (made .kept .1 .1 .1 .1 .1 .1 .1 .1 .0), c .before .before .before .before .before .before .play-reached-arg5 .given, c .before .before .before .before .before .before .before .before .before .before .before .before .before .«with-room» .ensures .0, c .before .before .before .before .before .before .before .before .before .before .before .before .before .before .before .before .before .loop .inv .long, c .before .before .before .before .before .before .before .before .before .before .before .before .before .before .before .before .before .before .before .before .good .1 .1 .1 .1 .1 .1 .0 .0)
 
 loop-less : tie.Need-loop-less Inv-loop μ-loop
-loop-less c = less-left (c .before .before .before .before .before .before .before .before .before .before .before .before .before .before .before .before .before .before .loop .now .over) (ready (now (c .before .before .before .before .before .before .before .before .before .before .before .before .before .before .before .before .before .before .before .before .before .before .before .before .before .args .tape)) (c .before .before .before .before .before .before .before .before .before .before .before .before .before .before .before .before .before .before .loop .now .place)) (c .before .before .before .before .before .before .before .before .before .before .«play-one» .ensures .2) (c .before .before .before .before .before .before .before .before .before .before .before .before .before .before .before .before .before .plays .ensures) (c .before .before .before .before .before .before .before .before .before .before .before .before .before .before .before .before .if1 .taken)
+loop-less c = let i = c .before .before .before .before .before .before .before .before .before .before .before .before .before .before .before .before .before .before .before .loop in less-left (i .now .over) (i .now .ended || ready (now (c .before .before .before .before .before .before .before .before .before .before .before .before .before .before .before .before .before .before .before .before .before .before .args .tape)) (i .now .place)) (stepped-on (c .before .before .before .before .before .before .before .play-reached .ensures) (c .before .before .before .before .before .before .before .before .before .before .before .before .before .before .before .«with-room» .result .over) (c .before .before .before .before .before .before .before .before .before .before .before .before .before .before .before .«with-room» .ensures .1) (i .inv .inside)) (c .before .before .before .before .before .before .before .before .before .before .before .before .before .before .before .before .before .before .plays .ensures) (c .before .before .before .before .before .before .before .before .before .before .before .before .before .before .before .before .before .if1 .taken)
 
 loop-again : tie.Need-loop-again Inv-loop μ-loop
-loop-again c = let i = c .before .before .before .before .before .before .before .before .before .before .before .before .before .before .before .before .before .before .loop .inv in let k = c .before .before .before .before .before .before .before .before .before .before .«play-one» .kept in let e = c .before .before .before .before .before .before .before .before .before .before .«play-one» .ensures in record { columns-long = k .1 .1 .0 ∙ i .columns-long; positions-long = k .1 .1 .1 .0 ∙ i .positions-long; lower-ends-long = k .1 .1 .1 .1 .0 ∙ i .lower-ends-long; bytes-long = k .1 .1 .1 .1 .1 .0 ∙ i .bytes-long; text-long = k .1 .1 .1 .1 .1 .1 .0 ∙ i .text-long; inside = e .2 .inside; same = e .1 ∙ i .same; fits = omega (arith, e .0, k .1 .1 .1 .1 .1 .1 .0); reached = e .3 }
+loop-again c = let i = c .before .before .before .before .before .before .before .before .before .before .before .before .before .before .before .before .before .before .before .loop .inv in let made = c .before .before .before .before .before .before .before .play-reached in let x = c .before .before .before .before .before .before .before .before .before .before .before .before .before .before .before .before .before .before .before .loop .text in let u = c .before .before .before .before .before .before .before .before .before .before .before .before .before .before .before .«with-room» .result .used in let e = c .before .before .before .before .before .before .before .before .before .before .before .before .before .before .before .«with-room» .ensures in record { long = same-len-mid u (length x - u) x (made .last .1 .1 .1 .1 .1 .1 .1 .1 .0) (made .kept .1 .1 .1 .1 .1 .1 .1 .1 .0) ∙ i .long; room = fits-as (same-len-mid u (length x - u) x (made .last .1 .1 .1 .1 .1 .1 .1 .1 .0) (made .kept .1 .1 .1 .1 .1 .1 .1 .1 .0)) (i .room); inside = stepped-on (made .ensures) (c .before .before .before .before .before .before .before .before .before .before .before .before .before .before .before .«with-room» .result .over) (e .1) (i .inside) .inside; same = e .2 ∙ i .same; fits = fits-as (same-len-mid u (length x - u) x (made .last .1 .1 .1 .1 .1 .1 .1 .1 .0) (made .kept .1 .1 .1 .1 .1 .1 .1 .1 .0)) (omega (arith, stepped-fits (made .ensures) (made .kept .1 .1 .1 .1 .1 .1 .1 .1 .0), c .before .before .before .before .before .before .before .before .play-reached-arg5 .given, e .0)); reached = step-reached (made .ensures) (same-reached (e .3) (e .4) (i .reached)) }
 
 same-length : tie.Need-same-length Inv-loop μ-loop
-same-length c = c .before .before .loop .inv .columns-long
-
-same-length-2 : tie.Need-same-length-2 Inv-loop μ-loop
-same-length-2 c = c .before .before .loop .inv .positions-long
-
-same-length-3 : tie.Need-same-length-3 Inv-loop μ-loop
-same-length-3 c = c .before .before .loop .inv .lower-ends-long
-
-same-length-4 : tie.Need-same-length-4 Inv-loop μ-loop
-same-length-4 c = c .before .before .loop .inv .bytes-long
-
-same-length-5 : tie.Need-same-length-5 Inv-loop μ-loop
-same-length-5 c = c .before .before .loop .inv .text-long
+same-length c = c .before .before .loop .inv .long
 
 returns : tie.Need-returns Inv-loop μ-loop
-returns c = let i = c .before .before .loop .inv in (omega (arith, i .fits, i .text-long), i .inside, i .same, i .reached)
+returns c = let i = c .before .before .loop .inv in (omega (arith, i .fits, i .long), i .inside, i .same, i .reached)
 
 pub play-piece-spec : {M : Type 1} → statement M
 play-piece-spec =
@@ -58,12 +64,13 @@ play-piece-spec =
     μ-loop
     loop-holds
     plays-requires
-    play-one-requires
+    with-room-requires
+    sub-play-reached
+    part-play-reached-start
+    part-play-reached-end
+    play-reached-requires
+    add-t27
     loop-less
     loop-again
     same-length
-    same-length-2
-    same-length-3
-    same-length-4
-    same-length-5
     returns)

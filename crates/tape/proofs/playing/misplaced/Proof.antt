@@ -1,6 +1,6 @@
 -- `misplaced` meets its contract, by the cases of the message.
 use borrow.Author.Needs.{needs}
-use Rattle.tape.specs.Turns.{outOfPlace}
+use Rattle.tape.specs.Placing.{outOfPlace}
 use Rattle.tape.proofs.playing.misplaced.Statement.{statement}
 use Rattle.tape.proofs.playing.misplaced.Tie as tie
 

@@ -1,6 +1,6 @@
 -- `placed` meets its contract, whose test it makes.
 use borrow.Author.Needs.{needs}
-use Rattle.tape.specs.Turns.{placed}
+use Rattle.tape.specs.Placing.{placed}
 use Rattle.tape.proofs.playing.placed.Statement.{statement}
 use Rattle.tape.proofs.playing.placed.Tie as tie
 

@@ -1,0 +1,101 @@
+-- `play_reached` meets its contract: a quote is made and its lines laid, and any other message is played.
+use native.Mathlib.Omega.{arith}
+use lib.ListN.{length-take}
+use Rattle.turns.proofs.Rooms.{quote-fits}
+use Rattle.tape.proofs.Plays.{quote-few, columns-six, quote-played, other-played}
+use borrow.Author.Needs.{needs}
+use Rattle.tape.proofs.playing.play_reached.Statement.{statement}
+use Rattle.tape.proofs.playing.play_reached.Tie as tie
+
+read-at-requires : tie.Need-read-at-requires
+read-at-requires c κs = search needs
+
+settings-hold-requires : tie.Need-settings-hold-requires
+settings-hold-requires c κs = search needs
+
+placed-requires : tie.Need-placed-requires
+placed-requires c κs = search needs
+
+enum-known-message : tie.Need-enum-known-message
+enum-known-message c = search needs
+
+cast-quote : tie.Need-cast-quote
+cast-quote c = search needs
+
+array-share-prefix-quote : tie.Need-array-share-prefix-quote
+array-share-prefix-quote c = omega (arith, columns-six _ _ (c .before .before .before .before .before .before .read-at .ensures), quote-few _ _ _ (c .before .before .before .before .before .before .read-at .ensures) (c .before .before .before .placed .ensures) (c .before .message .given .1))
+
+slice-aggregate-quote-reached : tie.Need-slice-aggregate-quote-reached
+slice-aggregate-quote-reached c = simp length-take (omega (arith, columns-six _ _ (c .before .before .before .before .before .before .before .read-at .ensures), quote-few _ _ _ (c .before .before .before .before .before .before .before .read-at .ensures) (c .before .before .before .before .placed .ensures) (c .before .before .message .given .1)))
+
+quote-reached-requires : tie.Need-quote-reached-requires
+quote-reached-requires c κs = c .before .before .before .before .before .before .before .before .before .before .before .before .before .before .before .before .before .pre .1
+
+put-quote-requires : tie.Need-put-quote-requires
+put-quote-requires c κs = (omega (arith, quote-fits (c .before .before .before .before .before .before .before .before .before .quote-reached .ensures)), (omega arith, omega (arith, c .before .before .before .before .before .before .before .before .before .before .before .before .before .before .before .before .before .before .before .before .before .before .before .before .before .before .before .pre .0)))
+
+step-requires : tie.Need-step-requires
+step-requires c κs = search needs
+
+make-other-requires : tie.Need-make-other-requires
+make-other-requires c κs = search needs
+
+step-requires-2 : tie.Need-step-requires-2
+step-requires-2 c κs = search needs
+
+same-length : tie.Need-same-length
+same-length c = search needs
+
+same-length-2 : tie.Need-same-length-2
+same-length-2 c = search needs
+
+same-length-3 : tie.Need-same-length-3
+same-length-3 c = search needs
+
+same-length-4 : tie.Need-same-length-4
+same-length-4 c = search needs
+
+returns : tie.Need-returns
+returns c = quote-played _ _ _ _ _ _ _ (c .before .before .before .before .before .before .before .before .before .before .before .before .before .before .before .before .before .before .before .before .before .before .before .before .before .read-at .ensures) (c .before .before .before .before .before .before .before .before .before .before .before .before .before .before .before .before .before .before .before .before .before .before .before .settings-hold .ensures) (c .before .before .before .before .before .before .before .before .before .before .before .before .before .before .before .before .before .before .before .before .before .before .placed .ensures) (c .step .ensures) (c .before .before .before .before .before .before .before .before .before .before .before .before .before .before .before .before .before .before .before .before .message .given .1) (c .before .before .before .put-quote .ensures _ _ _ _ _ (c .before .before .before .before .before .before .before .before .before .before .before .before .before .quote-reached .kept .1 .1 .1 .1 .1 .1 .0) (c .before .before .before .before .before .before .before .before .before .before .before .before .before .quote-reached .ensures))
+
+same-length-5 : tie.Need-same-length-5
+same-length-5 c = search needs
+
+same-length-6 : tie.Need-same-length-6
+same-length-6 c = search needs
+
+same-length-7 : tie.Need-same-length-7
+same-length-7 c = search needs
+
+same-length-8 : tie.Need-same-length-8
+same-length-8 c = search needs
+
+returns-2 : tie.Need-returns-2
+returns-2 c = other-played _ _ _ _ _ _ _ (c .before .before .before .before .before .before .before .before .before .before .before .before .before .before .before .before .before .before .before .read-at .ensures) (c .before .before .before .before .before .before .before .before .before .before .before .before .before .before .before .before .before .settings-hold .ensures) (c .before .before .before .before .before .before .before .before .before .before .before .before .before .before .before .before .placed .ensures) (c .step2 .ensures) (c .before .before .before .before .before .before .before .before .before .before .before .before .before .before .before .match .keys2) (c .before .before .before .before .before .before .before .before .before .make-other .ensures)
+
+pub play-reached-spec : {M : Type 1} → statement M
+play-reached-spec =
+    tie.close
+    (tie.spec
+    read-at-requires
+    settings-hold-requires
+    placed-requires
+    enum-known-message
+    cast-quote
+    array-share-prefix-quote
+    slice-aggregate-quote-reached
+    quote-reached-requires
+    put-quote-requires
+    step-requires
+    make-other-requires
+    step-requires-2
+    same-length
+    same-length-2
+    same-length-3
+    same-length-4
+    returns
+    same-length-5
+    same-length-6
+    same-length-7
+    same-length-8
+    returns-2)

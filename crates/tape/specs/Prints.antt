@@ -1,0 +1,29 @@
+-- What the player's own code prints of a tape, read in whatever pieces.
+use mathlib.Core.Path.{_≡_}
+use mathlib.Core.Logic.{_⊎_}
+use Prim.Native.Nat.{ℕ, _+_}
+use mathlib.Core.Bool.{true, false}
+use mathlib.Core.List.{List, [], _++_}
+use lib.ListN.{length, take}
+use Rattle.model.specs.Rows.{Tables}
+use Rattle.turns.specs.Turns.{Player, player}
+use Rattle.tape.specs.declared.Step.{Step}
+use Rattle.tape.specs.Steps.{Stepped, ready}
+
+-- the player that a step leaves
+abbrev pub left : Step → Tables → List ℕ → Player
+left r t' bytes' = player (r .head) t' (r .watches) bytes'
+
+-- what a player prints from a buffer with this piece of a tape, from a place of it on, while the rest is still to come: each frame by a
+-- step that was made and met its contract, on what the step before left; it is ready, or nothing more comes; the bytes
+-- before the place may be dropped, and more bytes may come in
+pub data Prints : List ℕ → ℕ → Player → List ℕ → List ℕ → Type 0 where
+  goes-on : {piece rest text before after bytes' : List ℕ} {place : ℕ} {k : Player} {r : Step} {t' : Tables} → (ready piece place ≡ true) ⊎ (rest ≡ [])
+      → Stepped piece place k before r t' bytes' after → r .over ≡ false
+      → Prints piece (r .next) (left r t' bytes') rest text
+      → Prints piece place k rest (take (r .count) after ++ text)
+  ends : {piece rest before after bytes' : List ℕ} {place : ℕ} {k : Player} {r : Step} {t' : Tables} → (ready piece place ≡ true) ⊎ (rest ≡ [])
+      → Stepped piece place k before r t' bytes' after → r .over ≡ true
+      → Prints piece place k rest (take (r .count) after)
+  forgets : (played : List ℕ) {piece rest text : List ℕ} {place : ℕ} {k : Player} → Prints piece place k rest text → Prints (played ++ piece) (length played + place) k rest text
+  reads : (more : List ℕ) {piece rest text : List ℕ} {place : ℕ} {k : Player} → Prints (piece ++ more) place k rest text → Prints piece place k (more ++ rest) text

@@ -1,0 +1,49 @@
+-- 01's tape and its print.
+use Prim.Native.Nat.{ℕ, _+_}
+use mathlib.Core.List.{List, [], _∷_, _++_, map}
+use Rattle.lists.specs.Lists.{flat}
+use Rattle.frames.specs.declared.Message.the-variants.{Open, Quote, Look, Watch}
+use Rattle.frames.specs.Frames.{frame}
+use Rattle.model.specs.Reference.{Lengths}
+
+-- the frame of a quote of two columns
+abbrev two : ℕ → ℕ → List ℕ
+two a b = frame (Quote 2) (a ∷ b ∷ [])
+
+-- 01's tape
+abbrev pub workedTape : List ℕ
+workedTape =
+    flat (frame (Open 2 5 0) [] ∷ two 5 5 ∷ two 3 8 ∷ two 4 4 ∷ two 7 2 ∷ two 4 4 ∷ frame (Watch 2) [] ∷ two 6 6 ∷ frame (Look 5) [] ∷ two 2 9 ∷ two 4 3 ∷ frame (Look 3) [] ∷ [])
+
+-- a line of numbers of one digit each
+abbrev plain : ℕ → List ℕ → List ℕ
+plain letter numbers = letter ∷ (flat (map (λ n. 32 ∷ (48 + n) ∷ []) numbers) ++ (10 ∷ []))
+
+-- 01's print
+abbrev pub workedText : List ℕ
+workedText = flat (
+    plain 79 (2 ∷ 5 ∷ 0 ∷ [])
+    ∷ plain 81 (1 ∷ 1 ∷ [])
+    ∷ plain 81 (2 ∷ 2 ∷ [])
+    ∷ plain 81 (3 ∷ 2 ∷ [])
+    ∷ plain 81 (4 ∷ 3 ∷ [])
+    ∷ plain 81 (5 ∷ 4 ∷ [])
+    ∷ plain 87 (2 ∷ [])
+    ∷ plain 43 (2 ∷ 4 ∷ [])
+    ∷ plain 43 (2 ∷ 5 ∷ [])
+    ∷ plain 81 (6 ∷ 5 ∷ [])
+    ∷ plain 45 (2 ∷ 4 ∷ [])
+    ∷ plain 76 (5 ∷ 2 ∷ 3 ∷ 4 ∷ 5 ∷ [])
+    ∷ plain 81 (7 ∷ 5 ∷ [])
+    ∷ plain 45 (2 ∷ 5 ∷ [])
+    ∷ plain 43 (2 ∷ 6 ∷ [])
+    ∷ plain 43 (2 ∷ 7 ∷ [])
+    ∷ plain 81 (8 ∷ 3 ∷ [])
+    ∷ plain 45 (2 ∷ 6 ∷ [])
+    ∷ plain 43 (2 ∷ 8 ∷ [])
+    ∷ plain 76 (3 ∷ 7 ∷ 8 ∷ [])
+    ∷ [])
+
+-- ample lengths
+abbrev pub ampleLengths : Lengths
+ampleLengths = record { columns = 6144; positions = 1024; lowerEnds = 1024; watches = 8 }

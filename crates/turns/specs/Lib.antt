@@ -1,0 +1,4 @@
+-- The definitions of the crate.
+pub mod Print
+pub mod Turns
+pub mod Messages

@@ -1,0 +1,190 @@
+// The calls of all messages but a quote, each made and its lines laid.
+ghost use mathlib.Core.List.{List};
+ghost use Prim.Native.Nat.{ℕ, _≤_};
+ghost use lib.ListN.{length};
+ghost use Rattle.model.specs.Promises.{tables};
+ghost use Rattle.turns.specs.Print.{Request};
+ghost use Rattle.turns.specs.Turns.{changeBytes, textBytes, player, made, Turned};
+ghost use Rattle.turns.specs.Messages.{observed, unquoted};
+use crate::Turn;
+use crate::laying::put_answer;
+use crate::laying::put_changed;
+use crate::laying::put_opening;
+use crate::laying::put_refusal;
+use frames::Message;
+use head::Answer;
+use head::Head;
+
+// Makes a look, and lays its line.
+fn look(
+    head: Head,
+    n: u32,
+    columns: &[u32],
+    positions: &[u32],
+    lower_ends: &[u32],
+    watches: [u32; 8],
+    text: &mut [u8],
+) -> Turn
+    requires { ⌜ textBytes ≤ length (now text) ⌝ }
+    ensures { λ r. ⌜ ((bytes : List ℕ) → Turned (made (Request.Look n) (player head (tables (now (columns .entry)) (now (positions .entry)) (now («lower_ends» .entry))) watches bytes)) (now (text .entry)) r (tables (now (columns .entry)) (now (positions .entry)) (now («lower_ends» .entry))) bytes (now (text .exit))) ⌝ }
+{
+    let mut cells = [0u32; 1025];
+    let reply = looking::look(head, n, columns, positions, lower_ends, &mut cells[1..]);
+    let answer = reply.answer;
+    cells[0] = n;
+    let end = reply.count + 1;
+    Turn {
+        answer,
+        count: put_answer(answer, b'L', &cells[..end], text),
+        head,
+        watches,
+    }
+}
+
+// Sets a watch, and lays its line and its joins.
+fn watch(
+    head: Head,
+    n: u32,
+    columns: &[u32],
+    positions: &[u32],
+    lower_ends: &[u32],
+    watches: [u32; 8],
+    bytes: &mut [u8],
+    text: &mut [u8],
+) -> Turn
+    requires { ⌜ (length (now bytes) ≤ changeBytes) × (textBytes ≤ length (now text)) ⌝ }
+    ensures { λ r. ⌜ Turned (made (Request.Watch n) (player head (tables (now (columns .entry)) (now (positions .entry)) (now («lower_ends» .entry))) watches (now (bytes .entry)))) (now (text .entry)) r (tables (now (columns .entry)) (now (positions .entry)) (now («lower_ends» .entry))) (now (bytes .exit)) (now (text .exit)) ⌝ }
+{
+    let watched = watching::watch(head, n, columns, positions, lower_ends, watches, bytes);
+    let reply = watched.reply;
+    let answer = reply.answer;
+    let next = reply.head;
+    let kept = watched.watches;
+    let numbers = [n];
+    Turn {
+        answer,
+        count: put_changed(answer, b'W', &numbers, bytes, reply.count, text),
+        head: next,
+        watches: kept,
+    }
+}
+
+// Ends a watch, and lays its line.
+fn end(
+    head: Head,
+    n: u32,
+    columns: &[u32],
+    positions: &[u32],
+    lower_ends: &[u32],
+    watches: [u32; 8],
+    text: &mut [u8],
+) -> Turn
+    requires { ⌜ textBytes ≤ length (now text) ⌝ }
+    ensures { λ r. ⌜ ((bytes : List ℕ) → Turned (made (Request.End n) (player head (tables (now (columns .entry)) (now (positions .entry)) (now («lower_ends» .entry))) watches bytes)) (now (text .entry)) r (tables (now (columns .entry)) (now (positions .entry)) (now («lower_ends» .entry))) bytes (now (text .exit))) ⌝ }
+{
+    let ended = watching::end(head, n, columns, positions, lower_ends, watches);
+    let reply = ended.reply;
+    let answer = reply.answer;
+    let next = reply.head;
+    let kept = ended.watches;
+    let numbers = [n];
+    Turn {
+        answer,
+        count: put_answer(answer, b'U', &numbers, text),
+        head: next,
+        watches: kept,
+    }
+}
+
+// Makes the call of a message that leaves the tables as they are, and lays its lines; any other message lays none.
+fn observe(
+    message: Message,
+    head: Head,
+    columns: &[u32],
+    positions: &[u32],
+    lower_ends: &[u32],
+    watches: [u32; 8],
+    bytes: &mut [u8],
+    text: &mut [u8],
+) -> Turn
+    requires { ⌜ (length (now bytes) ≤ changeBytes) × (textBytes ≤ length (now text)) ⌝ }
+    ensures { λ r. ⌜ Turned (observed message (player head (tables (now (columns .entry)) (now (positions .entry)) (now («lower_ends» .entry))) watches (now (bytes .entry)))) (now (text .entry)) r (tables (now (columns .entry)) (now (positions .entry)) (now («lower_ends» .entry))) (now (bytes .exit)) (now (text .exit)) ⌝ }
+{
+    match message {
+        Message::Look(n) => look(
+            head,
+            n as u32,
+            columns,
+            positions,
+            lower_ends,
+            watches,
+            text,
+        ),
+        Message::Watch(n) => watch(
+            head,
+            n as u32,
+            columns,
+            positions,
+            lower_ends,
+            watches,
+            bytes,
+            text,
+        ),
+        Message::Unwatch(n) => end(
+            head,
+            n as u32,
+            columns,
+            positions,
+            lower_ends,
+            watches,
+            text,
+        ),
+        Message::Refused(refusal) => put_refusal(refusal, head, watches, text),
+        _ => Turn {
+            answer: Answer::Accepted,
+            count: 0,
+            head,
+            watches,
+        },
+    }
+}
+
+// Makes the call of a message that is in its place and no quote, and lays its lines.
+pub fn make_other(
+    message: Message,
+    head: Head,
+    columns: &mut [u32],
+    positions: &mut [u32],
+    lower_ends: &mut [u32],
+    watches: [u32; 8],
+    bytes: &mut [u8],
+    text: &mut [u8],
+) -> Turn
+    requires { ⌜ (length (now bytes) ≤ changeBytes) × (textBytes ≤ length (now text)) ⌝ }
+    ensures { λ r. ⌜ Turned (unquoted message (player head (tables (now (columns .entry)) (now (positions .entry)) (now («lower_ends» .entry))) watches (now (bytes .entry)))) (now (text .entry)) r (tables (now (columns .exit)) (now (positions .exit)) (now («lower_ends» .exit))) (now (bytes .exit)) (now (text .exit)) ⌝ }
+{
+    match message {
+        Message::Open(d, n, directions) => {
+            let opened = opening::open(
+                d as u32,
+                n as u32,
+                directions as u32,
+                columns,
+                positions,
+                lower_ends,
+                watches,
+            );
+            put_opening(head, d as u32, n as u32, directions as u32, opened, text)
+        }
+        _ => observe(
+            message,
+            head,
+            columns,
+            positions,
+            lower_ends,
+            watches,
+            bytes,
+            text,
+        ),
+    }
+}
