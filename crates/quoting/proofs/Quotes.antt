@@ -1,16 +1,16 @@
 -- A quote on a book: the rows it leaves have room, what is marked before anything is written, and what it leaves.
 use mathlib.Core.Path.{_≡_, refl, sym, ap, _∙_}
-use Prim.Native.Nat.{ℕ, suc, _+_, _-_, _*_, _≤_, _<_}
+use Prim.Native.Nat.{ℕ, suc, _+_, _-_, _≤_, _<_}
 use native.Mathlib.Nat.{le-trans, mul-le-mul-right}
 use native.Mathlib.Decide.{decLe}
 use native.Mathlib.Omega.{arith}
 use mathlib.Core.Bool.{Bool, true, false, not}
-use mathlib.Core.List.{List, [], _∷_, _++_, map}
-use lib.Dec.{ltb, leb, eqb}
-use lib.Seq.{take-all, take-at}
+use mathlib.Core.List.{List, [], map}
+use lib.Dec.{eqb}
+use lib.Seq.{take-all}
 use lib.ListN.{length, take, length-append, length-take, length-map}
-use borrow.Author.Tests.{ltb-false, le-ltb, leb-false, eqb-true, eq-eqb, not-true, not-false}
-use Rattle.lists.specs.Lists.{contains, rising, laid}
+use borrow.Author.Tests.{leb-false, eqb-true, eq-eqb, not-true, not-false}
+use Rattle.lists.specs.Lists.{contains, rising}
 use Rattle.lists.proofs.Booleans.{refute, clash, and-left}
 use Rattle.lists.proofs.Members.{of-map, of-filter, contains-mem}
 use Rattle.lists.proofs.Filters.{filter-map, map-map}
@@ -23,7 +23,7 @@ use Rattle.head.specs.declared.Answer.{Answer}
 use Rattle.head.specs.declared.Answer.the-variants.{Accepted, Refused}
 use Rattle.head.specs.declared.Refusal.{Refusal}
 use Rattle.head.specs.declared.Reply.{Reply}
-use Rattle.head.specs.Heads.{lastPosition, afterQuote}
+use Rattle.head.specs.Heads.{lastPosition}
 use Rattle.head.specs.Refusals.{numberOf, granted}
 use Rattle.head.specs.Replies.{Outcome, outcome}
 use Rattle.head.proofs.Numbers.{zero-passed}
@@ -33,12 +33,12 @@ use Rattle.model.proofs.Replying.{refused-reply, refused-left, accepted-left}
 use Rattle.model.proofs.ChangesFit.{changes-fit}
 use Rattle.cells.specs.Removed.{removedPlaces}
 use Rattle.cells.proofs.Selecting.{selected-filter}
-use Rattle.cells.proofs.Removals.{removed-few, stays-removed, listed-removed}
+use Rattle.cells.proofs.Removals.{stays-removed, listed-removed}
 use Rattle.rows.specs.Lent.{rowsLeft, rowsNext, Ready}
 use Rattle.rows.proofs.Reading.{length-rows}
 use Rattle.changes.specs.Flagged.{Found, flagged}
 use Rattle.changes.specs.Watches.{allFrames}
-use Rattle.changes.specs.Sought.{Rises, Named}
+use Rattle.changes.specs.Sought.{Named}
 use Rattle.changes.proofs.Quoting.{untorn-rows, quote-frames}
 use Rattle.model.specs.Promises.{Quoted}
 use Rattle.quoting.specs.declared.Finding.{Finding}
