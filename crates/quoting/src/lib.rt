@@ -54,12 +54,13 @@ fn enter(
 {
     let found = find(head, quote, columns, positions, keep, places);
     let n = found.removed;
+    let removed = &places[..n];
     let reply = write(
         found,
         unknown,
         head,
         keep,
-        &places[..n],
+        removed,
         positions,
         lower_ends,
         watches,
@@ -76,17 +77,9 @@ fn enter(
     let capacity = head.capacity as usize;
     let count = head.rows as usize;
     let used = larger(head.rows, unknown) as usize;
-    settle_rows(
-        &places[..n],
-        d,
-        count,
-        quote,
-        used * d,
-        capacity * d,
-        columns,
-    );
+    settle_rows(removed, d, count, quote, used * d, capacity * d, columns);
     settle_cells(
-        &places[..n],
+        removed,
         found.gone,
         count,
         found.lower,
@@ -95,7 +88,7 @@ fn enter(
         lower_ends,
     );
     settle_cells(
-        &places[..n],
+        removed,
         0,
         count,
         head.newest + 1,
