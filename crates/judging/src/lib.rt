@@ -16,7 +16,9 @@ use watches::torn;
 
 // Whether a table is shorter than the settings ask.
 pub fn short_tables(head: Head, columns: &[u32], positions: &[u32], lower_ends: &[u32]) -> bool
-    ensures { λ r. ⌜ r ≡ shortTables (tables (now (columns .entry)) (now (positions .entry)) (now («lower_ends» .entry))) (head .dimensions) (head .capacity) ⌝ }
+    ensures { λ r. ⌜ r ≡ shortTables
+        (tables (now (columns .entry)) (now (positions .entry)) (now («lower_ends» .entry)))
+        (head .dimensions) (head .capacity) ⌝ }
 {
     let n = head.capacity as usize;
     let cells = n * (head.dimensions as usize);
@@ -48,14 +50,19 @@ pub fn with_test(answer: Answer, test: bool, refusal: Refusal) -> Answer
 
 // The answer of a call by its head's settings: 3.
 pub fn judge_settings(head: Head) -> Answer
-    ensures { λ r. ⌜ numberOf r ≡ firstOf ((not (settingsHold (head .dimensions) (head .capacity) (head .directions)), number Settings) ∷ []) ⌝ }
+    ensures { λ r. ⌜ numberOf r ≡ firstOf ((
+      not (settingsHold (head .dimensions) (head .capacity)
+          (head .directions)),
+      number Settings,
+    ) ∷ []) ⌝ }
 {
     with_test(Answer::Accepted, !head.settings_hold(), Refusal::Settings)
 }
 
 // The answer of a call that is lent the tables, before it reads them: 3, 11.
 pub fn judge_loan(head: Head, columns: &[u32], positions: &[u32], lower_ends: &[u32]) -> Answer
-    ensures { λ r. ⌜ numberOf r ≡ loanAnswer head (tables (now (columns .entry)) (now (positions .entry)) (now («lower_ends» .entry))) ⌝ }
+    ensures { λ r. ⌜ numberOf r ≡ loanAnswer head
+        (tables (now (columns .entry)) (now (positions .entry)) (now («lower_ends» .entry))) ⌝ }
 {
     let settings = judge_settings(head);
     let short = short_tables(head, columns, positions, lower_ends);
@@ -64,7 +71,8 @@ pub fn judge_loan(head: Head, columns: &[u32], positions: &[u32], lower_ends: &[
 
 // The answer of a call on the tables alone, before what the call adds: 3, 11, 12.
 pub fn judge(head: Head, columns: &[u32], positions: &[u32], lower_ends: &[u32]) -> Answer
-    ensures { λ r. ⌜ numberOf r ≡ answerOf head (tables (now (columns .entry)) (now (positions .entry)) (now («lower_ends» .entry))) [] ⌝ }
+    ensures { λ r. ⌜ numberOf r ≡ answerOf head
+        (tables (now (columns .entry)) (now (positions .entry)) (now («lower_ends» .entry))) [] ⌝ }
 {
     let answer = judge_loan(head, columns, positions, lower_ends);
     match answer {
@@ -88,7 +96,8 @@ pub fn judge_watchful(
     lower_ends: &[u32],
     watches: [u32; 8],
 ) -> Answer
-    ensures { λ r. ⌜ numberOf r ≡ watchfulAnswer head (tables (now (columns .entry)) (now (positions .entry)) (now («lower_ends» .entry))) watches [] ⌝ }
+    ensures { λ r. ⌜ numberOf r ≡ watchfulAnswer head
+        (tables (now (columns .entry)) (now (positions .entry)) (now («lower_ends» .entry))) watches [] ⌝ }
 {
     let answer = judge(head, columns, positions, lower_ends);
     with_test(answer, torn(head.capacity, watches), Refusal::Torn)

@@ -18,7 +18,9 @@ use judging::with_test;
 
 // The answer of a look but for the output: 3, 11, 12, 5.
 fn judge_size(head: Head, n: u32, columns: &[u32], positions: &[u32], lower_ends: &[u32]) -> Answer
-    ensures { λ r. ⌜ numberOf r ≡ answerOf head (tables (now (columns .entry)) (now (positions .entry)) (now («lower_ends» .entry))) ((outOfRange head n, number WindowSize) ∷ []) ⌝ }
+    ensures { λ r. ⌜ numberOf r ≡ answerOf head
+        (tables (now (columns .entry)) (now (positions .entry)) (now («lower_ends» .entry)))
+        ((outOfRange head n, number WindowSize) ∷ []) ⌝ }
 {
     with_test(
         judge(head, columns, positions, lower_ends),
@@ -36,7 +38,8 @@ fn judge_look(
     lower_ends: &[u32],
     room: usize,
 ) -> Answer
-    ensures { λ r. ⌜ numberOf r ≡ lookAnswer head n (tables (now (columns .entry)) (now (positions .entry)) (now («lower_ends» .entry))) room ⌝ }
+    ensures { λ r. ⌜ numberOf r ≡ lookAnswer head n
+        (tables (now (columns .entry)) (now (positions .entry)) (now («lower_ends» .entry))) room ⌝ }
 {
     let answer = judge_size(head, n, columns, positions, lower_ends);
     match answer {
@@ -58,7 +61,9 @@ pub fn look(
     lower_ends: &[u32],
     out: &mut [u32],
 ) -> Reply
-    ensures { λ r. ⌜ Looked head n (tables (now (columns .entry)) (now (positions .entry)) (now («lower_ends» .entry))) (now (out .entry)) r (now (out .exit)) ⌝ }
+    ensures { λ r. ⌜ Looked head n
+        (tables (now (columns .entry)) (now (positions .entry)) (now («lower_ends» .entry)))
+        (now (out .entry)) r (now (out .exit)) ⌝ }
 {
     let answer = judge_look(head, n, columns, positions, lower_ends, out.len());
     match answer {

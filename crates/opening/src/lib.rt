@@ -17,7 +17,9 @@ pub fn open(
     lower_ends: &mut [u32],
     watches: [u32; 8],
 ) -> WatchReply
-    ensures { λ r. ⌜ Opened dimensions capacity directions (tables (now (columns .entry)) (now (positions .entry)) (now («lower_ends» .entry))) watches (r .reply) (tables (now (columns .exit)) (now (positions .exit)) (now («lower_ends» .exit))) (r .watches) ⌝ }
+    ensures { λ r. ⌜ Opened dimensions capacity directions
+        (tables (now (columns .entry)) (now (positions .entry)) (now («lower_ends» .entry))) watches (r .reply)
+        (tables (now (columns .exit)) (now (positions .exit)) (now («lower_ends» .exit))) (r .watches) ⌝ }
 {
     let head = Head::fresh(dimensions, capacity, directions);
     let answer = judge_loan(head, columns, positions, lower_ends);

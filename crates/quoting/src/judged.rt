@@ -28,7 +28,8 @@ pub fn judge_row(
     lower_ends: &[u32],
     watches: [u32; 8],
 ) -> Answer
-    ensures { λ r. ⌜ numberOf r ≡ rowAnswer head (now (quote .entry)) (tables (now (columns .entry)) (now (positions .entry)) (now («lower_ends» .entry))) watches ⌝ }
+    ensures { λ r. ⌜ numberOf r ≡ rowAnswer head (now (quote .entry))
+        (tables (now (columns .entry)) (now (positions .entry)) (now («lower_ends» .entry))) watches ⌝ }
 {
     let judged = judge_watchful(head, columns, positions, lower_ends, watches);
     with_quote(judged, head, quote)

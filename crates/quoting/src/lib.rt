@@ -1,4 +1,5 @@
-// The quote in stages: it is judged; what it does to the rows is found; its changes are written; the tables are settled, one at a time.
+// The quote in stages: it is judged; what it does to the rows is found; its changes are written; the tables are
+// settled, one at a time.
 ghost use Prim.Native.Nat.{_≤_};
 ghost use mathlib.Core.Path.{_≡_};
 ghost use lib.ListN.{length};
@@ -22,8 +23,8 @@ use marking::find;
 use rows::larger;
 use writing::write;
 
-// What is found of a quote before anything is written: the position that expires with it, its lower end, how many rows do not stay,
-// and how many rows there are after it.
+// What is found of a quote before anything is written: the position that expires with it, its lower end, how many
+// rows do not stay, and how many rows there are after it.
 pub struct Finding {
     pub gone: u32,
     pub lower: u32,
@@ -31,8 +32,8 @@ pub struct Finding {
     pub rows: u32,
 }
 
-// Enters a quote that passed every test but the last, with a flag and a place for each row; of the tables' places only the first, so
-// many as are unknown, may hold what no call left.
+// Enters a quote that passed every test but the last, with a flag and a place for each row; of the tables' places
+// only the first, so many as are unknown, may hold what no call left.
 fn enter(
     keep: &mut [bool],
     places: &mut [u16],
@@ -47,18 +48,23 @@ fn enter(
 ) -> Reply
     requires { ⌜ head .rows ≤ length (now keep) ⌝ }
     requires { ⌜ head .rows ≤ length (now places) ⌝ }
-    requires { ⌜ rowAnswer head (now quote) (tables (now columns) (now positions) (now «lower_ends»)) watches ≡ 0 ⌝ }
+    requires { ⌜ rowAnswer head (now quote)
+        (tables (now columns) (now positions) (now «lower_ends»)) watches ≡ 0 ⌝ }
     requires { ⌜ Known head unknown (tables (now columns) (now positions) (now «lower_ends»)) ⌝ }
-    ensures { λ r. ⌜ Quoted head (now (quote .entry)) (tables (now (columns .entry)) (now (positions .entry)) (now («lower_ends» .entry))) watches (now (out .entry)) r (tables (now (columns .exit)) (now (positions .exit)) (now («lower_ends» .exit))) (now (out .exit)) ⌝ }
+    ensures { λ r. ⌜ Quoted head (now (quote .entry))
+        (tables (now (columns .entry)) (now (positions .entry)) (now («lower_ends» .entry)))
+        watches (now (out .entry)) r (tables (now (columns .exit)) (now (positions .exit)) (now («lower_ends» .exit)))
+        (now (out .exit)) ⌝ }
 {
     let found = find(head, quote, columns, positions, keep, places);
     let n = found.removed;
+    let removed = &places[..n];
     let reply = write(
         found,
         unknown,
         head,
         keep,
-        &places[..n],
+        removed,
         positions,
         lower_ends,
         watches,
@@ -75,17 +81,9 @@ fn enter(
     let capacity = head.capacity as usize;
     let count = head.rows as usize;
     let used = larger(head.rows, unknown) as usize;
-    settle_rows(
-        &places[..n],
-        d,
-        count,
-        quote,
-        used * d,
-        capacity * d,
-        columns,
-    );
+    settle_rows(removed, d, count, quote, used * d, capacity * d, columns);
     settle_cells(
-        &places[..n],
+        removed,
         found.gone,
         count,
         found.lower,
@@ -94,7 +92,7 @@ fn enter(
         lower_ends,
     );
     settle_cells(
-        &places[..n],
+        removed,
         0,
         count,
         head.newest + 1,
@@ -105,8 +103,8 @@ fn enter(
     reply
 }
 
-// Takes a quote on any tables: they are judged, and every place may hold anything. Few flags and places do for few rows, since each
-// is zeroed.
+// Takes a quote on any tables: they are judged, and every place may hold anything. Few flags and places do for few
+// rows, since each is zeroed.
 pub fn quote(
     head: Head,
     quote: &[u32],
@@ -116,7 +114,10 @@ pub fn quote(
     watches: [u32; 8],
     out: &mut [u8],
 ) -> Reply
-    ensures { λ r. ⌜ Quoted head (now (quote .entry)) (tables (now (columns .entry)) (now (positions .entry)) (now («lower_ends» .entry))) watches (now (out .entry)) r (tables (now (columns .exit)) (now (positions .exit)) (now («lower_ends» .exit))) (now (out .exit)) ⌝ }
+    ensures { λ r. ⌜ Quoted head (now (quote .entry))
+        (tables (now (columns .entry)) (now (positions .entry)) (now («lower_ends» .entry)))
+        watches (now (out .entry)) r (tables (now (columns .exit)) (now (positions .exit)) (now («lower_ends» .exit)))
+        (now (out .exit)) ⌝ }
 {
     let answer = judge_row(head, quote, columns, positions, lower_ends, watches);
     match answer {
@@ -169,7 +170,10 @@ pub fn quote_reached(
     out: &mut [u8],
 ) -> Reply
     requires { ⌜ Reached (world head (tables (now columns) (now positions) (now «lower_ends»)) watches) ⌝ }
-    ensures { λ r. ⌜ Quoted head (now (quote .entry)) (tables (now (columns .entry)) (now (positions .entry)) (now («lower_ends» .entry))) watches (now (out .entry)) r (tables (now (columns .exit)) (now (positions .exit)) (now («lower_ends» .exit))) (now (out .exit)) ⌝ }
+    ensures { λ r. ⌜ Quoted head (now (quote .entry))
+        (tables (now (columns .entry)) (now (positions .entry)) (now («lower_ends» .entry)))
+        watches (now (out .entry)) r (tables (now (columns .exit)) (now (positions .exit)) (now («lower_ends» .exit)))
+        (now (out .exit)) ⌝ }
 {
     let answer = judge_reached(head, quote);
     match answer {

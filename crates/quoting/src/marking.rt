@@ -1,4 +1,5 @@
-// What a quote does to the rows, on shared tables: which of them stay, the places of the others, and the quote's lower end.
+// What a quote does to the rows, on shared tables: which of them stay, the places of the others, and the quote's
+// lower end.
 ghost use Rattle.quoting.specs.Stages.{Findable, Finds};
 use crate::Finding;
 use cells::list_removed;
@@ -16,7 +17,8 @@ pub fn find(
     places: &mut [u16],
 ) -> Finding
     requires { ⌜ Findable head (now quote) (now columns) (now positions) (now keep) (now places) ⌝ }
-    ensures { λ r. ⌜ Finds head (now (quote .entry)) (now (columns .entry)) (now (positions .entry)) r (now (keep .exit)) (now (places .exit)) ⌝ }
+    ensures { λ r. ⌜ Finds head (now (quote .entry)) (now (columns .entry)) (now (positions .entry)) r
+        (now (keep .exit)) (now (places .exit)) ⌝ }
 {
     let gone = difference(head.newest + 1, head.capacity);
     let directions = head.directions;

@@ -24,7 +24,8 @@ fn overflows(
     room: usize,
 ) -> bool
     requires { ⌜ Writable head found unknown (now keep) (now removed) (now positions) (now «lower_ends») watches ⌝ }
-    ensures { λ r. ⌜ r ≡ ltb room (length (foundBytes head found (now (keep .entry)) (now (positions .entry)) (now («lower_ends» .entry)) watches)) ⌝ }
+    ensures { λ r. ⌜ r ≡ ltb room (length (foundBytes head found
+        (now (keep .entry)) (now (positions .entry)) (now («lower_ends» .entry)) watches)) ⌝ }
 {
     if 57400 <= room {
         return false;
@@ -41,7 +42,8 @@ fn overflows(
         )
 }
 
-// Writes the changes of every watch, if they fit; removed has the places of the rows that do not stay. Hands back the quote's reply.
+// Writes the changes of every watch, if they fit; removed has the places of the rows that do not stay. Hands back the
+// quote's reply.
 pub fn write(
     found: Finding,
     unknown: u32,
@@ -54,7 +56,9 @@ pub fn write(
     out: &mut [u8],
 ) -> Reply
     requires { ⌜ Writable head found unknown (now keep) (now removed) (now positions) (now «lower_ends») watches ⌝ }
-    ensures { λ r. ⌜ Written head (found .rows) (foundBytes head found (now (keep .entry)) (now (positions .entry)) (now («lower_ends» .entry)) watches) (now (out .entry)) r (now (out .exit)) ⌝ }
+    ensures { λ r. ⌜ Written head (found .rows)
+        (foundBytes head found (now (keep .entry)) (now (positions .entry)) (now («lower_ends» .entry)) watches)
+        (now (out .entry)) r (now (out .exit)) ⌝ }
 {
     let room = out.len();
     if overflows(

@@ -31,7 +31,9 @@ fn judge_watch_size(
     lower_ends: &[u32],
     watches: [u32; 8],
 ) -> Answer
-    ensures { λ r. ⌜ numberOf r ≡ watchfulAnswer head (tables (now (columns .entry)) (now (positions .entry)) (now («lower_ends» .entry))) watches ((outOfRange head n, number WindowSize) ∷ []) ⌝ }
+    ensures { λ r. ⌜ numberOf r ≡ watchfulAnswer head
+        (tables (now (columns .entry)) (now (positions .entry)) (now («lower_ends» .entry)))
+        watches ((outOfRange head n, number WindowSize) ∷ []) ⌝ }
 {
     with_test(
         judge_watchful(head, columns, positions, lower_ends, watches),
@@ -49,7 +51,8 @@ fn judge_end(
     lower_ends: &[u32],
     watches: [u32; 8],
 ) -> Answer
-    ensures { λ r. ⌜ numberOf r ≡ endAnswer head n (tables (now (columns .entry)) (now (positions .entry)) (now («lower_ends» .entry))) watches ⌝ }
+    ensures { λ r. ⌜ numberOf r ≡ endAnswer head n
+        (tables (now (columns .entry)) (now (positions .entry)) (now («lower_ends» .entry))) watches ⌝ }
 {
     let answer = judge_watch_size(head, n, columns, positions, lower_ends, watches);
     with_test(answer, !find(watches, n), Refusal::NotWatched)
@@ -64,7 +67,8 @@ fn judge_record(
     lower_ends: &[u32],
     watches: [u32; 8],
 ) -> Answer
-    ensures { λ r. ⌜ numberOf r ≡ recordAnswer head n (tables (now (columns .entry)) (now (positions .entry)) (now («lower_ends» .entry))) watches ⌝ }
+    ensures { λ r. ⌜ numberOf r ≡ recordAnswer head n
+        (tables (now (columns .entry)) (now (positions .entry)) (now («lower_ends» .entry))) watches ⌝ }
 {
     let sized = judge_watch_size(head, n, columns, positions, lower_ends, watches);
     let answer = with_test(sized, find(watches, n), Refusal::AlreadyWatched);
@@ -81,7 +85,8 @@ fn judge_watch(
     watches: [u32; 8],
     room: usize,
 ) -> Answer
-    ensures { λ r. ⌜ numberOf r ≡ watchAnswer head n (tables (now (columns .entry)) (now (positions .entry)) (now («lower_ends» .entry))) watches room ⌝ }
+    ensures { λ r. ⌜ numberOf r ≡ watchAnswer head n
+        (tables (now (columns .entry)) (now (positions .entry)) (now («lower_ends» .entry))) watches room ⌝ }
 {
     let answer = judge_record(head, n, columns, positions, lower_ends, watches);
     match answer {
@@ -104,7 +109,9 @@ pub fn watch(
     watches: [u32; 8],
     out: &mut [u8],
 ) -> WatchReply
-    ensures { λ r. ⌜ Watched head n (tables (now (columns .entry)) (now (positions .entry)) (now («lower_ends» .entry))) watches (now (out .entry)) (r .reply) (r .watches) (now (out .exit)) ⌝ }
+    ensures { λ r. ⌜ Watched head n
+        (tables (now (columns .entry)) (now (positions .entry)) (now («lower_ends» .entry)))
+        watches (now (out .entry)) (r .reply) (r .watches) (now (out .exit)) ⌝ }
 {
     let answer = judge_watch(head, n, columns, positions, lower_ends, watches, out.len());
     match answer {
@@ -147,7 +154,8 @@ pub fn end(
     lower_ends: &[u32],
     watches: [u32; 8],
 ) -> WatchReply
-    ensures { λ r. ⌜ Ended head n (tables (now (columns .entry)) (now (positions .entry)) (now («lower_ends» .entry))) watches (r .reply) (r .watches) ⌝ }
+    ensures { λ r. ⌜ Ended head n (tables (now (columns .entry)) (now (positions .entry)) (now («lower_ends» .entry)))
+        watches (r .reply) (r .watches) ⌝ }
 {
     let answer = judge_end(head, n, columns, positions, lower_ends, watches);
     match answer {

@@ -34,15 +34,15 @@ wrote c = c .before .before .before .before .before .before .before .before
 
 -- where that was, from where the columns are settled
 abbrev began : tie.After-settle-rows → tie.After-larger
-began c = c .before .before .before
+began c = c .before .before
 
 -- where the columns were settled, from where the lower ends are
 abbrev columns-settled : tie.After-settle-cells → tie.After-settle-rows
-columns-settled c = c .before .before .before .before .before
+columns-settled c = c .before .before .before .before
 
 -- where the lower ends were settled, from where the positions are
 abbrev lowers-settled : tie.After-settle-cells2 → tie.After-settle-cells
-lowers-settled c = c .before .before .before .before .before .before
+lowers-settled c = c .before .before .before .before .before
 
 -- what is known where the tables begin to be settled
 before : (c : tie.After-larger)
@@ -58,11 +58,11 @@ cleared c = known-cleared (start (found (wrote c)) .pre .1 .1 .1) (c .larger .en
 find-requires : tie.Need-find-requires
 find-requires c κs = let pre = c .before .before .before .before .before .before .before .before .before .before .before .pre in findable (admitted _ _ _ _ (pre .1 .1 .0)) (pre .0) (pre .1 .0)
 
-slice-reshare-prefix-write : tie.Need-slice-reshare-prefix-write
-slice-reshare-prefix-write c = omega (arith, places-within (known (c .before .before .before .before .before)))
+slice-reshare-prefix-removed : tie.Need-slice-reshare-prefix-removed
+slice-reshare-prefix-removed c = omega (arith, places-within (known (c .before .before .before .before)))
 
-slice-aggregate-write : tie.Need-slice-aggregate-write
-slice-aggregate-write c = places-long (known (c .before .before .before .before .before .before))
+slice-aggregate-removed : tie.Need-slice-aggregate-removed
+slice-aggregate-removed c = places-long (known (c .before .before .before .before .before))
 
 write-requires : tie.Need-write-requires
 write-requires c κs = let v = c .before .before .before .before .before .before .before .before .before in writable (known v) (start v .pre .1 .1 .1 .named)
@@ -109,51 +109,31 @@ larger-requires c κs = search needs
 cast-used : tie.Need-cast-used
 cast-used c = search needs
 
-slice-reshare-prefix-settle-rows : tie.Need-slice-reshare-prefix-settle-rows
-slice-reshare-prefix-settle-rows c = omega (arith, places-within (before c))
-
-slice-aggregate-settle-rows : tie.Need-slice-aggregate-settle-rows
-slice-aggregate-settle-rows c = places-long (before (c .before))
-
 mul-settle-rows : tie.Need-mul-settle-rows
-mul-settle-rows c = omega (arith, cleared (c .before) .columns .within, ready (before (c .before)) .few-columns)
+mul-settle-rows c = omega (arith, cleared c .columns .within, ready (before c) .few-columns)
 
 mul-settle-rows-2 : tie.Need-mul-settle-rows-2
-mul-settle-rows-2 c = omega (arith, ready (before (c .before)) .few-columns)
+mul-settle-rows-2 c = omega (arith, ready (before c) .few-columns)
 
 settle-rows-requires : tie.Need-settle-rows-requires
 settle-rows-requires c κs =
-    let v = ready (before (c .before .before)) in
-    let w = cleared (c .before .before) in
+    let v = ready (before (c .before)) in
+    let w = cleared (c .before) in
     (v .listed, (v .columns-fit, (v .few-columns, (columns-room v, (mul-le-mul-right _ (w .rows-below (v .rows-fit)), w .columns)))))
-
-slice-reshare-prefix-settle-cells : tie.Need-slice-reshare-prefix-settle-cells
-slice-reshare-prefix-settle-cells c =
-    omega (arith, places-within (before (began (c .before .before))))
-
-slice-aggregate-settle-cells : tie.Need-slice-aggregate-settle-cells
-slice-aggregate-settle-cells c = places-long (before (began (c .before .before .before)))
 
 settle-cells-requires : tie.Need-settle-cells-requires
 settle-cells-requires c κs =
-    let at = began (c .before .before .before .before) in
+    let at = began (c .before .before .before) in
     let v = ready (before at) in
     let w = cleared at in
     (v .listed, (v .lower-ends-fit, (omega (arith, v .few), (lower-ends-room v, (w .rows-below (v .rows-fit), w .lowerEnds)))))
 
-slice-reshare-prefix-settle-cells-2 : tie.Need-slice-reshare-prefix-settle-cells-2
-slice-reshare-prefix-settle-cells-2 c =
-    omega (arith, places-within (before (began (columns-settled (c .before .before)))))
-
-slice-aggregate-settle-cells-2 : tie.Need-slice-aggregate-settle-cells-2
-slice-aggregate-settle-cells-2 c = places-long (before (began (columns-settled (c .before .before .before))))
-
 add-settle-cells : tie.Need-add-settle-cells
-add-settle-cells c = omega (arith, ready (before (began (columns-settled (c .before .before .before .before)))) .newest-fits)
+add-settle-cells c = omega (arith, ready (before (began (columns-settled (c .before .before .before)))) .newest-fits)
 
 settle-cells-requires-2 : tie.Need-settle-cells-requires-2
 settle-cells-requires-2 c κs =
-    let at = began (columns-settled (c .before .before .before .before .before)) in
+    let at = began (columns-settled (c .before .before .before .before)) in
     let v = ready (before at) in
     let w = cleared at in
     (v .listed, (v .positions-fit, (omega (arith, v .few), (positions-room v, (w .rows-below (v .rows-fit), w .positions)))))
@@ -191,8 +171,8 @@ enter-spec =
     tie.close
     (tie.spec
     find-requires
-    slice-reshare-prefix-write
-    slice-aggregate-write
+    slice-reshare-prefix-removed
+    slice-aggregate-removed
     write-requires
     enum-told
     enum-told-2
@@ -208,16 +188,10 @@ enter-spec =
     cast-count
     larger-requires
     cast-used
-    slice-reshare-prefix-settle-rows
-    slice-aggregate-settle-rows
     mul-settle-rows
     mul-settle-rows-2
     settle-rows-requires
-    slice-reshare-prefix-settle-cells
-    slice-aggregate-settle-cells
     settle-cells-requires
-    slice-reshare-prefix-settle-cells-2
-    slice-aggregate-settle-cells-2
     add-settle-cells
     settle-cells-requires-2
     same-length-7
