@@ -20,7 +20,7 @@ use Rattle.frames.specs.declared.Shape.{Shape}
 use Rattle.frames.specs.declared.Shape.the-variants.{Columns, Size, SizePosition, Settings, Unknown}
 use Rattle.frames.specs.declared.Read.{Read}
 use Rattle.frames.specs.Kinds.{within, shapeOf, bodyLength}
-use Rattle.frames.specs.Frames.{messageBy, messageAt, columnsAt, told, ended, refused, saying, Reading, reading, stays, readAt, before, messagesFrom}
+use Rattle.frames.specs.Frames.{messageBy, messageAt, columnsAt, told, ended, refused, saying, Reading, reading, stays, readAt, toldFirst, messagesFrom}
 use Rattle.frames.proofs.Shapes.{Known, kind-known}
 
 -- ---- the parts of what was read
@@ -157,16 +157,16 @@ told-at tape place h = go (readAt tape place) (found tape place) refl h
 -- its message is the first from there on
 pub messages-on : (tape : List ℕ) (place most : ℕ) → Told tape place
     → messagesFrom (suc most) tape place ≡ messageAt tape (place + 1) (getD tape place 0) ∷ messagesFrom most tape (readAt tape place .next)
-unfolding messagesFrom before
+unfolding messagesFrom toldFirst
 messages-on tape place most t = rw (t .says)
 
 -- where the place is not moved, there is no message
 pub messages-none : (tape : List ℕ) (place most : ℕ) → readAt tape place .next ≤ place → messagesFrom most tape place ≡ []
-unfolding messagesFrom before stays
+unfolding messagesFrom toldFirst stays
 messages-none tape place zero h = refl
 messages-none tape place (suc most) h = go (readAt tape place) (found tape place) h
   where
-    go : (read : Reading) → Found tape place read → read .next ≤ place → before (read .says) (messagesFrom most tape (read .next)) ≡ []
+    go : (read : Reading) → Found tape place read → read .next ≤ place → toldFirst (read .says) (messagesFrom most tape (read .next)) ≡ []
     go _ (beyond t) l = refl
     go _ (at-end t) l = refl
     go _ unknown l = refl

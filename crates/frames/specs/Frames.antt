@@ -90,14 +90,14 @@ readAt tape place =
     (record { says = told (messageAt tape (place + 1) kind); columns = columnsAt tape (place + 1) kind; next = next }))))
 
 -- a message that is said, then the others; none where there is no message
-unfoldable pub before : Saying → List Message → List Message
-before (told m) others = m ∷ others
-before ended others = []
-before (refused k) others = []
+unfoldable pub toldFirst : Saying → List Message → List Message
+toldFirst (told m) others = m ∷ others
+toldFirst ended others = []
+toldFirst (refused k) others = []
 
 -- the messages read from a place on, at most this many, up to the end of the tape or what cannot be read
 unfoldable pub messagesFrom : ℕ → List ℕ → ℕ → List Message
 messagesFrom zero tape place = []
 messagesFrom (suc most) tape place =
     let read = readAt tape place in
-    before (read .says) (messagesFrom most tape (read .next))
+    toldFirst (read .says) (messagesFrom most tape (read .next))

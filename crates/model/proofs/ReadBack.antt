@@ -10,7 +10,7 @@ use borrow.Author.Tests.{le-ltb, eq-eqb}
 use Rattle.lists.specs.Lists.{flat, contains, rising}
 use Rattle.lists.proofs.Rising.{rising-cons, rising-filter}
 use Rattle.frames.specs.declared.Message.{Message}
-use Rattle.frames.specs.Frames.{frame, stays, readAt, before as behind, messagesFrom}
+use Rattle.frames.specs.Frames.{frame, stays, readAt, toldFirst, messagesFrom}
 use Rattle.frames.specs.Messages.{Writable}
 use Rattle.frames.proofs.WriteCases.{frame-size}
 use Rattle.frames.proofs.RoundTrips.{read-after-write, leave-writable, join-writable}
@@ -23,14 +23,14 @@ pub data Sent : List Message → Type 0 where
 
 -- nothing is read at the end
 read-end : (tape : List ℕ) (k place : ℕ) → place ≡ length tape → messagesFrom k tape place ≡ []
-unfolding messagesFrom readAt stays behind
+unfolding messagesFrom readAt stays toldFirst
 read-end tape zero place e = refl
 read-end tape (suc k) place e = rw (e, le-ltb (length tape) (length tape) (le-refl (length tape)), eq-eqb (length tape) (length tape) refl)
 
 -- a message is read, and the reading goes on behind its frame
 read-on : (k : ℕ) (before after : List ℕ) (m : Message) → Writable m []
     → messagesFrom (suc k) (before ++ (frame m [] ++ after)) (length before) ≡ m ∷ messagesFrom k (before ++ (frame m [] ++ after)) (length before + length (frame m []))
-unfolding messagesFrom behind
+unfolding messagesFrom toldFirst
 read-on k before after m w = rw (read-after-write before after m [] w)
 
 -- the messages that are read are those that were written
