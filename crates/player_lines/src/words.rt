@@ -20,20 +20,31 @@ fn next_space(line: &[u8], place: usize) -> usize {
     at
 }
 
+// Where the field behind the one at a place begins, or the line's end.
+fn next_field(line: &[u8], place: usize) -> usize {
+    if place < line.len() {
+        return next_space(line, place + 1);
+    }
+    place
+}
+
 // Where the field behind this many others begins, or the line's end.
 fn field_start(line: &[u8], place: usize, before: usize) -> usize {
-    let mut at = next_space(line, place);
+    let mut at = place;
     let mut passed: usize = 0;
-    while passed < before && at < line.len() {
-        at = next_space(line, at + 1);
+    while passed < before {
         passed += 1;
+        at = next_field(line, at);
     }
     at
 }
 
 // Whether the bytes of a line from one place up to another spell a word.
 fn spells(line: &[u8], from: usize, to: usize, word: &[u8]) -> bool {
-    if to < from || line.len() < to {
+    if to < from {
+        return false;
+    }
+    if line.len() < to {
         return false;
     }
     if to - from != word.len() {
@@ -169,8 +180,8 @@ pub fn read_line(line: &[u8]) -> Line {
     let command = command_of(line, to);
     let mut name = Name::None;
     let mut place = to;
-    if wants_name(command) && to < line.len() {
-        place = next_space(line, to + 1);
+    if wants_name(command) {
+        place = next_field(line, to);
         name = name_of(line, to, place);
     }
     let said = numbers_from(line, place);
