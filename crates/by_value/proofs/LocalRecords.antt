@@ -11,7 +11,7 @@ use mir.Val.{Val}
 use base.Fml.{Lft, GName, Fml, fat, fdead, flent}
 use prog.Wp.{Heap}
 use ghost.Atoms.{Atoms}
-use types.Kit.{Goal, Soaks, Given, Item, given, ‵, _⊛_, some, later, Seq, _$_, move, drop, use1, use3, pick, split, learn, fsplit, fjoin, feqL, feqI, await}
+use types.Kit.{Goal, Soaks, Given, Item, given, ‵, _⊛_, some, later, Seq, Step, step, _$_, move, drop, use1, use3, pick, split, learn, fsplit, fjoin, feqL, feqI, await}
 use types.SemTy.{cells, Arr}
 use types.Share.{arr-parts}
 use types.Tokens.{lent-back}
@@ -50,10 +50,10 @@ Read l xs = arr-parts (shares T.the-row) (length xs) .part fullShare xs l 0
 
 module _ {M : Type 1} {𝓤 : URA M} {H : Heap 𝓤} {A : Atoms 𝓤} {K : Type 0} {W : Given 𝓤 H A} {Γ : List (Item 𝓤)} {G : Goal 𝓤 H} where
   -- the local is taken apart into its elements
-  apart : K → (l : ℕ) (xs : List Watch) → Is (Array T.the-row 8) xs (recorded xs) → Seq K W (‵ (row T.the-row fullShare xs l 0) ∷ Γ) G → Seq K W (‵ (Local l xs) ∷ Γ) G
-  apart t l xs is k =
-      use1 W (‵ (cellAt fullShare (Array T.the-row 8 .mir) (recorded xs) l 0)) (W .laws .at-raw fullShare (tyArray T′.mir 8) l 0 (only (recorded xs))) $
-      use1 W (‵ (row T.the-row fullShare xs l 0)) (array-taken-apart 𝓤 H A W T.the-row tt (LL.vals T.the-type T′.the-laws) (LL.tells T.the-type T′.the-laws) ((LL.makes T.the-type T′.the-plain) 𝓤 H A) 8 xs l is) $ k
+  apart : K → (l : ℕ) (xs : List Watch) → Is (Array T.the-row 8) xs (recorded xs) → Step K W (‵ (row T.the-row fullShare xs l 0) ∷ Γ) G (‵ (Local l xs) ∷ Γ) G
+  apart t l xs is =
+      step (λ s. use1 W (‵ (cellAt fullShare (Array T.the-row 8 .mir) (recorded xs) l 0)) (W .laws .at-raw fullShare (tyArray T′.mir 8) l 0 (only (recorded xs))) $
+      use1 W (‵ (row T.the-row fullShare xs l 0)) (array-taken-apart 𝓤 H A W T.the-row tt (LL.vals T.the-type T′.the-laws) (LL.tells T.the-type T′.the-laws) ((LL.makes T.the-type T′.the-plain) 𝓤 H A) 8 xs l is) $ s)
 
   -- it is put together
   together : K → (l : ℕ) (xs : List Watch) → length xs ≡ 8 → (Is (Array T.the-row 8) xs (recorded xs) → Seq K W (‵ (Local l xs) ∷ Γ) G) → Seq K W (‵ (row T.the-row fullShare xs l 0) ∷ Γ) G
@@ -87,5 +87,5 @@ module _ {M : Type 1} {𝓤 : URA M} {H : Heap 𝓤} {A : Atoms 𝓤} {K : Type 
       await t z $ pick t (λ δ. split t $ k δ)
 
   -- κ has ended: they come back as they were
-  pub shown-back : K → Soaks G → {κ : Lft} (l : ℕ) (xs : List Watch) → length xs ≡ 8 → Seq K W (‵ (Local l xs) ∷ Γ) G → Seq K W (‵ (fdead κ) ∷ ‵ (flent κ (Read l xs)) ∷ Γ) G
-  shown-back t z l xs e k = lent-back t z $ fsplit t $ drop t $ together t l xs e (λ is. k)
+  pub shown-back : K → Soaks G → {κ : Lft} (l : ℕ) (xs : List Watch) → length xs ≡ 8 → Step K W (‵ (Local l xs) ∷ Γ) G (‵ (fdead κ) ∷ ‵ (flent κ (Read l xs)) ∷ Γ) G
+  shown-back t z l xs e = step (λ s. lent-back t z $ fsplit t $ drop t $ together t l xs e (λ is. s))

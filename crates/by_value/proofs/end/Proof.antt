@@ -55,9 +55,9 @@ use Rattle.watches.specs.Records.{watched}
 use Rattle.watches.proofs.Lending.{at-name}
 use Rattle.book.proofs.Machines.{headed, machines, spelled}
 use Rattle.by_value.proofs.LocalRecords.{recorded, recorded-tells, lends-records, records-back}
-use Rattle.by_value.proofs.MadeValues.{made}
-use Rattle.by_value.proofs.Made as M
-use Rattle.by_value.proofs.Made.Laws as M′
+use Rattle.by_value.proofs.MadeValues.{made, made-value, is-made}
+use Rattle.by_value.proofs.Made as Md
+use Rattle.by_value.proofs.Made.Laws as Md′
 use Rattle.book.proofs.end as callee
 use Rattle.book.proofs.end.Symbol as callee-def
 use Rattle.book.proofs.end.Symbol.{name as #book·end}
@@ -133,10 +133,10 @@ module _ {M : Type 1} (𝓤 : URA M) (H : Heap 𝓤) (A : Atoms 𝓤) (W : Given
   abbrev Left : List (Item 𝓤)
   Left = ‵ (flft κ₀ q₀) ∷ ‵ (flft κ₁ q₁) ∷ ‵ (flft κ₂ q₂) ∷ []
 
-  exits : (j : Reply) (after : List Watch) → Is R.the-row j (machines j) → Is (Array T.the-row 8) after (recorded after) → Ended head n lent (watched records) j (watched after) → ent 𝓤 (⋆ 𝓤 H A Left) (Post (only (LL.vals M.the-type M′.the-laws (made j after))))
+  exits : (j : Reply) (after : List Watch) → Is R.the-row j (machines j) → Is (Array T.the-row 8) after (recorded after) → Ended head n lent (watched records) j (watched after) → ent 𝓤 (⋆ 𝓤 H A Left) (Post (made-value j after))
   exits j after is is-after kept =
-      qed W Left ∵ suffices ! _ (ends-at 𝓤 H A f.ended stayed (f.clauses 𝓤 H A mem run) W bound (only (LL.vals M.the-type M′.the-laws (made j after))) (made j after) (tt, (tt, (tt, (tt, (tt, (tt, tt)))))) (tt, (tt, (tt, (tt, (tt, (tt, tt))))))) $ says ! kept $
-      nothing ! $ move ! (3 ∷ 0 ∷ []) $ join ! $ move ! (2 ∷ 0 ∷ []) $ join ! $ move ! (1 ∷ 0 ∷ []) $ join ! $ frame ! $ nothing ! $ nothing ! $ fjoin ! $ nothing ! $ fjoin ! $ nothing ! $ fjoin ! $ nothing ! $ fjoin ! $ nothing ! $ fjoin ! $ nothing ! $ fjoin ! $ frame ! $ owned ! M.the-row (Is M.the-row) ((LL.makes M.the-type M′.the-plain) 𝓤 H A) (made j after) _ (LL.owes M.the-type M′.the-laws (made j after) (is, (is-after, tt))) $ done !
+      qed W Left ∵ suffices ! _ (ends-at 𝓤 H A f.ended stayed (f.clauses 𝓤 H A mem run) W bound (made-value j after) (made j after) (tt, (tt, (tt, (tt, (tt, (tt, tt)))))) (tt, (tt, (tt, (tt, (tt, (tt, tt))))))) $ says ! kept $
+      nothing ! $ move ! (3 ∷ 0 ∷ []) $ join ! $ move ! (2 ∷ 0 ∷ []) $ join ! $ move ! (1 ∷ 0 ∷ []) $ join ! $ frame ! $ nothing ! $ nothing ! $ fjoin ! $ nothing ! $ fjoin ! $ nothing ! $ fjoin ! $ nothing ! $ fjoin ! $ nothing ! $ fjoin ! $ nothing ! $ fjoin ! $ frame ! $ owned ! Md.the-row (Is Md.the-row) ((LL.makes Md.the-type Md′.the-plain) 𝓤 H A) (made j after) _ (is-made j after is is-after) $ done !
 
   module _ (is-head : Is Hd.the-row head (headed head)) (n-fits : n < 2 ^ 32) (columns-fits : length (columns .now) < 2 ^ 64) (positions-fits : length (positions .now) < 2 ^ 64) (lowerEnds-fits : length (lowerEnds .now) < 2 ^ 64) (is-records : Is (Array T.the-row 8) records (recorded records))
       (C : Calls 𝓤 H) (Λ : Loops 𝓤 H) (fm : FmC 𝓤 H (W .laws) C) (known : Triple 𝓤 (C #book·end) (Callee 𝓤 H A mem run)) where
@@ -165,7 +165,7 @@ module _ {M : Type 1} (𝓤 : URA M) (H : Heap 𝓤) (A : Atoms 𝓤) (W : Given
         -- ν ends, and they come back
         move ! (0 ∷ []) $ split ! $ move ! (1 ∷ []) $ split ! $ move ! (1 ∷ []) $ split ! $ move ! (1 ∷ []) $ split ! $ move ! (1 ∷ []) $ move ! (1 ∷ []) $ lft-end ! tt $ move ! (0 ∷ 6 ∷ 5 ∷ []) $ records-back ! tt l₇ records (zs .1 .1 .1 .1 .1 .0) eight (λ is-after.
         assigns ! (of-opd ! (load ! (from ! (stop !)) (look ! 0 refl))) (from ! (stop !)) (init ! 8 refl (array-typed T.the-row (LL.lawful T.the-type T′.the-laws 𝓤 H A W .typed) 8 (zs .1 .1 .1 .1 .1 .0) _ is-after .0)) $
-        assigns ! (agg ! (and-then ! (load ! (from ! (stop !)) (look ! 14 refl)) (and-then ! (load ! (from ! (stop !)) (look ! 8 refl)) (no-more !)))) (from ! (stop !)) (init ! 29 refl (tt, (LL.lawful R.the-type R′.the-laws 𝓤 H A W .typed j _ (spelled j c has) .0, ((array-typed T.the-row (LL.lawful T.the-type T′.the-laws 𝓤 H A W .typed) 8 (zs .1 .1 .1 .1 .1 .0) _ is-after .0), tt)))) $
+        assigns ! (agg ! (and-then ! (load ! (from ! (stop !)) (look ! 14 refl)) (and-then ! (load ! (from ! (stop !)) (look ! 8 refl)) (no-more !)))) (from ! (stop !)) (init ! 29 refl (LL.lawful Md.the-type Md′.the-laws 𝓤 H A W .typed (made j (zs .1 .1 .1 .1 .1 .0)) _ (is-made j (zs .1 .1 .1 .1 .1 .0) (spelled j c has) is-after) .0)) $
         returns ! (look ! 29 refl) $ forget ! 8 refl $ forget ! 10 refl $ forget ! 12 refl $ forget ! 14 refl $ forget ! 0 refl $ forget ! 17 refl $ forget ! 19 refl $ forget ! 21 refl $ forget ! 23 refl $ forget ! 25 refl $ forget ! 27 refl $ forget ! 29 refl $
         move ! (29 ∷ 30 ∷ []) $ free1 ! $ move ! (27 ∷ 28 ∷ []) $ free1 ! $ move ! (25 ∷ 26 ∷ []) $ free1 ! $ move ! (23 ∷ 24 ∷ []) $ free1 ! $ move ! (21 ∷ 22 ∷ []) $ free1 ! $ move ! (19 ∷ 20 ∷ []) $ free1 ! $ move ! (17 ∷ 18 ∷ []) $ free1 ! $ move ! (0 ∷ 16 ∷ []) $ free1 ! $ move ! (13 ∷ 14 ∷ []) $ free1 ! $ move ! (11 ∷ 12 ∷ []) $ free1 ! $ move ! (9 ∷ 10 ∷ []) $ free1 ! $ move ! (7 ∷ 8 ∷ []) $ free1 ! $ free0 ! $
         keep ! (3 ∷ 2 ∷ 1 ∷ []) $ by ! (exits j (zs .1 .1 .1 .1 .1 .0) (spelled j c has) is-after kept))))))))))))))))))))))

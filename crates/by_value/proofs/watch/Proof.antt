@@ -55,9 +55,9 @@ use Rattle.watches.specs.Records.{watched}
 use Rattle.watches.proofs.Lending.{at-name}
 use Rattle.book.proofs.Machines.{headed, machines, spelled}
 use Rattle.by_value.proofs.LocalRecords.{recorded, recorded-tells, lends-records, records-back}
-use Rattle.by_value.proofs.MadeValues.{made}
-use Rattle.by_value.proofs.Made as M
-use Rattle.by_value.proofs.Made.Laws as M′
+use Rattle.by_value.proofs.MadeValues.{made, made-value, is-made}
+use Rattle.by_value.proofs.Made as Md
+use Rattle.by_value.proofs.Made.Laws as Md′
 use Rattle.book.proofs.watch as callee
 use Rattle.book.proofs.watch.Symbol as callee-def
 use Rattle.book.proofs.watch.Symbol.{name as #book·watch}
@@ -133,10 +133,10 @@ module _ {M : Type 1} (𝓤 : URA M) (H : Heap 𝓤) (A : Atoms 𝓤) (W : Given
   abbrev Left : List ℕ → List (Item 𝓤)
   Left out-last = ‵ (flft κ₀ q₀) ∷ ‵ (flft κ₁ q₁) ∷ ‵ (flft κ₂ q₂) ∷ ‵ (flft κ₃ q₃) ∷ ‵ (finally u8 (out .name) out-last) ∷ []
 
-  exits : (out-last : List ℕ) (j : Reply) (after : List Watch) → Is R.the-row j (machines j) → Is (Array T.the-row 8) after (recorded after) → length out-last ≡ length (out .now) → Watched head n lent (watched records) (out .now) j (watched after) out-last → ent 𝓤 (⋆ 𝓤 H A (Left out-last)) (Post (only (LL.vals M.the-type M′.the-laws (made j after))))
+  exits : (out-last : List ℕ) (j : Reply) (after : List Watch) → Is R.the-row j (machines j) → Is (Array T.the-row 8) after (recorded after) → length out-last ≡ length (out .now) → Watched head n lent (watched records) (out .now) j (watched after) out-last → ent 𝓤 (⋆ 𝓤 H A (Left out-last)) (Post (made-value j after))
   exits out-last j after is is-after out-len kept =
-      qed W (Left out-last) ∵ suffices ! _ (ends-at 𝓤 H A f.ended stayed (f.clauses 𝓤 H A mem run) W bound (only (LL.vals M.the-type M′.the-laws (made j after))) (made j after) (tt, (tt, (tt, (tt, (tt, (tt, (out-last, tt))))))) (tt, (tt, (tt, (tt, (tt, (tt, (out-len, tt)))))))) $ says ! kept $
-      nothing ! $ move ! (4 ∷ 0 ∷ []) $ join ! $ move ! (3 ∷ 0 ∷ []) $ join ! $ move ! (2 ∷ 0 ∷ []) $ join ! $ move ! (1 ∷ 0 ∷ []) $ join ! $ frame ! $ nothing ! $ move ! (1 ∷ 0 ∷ []) $ fjoin ! $ nothing ! $ fjoin ! $ nothing ! $ fjoin ! $ nothing ! $ fjoin ! $ nothing ! $ fjoin ! $ nothing ! $ fjoin ! $ nothing ! $ fjoin ! $ frame ! $ owned ! M.the-row (Is M.the-row) ((LL.makes M.the-type M′.the-plain) 𝓤 H A) (made j after) _ (LL.owes M.the-type M′.the-laws (made j after) (is, (is-after, tt))) $ done !
+      qed W (Left out-last) ∵ suffices ! _ (ends-at 𝓤 H A f.ended stayed (f.clauses 𝓤 H A mem run) W bound (made-value j after) (made j after) (tt, (tt, (tt, (tt, (tt, (tt, (out-last, tt))))))) (tt, (tt, (tt, (tt, (tt, (tt, (out-len, tt)))))))) $ says ! kept $
+      nothing ! $ move ! (4 ∷ 0 ∷ []) $ join ! $ move ! (3 ∷ 0 ∷ []) $ join ! $ move ! (2 ∷ 0 ∷ []) $ join ! $ move ! (1 ∷ 0 ∷ []) $ join ! $ frame ! $ nothing ! $ move ! (1 ∷ 0 ∷ []) $ fjoin ! $ nothing ! $ fjoin ! $ nothing ! $ fjoin ! $ nothing ! $ fjoin ! $ nothing ! $ fjoin ! $ nothing ! $ fjoin ! $ nothing ! $ fjoin ! $ frame ! $ owned ! Md.the-row (Is Md.the-row) ((LL.makes Md.the-type Md′.the-plain) 𝓤 H A) (made j after) _ (is-made j after is is-after) $ done !
 
   module _ (is-head : Is Hd.the-row head (headed head)) (n-fits : n < 2 ^ 32) (columns-fits : length (columns .now) < 2 ^ 64) (positions-fits : length (positions .now) < 2 ^ 64) (lowerEnds-fits : length (lowerEnds .now) < 2 ^ 64) (is-records : Is (Array T.the-row 8) records (recorded records)) (out-fits : length (out .now) < 2 ^ 64)
       (C : Calls 𝓤 H) (Λ : Loops 𝓤 H) (fm : FmC 𝓤 H (W .laws) C) (known : Triple 𝓤 (C #book·watch) (Callee 𝓤 H A mem run)) where
@@ -167,7 +167,7 @@ module _ {M : Type 1} (𝓤 : URA M) (H : Heap 𝓤) (A : Atoms 𝓤) (W : Given
         -- ν ends, and they come back
         move ! (0 ∷ []) $ split ! $ move ! (1 ∷ []) $ split ! $ move ! (1 ∷ []) $ split ! $ move ! (1 ∷ []) $ split ! $ move ! (1 ∷ []) $ split ! $ move ! (1 ∷ []) $ move ! (2 ∷ []) $ lft-end ! tt $ move ! (0 ∷ 8 ∷ 7 ∷ []) $ records-back ! tt l₈ records (zs .1 .1 .1 .1 .1 .0) eight (λ is-after.
         assigns ! (of-opd ! (load ! (from ! (stop !)) (look ! 0 refl))) (from ! (stop !)) (init ! 10 refl (array-typed T.the-row (LL.lawful T.the-type T′.the-laws 𝓤 H A W .typed) 8 (zs .1 .1 .1 .1 .1 .0) _ is-after .0)) $
-        assigns ! (agg ! (and-then ! (load ! (from ! (stop !)) (look ! 20 refl)) (and-then ! (load ! (from ! (stop !)) (look ! 10 refl)) (no-more !)))) (from ! (stop !)) (init ! 37 refl (tt, (LL.lawful R.the-type R′.the-laws 𝓤 H A W .typed j _ (spelled j c has) .0, ((array-typed T.the-row (LL.lawful T.the-type T′.the-laws 𝓤 H A W .typed) 8 (zs .1 .1 .1 .1 .1 .0) _ is-after .0), tt)))) $
+        assigns ! (agg ! (and-then ! (load ! (from ! (stop !)) (look ! 20 refl)) (and-then ! (load ! (from ! (stop !)) (look ! 10 refl)) (no-more !)))) (from ! (stop !)) (init ! 37 refl (LL.lawful Md.the-type Md′.the-laws 𝓤 H A W .typed (made j (zs .1 .1 .1 .1 .1 .0)) _ (is-made j (zs .1 .1 .1 .1 .1 .0) (spelled j c has) is-after) .0)) $
         returns ! (look ! 37 refl) $ forget ! 10 refl $ forget ! 12 refl $ forget ! 14 refl $ forget ! 16 refl $ forget ! 18 refl $ forget ! 20 refl $ forget ! 0 refl $ forget ! 23 refl $ forget ! 25 refl $ forget ! 27 refl $ forget ! 29 refl $ forget ! 31 refl $ forget ! 33 refl $ forget ! 35 refl $ forget ! 37 refl $
         move ! (37 ∷ 38 ∷ []) $ free1 ! $ move ! (35 ∷ 36 ∷ []) $ free1 ! $ move ! (33 ∷ 34 ∷ []) $ free1 ! $ move ! (31 ∷ 32 ∷ []) $ free1 ! $ move ! (29 ∷ 30 ∷ []) $ free1 ! $ move ! (27 ∷ 28 ∷ []) $ free1 ! $ move ! (25 ∷ 26 ∷ []) $ free1 ! $ move ! (23 ∷ 24 ∷ []) $ free1 ! $ move ! (0 ∷ 22 ∷ []) $ free1 ! $ move ! (19 ∷ 20 ∷ []) $ free1 ! $ move ! (17 ∷ 18 ∷ []) $ free1 ! $ move ! (15 ∷ 16 ∷ []) $ free1 ! $ move ! (13 ∷ 14 ∷ []) $ free1 ! $ move ! (11 ∷ 12 ∷ []) $ free1 ! $ move ! (9 ∷ 10 ∷ []) $ free1 ! $ free0 ! $
         keep ! (4 ∷ 3 ∷ 2 ∷ 1 ∷ 5 ∷ []) $ by ! (exits (zs .1 .1 .1 .1 .1 .1 .0) j (zs .1 .1 .1 .1 .1 .0) (spelled j c has) is-after out-same kept))))))))))))))))))))))))))
