@@ -11,6 +11,7 @@ use head::Verdict;
 use head::Watch;
 use notation::line_end;
 use player_desk::Desk;
+use player_desk::Loan;
 use player_desk::Seen;
 use player_lines::Command;
 use player_lines::Line;
@@ -38,10 +39,12 @@ fn first_desk() -> Desk {
     Desk {
         head: zeros,
         records: [Watch { n: 0 }; 8],
-        columns: 6144,
-        positions: 1024,
-        lower_ends: 1024,
-        out: 57400,
+        loan: Loan {
+            columns: 6144,
+            positions: 1024,
+            lower_ends: 1024,
+            out: 57400,
+        },
         seen: Seen::Nothing,
         reply: Reply {
             answer: Answer::Accepted,

@@ -27,16 +27,104 @@ pub enum Seen {
     Tables,
 }
 
-// The head for the next call, the records, how many cells or bytes of each buffer are lent, what is to be printed, and the reply or verdict
-// of the last call.
-pub struct Desk {
-    pub head: Head,
-    pub records: [Watch; 8],
+// How many cells of each table are lent, and how many bytes of output, or cells to a look.
+pub struct Loan {
     pub columns: usize,
     pub positions: usize,
     pub lower_ends: usize,
     pub out: usize,
+}
+
+// The head for the next call, the records, what is lent, what is to be printed, and the last reply and verdict.
+pub struct Desk {
+    pub head: Head,
+    pub records: [Watch; 8],
+    pub loan: Loan,
     pub seen: Seen,
     pub reply: Reply,
     pub verdict: Verdict,
+}
+
+impl Desk {
+    // The desk with something else to print.
+    pub fn showing(self, seen: Seen) -> Desk {
+        let head = self.head;
+        let records = self.records;
+        let loan = self.loan;
+        let reply = self.reply;
+        let verdict = self.verdict;
+        Desk {
+            head,
+            records,
+            loan,
+            seen,
+            reply,
+            verdict,
+        }
+    }
+
+    // The desk with another head and other records.
+    pub fn holding(self, head: Head, records: [Watch; 8]) -> Desk {
+        let loan = self.loan;
+        let seen = self.seen;
+        let reply = self.reply;
+        let verdict = self.verdict;
+        Desk {
+            head,
+            records,
+            loan,
+            seen,
+            reply,
+            verdict,
+        }
+    }
+
+    // The desk with another loan.
+    pub fn lending(self, loan: Loan) -> Desk {
+        let head = self.head;
+        let records = self.records;
+        let seen = self.seen;
+        let reply = self.reply;
+        let verdict = self.verdict;
+        Desk {
+            head,
+            records,
+            loan,
+            seen,
+            reply,
+            verdict,
+        }
+    }
+
+    // The desk after a reply that is to be printed so.
+    pub fn answered(self, reply: Reply, seen: Seen) -> Desk {
+        let head = self.head;
+        let records = self.records;
+        let loan = self.loan;
+        let verdict = self.verdict;
+        Desk {
+            head,
+            records,
+            loan,
+            seen,
+            reply,
+            verdict,
+        }
+    }
+
+    // The desk after an audit.
+    pub fn judged(self, verdict: Verdict) -> Desk {
+        let head = self.head;
+        let records = self.records;
+        let loan = self.loan;
+        let reply = self.reply;
+        Desk {
+            head,
+            records,
+            loan,
+            seen: Seen::Verdict,
+            reply,
+            verdict,
+        }
+    }
 }

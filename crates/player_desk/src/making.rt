@@ -37,9 +37,10 @@ pub fn play_open(
     if let Command::Open = command {
         let numbers = line.numbers;
         let records = desk.records;
-        let c = least(desk.columns, columns.len());
-        let p = least(desk.positions, positions.len());
-        let l = least(desk.lower_ends, lower_ends.len());
+        let loan = desk.loan;
+        let c = least(loan.columns, columns.len());
+        let p = least(loan.positions, positions.len());
+        let l = least(loan.lower_ends, lower_ends.len());
         let made = by_value::open(
             numbers[0],
             numbers[1],
@@ -57,30 +58,31 @@ pub fn play_open(
 // The desk after an opening.
 fn opened(desk: Desk, made: Made) -> Desk {
     let reply = made.reply;
-    let mut now = desk;
-    now.records = made.records;
-    now.reply = reply;
-    now.seen = Seen::Bytes;
+    let records = made.records;
+    let head = desk.head;
+    let answered = desk.answered(reply, Seen::Bytes);
     if accepts(reply) {
-        now.head = reply.head;
+        let fresh = reply.head;
+        return answered.holding(fresh, records);
     }
-    now
+    answered.holding(head, records)
 }
 
 // The desk after a call with this reply.
 fn replied(desk: Desk, reply: Reply, seen: Seen) -> Desk {
-    let mut now = desk;
-    now.head = reply.head;
-    now.reply = reply;
-    now.seen = seen;
-    now
+    let next = reply.head;
+    let records = desk.records;
+    let answered = desk.answered(reply, seen);
+    answered.holding(next, records)
 }
 
 // The desk after a call that may change the records.
 fn recorded(desk: Desk, made: Made) -> Desk {
-    let mut now = desk;
-    now.records = made.records;
-    replied(now, made.reply, Seen::Bytes)
+    let reply = made.reply;
+    let records = made.records;
+    let next = reply.head;
+    let answered = desk.answered(reply, Seen::Bytes);
+    answered.holding(next, records)
 }
 
 // A quote of at most twelve columns.
@@ -94,15 +96,31 @@ pub fn play_quote(
 ) -> Desk {
     let command = line.command;
     if let Command::Quote = command {
-        let numbers = line.numbers;
+        let n = line.numbers;
+        let numbers = [
+            n[0],
+            n[1],
+            n[2],
+            n[3],
+            n[4],
+            n[5],
+            n[6],
+            n[7],
+            n[8],
+            n[9],
+            n[10],
+            n[11],
+        ];
         let records = desk.records;
         let k = least(line.count, 12);
-        let c = least(desk.columns, columns.len());
-        let p = least(desk.positions, positions.len());
-        let l = least(desk.lower_ends, lower_ends.len());
-        let o = least(desk.out, out.len());
+        let head = desk.head;
+        let loan = desk.loan;
+        let c = least(loan.columns, columns.len());
+        let p = least(loan.positions, positions.len());
+        let l = least(loan.lower_ends, lower_ends.len());
+        let o = least(loan.out, out.len());
         let reply = by_value::quote(
-            desk.head,
+            head,
             &numbers[..k],
             &mut columns[..c],
             &mut positions[..p],
@@ -127,12 +145,14 @@ pub fn play_look(
     let command = line.command;
     if let Command::Look = command {
         let numbers = line.numbers;
-        let c = least(desk.columns, columns.len());
-        let p = least(desk.positions, positions.len());
-        let l = least(desk.lower_ends, lower_ends.len());
-        let o = least(desk.out, cells.len());
+        let head = desk.head;
+        let loan = desk.loan;
+        let c = least(loan.columns, columns.len());
+        let p = least(loan.positions, positions.len());
+        let l = least(loan.lower_ends, lower_ends.len());
+        let o = least(loan.out, cells.len());
         let reply = book::look(
-            desk.head,
+            head,
             numbers[0],
             &columns[..c],
             &positions[..p],
@@ -157,12 +177,14 @@ pub fn play_watch(
     if let Command::Watch = command {
         let numbers = line.numbers;
         let records = desk.records;
-        let c = least(desk.columns, columns.len());
-        let p = least(desk.positions, positions.len());
-        let l = least(desk.lower_ends, lower_ends.len());
-        let o = least(desk.out, out.len());
+        let head = desk.head;
+        let loan = desk.loan;
+        let c = least(loan.columns, columns.len());
+        let p = least(loan.positions, positions.len());
+        let l = least(loan.lower_ends, lower_ends.len());
+        let o = least(loan.out, out.len());
         let made = by_value::watch(
-            desk.head,
+            head,
             numbers[0],
             &columns[..c],
             &positions[..p],
@@ -187,11 +209,13 @@ pub fn play_end(
     if let Command::End = command {
         let numbers = line.numbers;
         let records = desk.records;
-        let c = least(desk.columns, columns.len());
-        let p = least(desk.positions, positions.len());
-        let l = least(desk.lower_ends, lower_ends.len());
+        let head = desk.head;
+        let loan = desk.loan;
+        let c = least(loan.columns, columns.len());
+        let p = least(loan.positions, positions.len());
+        let l = least(loan.lower_ends, lower_ends.len());
         let made = by_value::end(
-            desk.head,
+            head,
             numbers[0],
             &columns[..c],
             &positions[..p],
@@ -213,14 +237,13 @@ pub fn play_audit(
 ) -> Desk {
     let command = line.command;
     if let Command::Audit = command {
-        let c = least(desk.columns, columns.len());
-        let p = least(desk.positions, positions.len());
-        let l = least(desk.lower_ends, lower_ends.len());
-        let verdict = audits::audit(desk.head, &columns[..c], &positions[..p], &lower_ends[..l]);
-        let mut now = desk;
-        now.verdict = verdict;
-        now.seen = Seen::Verdict;
-        return now;
+        let head = desk.head;
+        let loan = desk.loan;
+        let c = least(loan.columns, columns.len());
+        let p = least(loan.positions, positions.len());
+        let l = least(loan.lower_ends, lower_ends.len());
+        let verdict = audits::audit(head, &columns[..c], &positions[..p], &lower_ends[..l]);
+        return desk.judged(verdict);
     }
     desk
 }

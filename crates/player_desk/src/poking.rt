@@ -1,5 +1,6 @@
 // What is changed without a call: lengths lent, cells, the head; and what a line is to print before any call.
 use crate::Desk;
+use crate::Loan;
 use crate::Seen;
 use head::Head;
 use head::Watch;
@@ -7,67 +8,76 @@ use player_lines::Command;
 use player_lines::Line;
 use player_lines::Name;
 
-// The desk with what a line prints unless it is a call.
-pub fn begin(desk: Desk, line: Line) -> Desk {
-    let command = line.command;
-    let mut now = desk;
-    now.seen = match command {
+// What a line prints unless it is a call.
+fn seen_of(command: Command) -> Seen {
+    match command {
         Command::Unread => Seen::Unread,
         Command::Show => Seen::Tables,
         _ => Seen::Nothing,
-    };
-    now
+    }
 }
 
-// The desk after a line that it cannot take.
-fn unread(desk: Desk) -> Desk {
-    let mut now = desk;
-    now.seen = Seen::Unread;
-    now
+// The desk before a line is played.
+pub fn begin(desk: Desk, line: Line) -> Desk {
+    let command = line.command;
+    desk.showing(seen_of(command))
 }
 
-// The length lent from now on, of a buffer of this length; one beyond it is refused.
-fn lent(desk: Desk, name: Name, k: usize) -> Desk {
-    let mut now = desk;
+// How long a buffer is: the name of none has no length.
+fn full(name: Name) -> usize {
+    match name {
+        Name::Columns => 6144,
+        Name::Positions => 1024,
+        Name::Lower => 1024,
+        Name::Out => 57400,
+        _ => 0,
+    }
+}
+
+// Whether a buffer can be lent.
+fn can_lend(name: Name) -> bool {
+    match name {
+        Name::Watches => false,
+        Name::None => false,
+        _ => true,
+    }
+}
+
+// A loan with another length of a buffer.
+fn lent(loan: Loan, name: Name, k: usize) -> Loan {
+    let mut now = loan;
     match name {
         Name::Columns => {
-            if 6144 < k {
-                return unread(desk);
-            }
             now.columns = k;
         }
         Name::Positions => {
-            if 1024 < k {
-                return unread(desk);
-            }
             now.positions = k;
         }
         Name::Lower => {
-            if 1024 < k {
-                return unread(desk);
-            }
             now.lower_ends = k;
         }
-        Name::Out => {
-            if 57400 < k {
-                return unread(desk);
-            }
-            now.out = k;
-        }
         _ => {
-            return unread(desk);
+            now.out = k;
         }
     }
     now
 }
 
-// The lengths lent.
+// A length lent from now on; one beyond its buffer is a line that cannot be taken.
 pub fn play_lend(desk: Desk, line: Line) -> Desk {
     let command = line.command;
     if let Command::Lend = command {
         let numbers = line.numbers;
         let name = line.name;
-        return lent(desk, name, numbers[0] as usize);
+        let k = numbers[0] as usize;
+        if full(name) < k {
+            return desk.showing(Seen::Unread);
+        }
+        if !can_lend(name) {
+            return desk.showing(Seen::Unread);
+        }
+        let loan = desk.loan;
+        return desk.lending(lent(loan, name, k));
     }
     desk
 }
@@ -77,15 +87,15 @@ pub fn play_head(desk: Desk, line: Line) -> Desk {
     let command = line.command;
     if let Command::Head = command {
         let numbers = line.numbers;
-        let mut now = desk;
-        now.head = Head {
+        let records = desk.records;
+        let head = Head {
             dimensions: numbers[0],
             capacity: numbers[1],
             directions: numbers[2],
             newest: numbers[3],
             rows: numbers[4],
         };
-        return now;
+        return desk.holding(head, records);
     }
     desk
 }
@@ -96,19 +106,19 @@ fn poked(desk: Desk, cells: &mut [u32], i: usize, v: u32) -> Desk {
         cells[i] = v;
         return desk;
     }
-    unread(desk)
+    desk.showing(Seen::Unread)
 }
 
 // The records with one poked, where there is one.
-fn recorded(desk: Desk, i: usize, v: u32) -> Desk {
+fn marked(desk: Desk, i: usize, v: u32) -> Desk {
     if i < 8 {
-        let mut now = desk;
+        let head = desk.head;
         let mut records = desk.records;
-        records[i] = Watch { n: v };
-        now.records = records;
-        return now;
+        let record = Watch { n: v };
+        records[i] = record;
+        return desk.holding(head, records);
     }
-    unread(desk)
+    desk.showing(Seen::Unread)
 }
 
 // A cell of a table or a record poked.
@@ -120,17 +130,17 @@ pub fn play_cell(
     lower_ends: &mut [u32],
 ) -> Desk {
     let command = line.command;
+    let name = line.name;
+    let numbers = line.numbers;
+    let i = numbers[0] as usize;
+    let v = numbers[1];
     if let Command::Cell = command {
-        let numbers = line.numbers;
-        let name = line.name;
-        let i = numbers[0] as usize;
-        let v = numbers[1];
         return match name {
             Name::Columns => poked(desk, columns, i, v),
             Name::Positions => poked(desk, positions, i, v),
             Name::Lower => poked(desk, lower_ends, i, v),
-            Name::Watches => recorded(desk, i, v),
-            _ => unread(desk),
+            Name::Watches => marked(desk, i, v),
+            _ => desk.showing(Seen::Unread),
         };
     }
     desk
