@@ -1,9 +1,5 @@
 // The book player: makes the calls that the lines of standard input ask for on real buffers, and prints what was seen of each.
-mod print;
-
-use crate::print::Print;
-use crate::print::flush;
-use crate::print::print_line;
+ghost use Prim.Native.Nat.{_≤_};
 use head::Answer;
 use head::Head;
 use head::Reply;
@@ -17,6 +13,10 @@ use player_lines::Command;
 use player_lines::Line;
 use player_lines::Name;
 use player_lines::read_line;
+use player_print::Print;
+use player_print::flush;
+use player_print::flush_unless;
+use player_print::print_line;
 
 // A part of a line that is longer than any that the player can take.
 const TOO_LONG: usize = 200;
@@ -58,46 +58,60 @@ fn first_desk() -> Desk {
 // Finds the next line of the text that has come; the begun line at its end is one where the input has ended.
 fn find_line(stand: Stand, text: &[u8]) -> Stand {
     let mut now = stand;
+    let place = stand.place;
+    let end = stand.end;
     now.found = false;
-    if text.len() < stand.place {
+    if text.len() < end {
         now.over = true;
         return now;
     }
-    let stop = line_end(text, stand.place);
-    now.from = stand.place;
+    if end < place {
+        now.over = true;
+        return now;
+    }
+    let stop = line_end(&text[..end], place);
+    now.from = place;
     now.to = stop;
-    if stop < text.len() {
+    if stop < end {
         now.place = stop + 1;
         now.found = true;
         return now;
     }
     if stand.ended {
-        now.found = stand.place < stop;
         now.place = stop;
-        now.over = !now.found;
+        now.found = place < stop;
+        now.over = stop <= place;
     }
     now
 }
 
 // The end of what is kept of a begun line: enough to show that it is too long.
-fn kept_end(place: usize, end: usize) -> usize {
-    if place < end && TOO_LONG < end - place {
+fn kept_end(place: usize, end: usize) -> usize
+    requires { ⌜ place ≤ end ⌝ }
+    ensures { λ r. ⌜ (place ≤ r) × (r ≤ end) ⌝ }
+{
+    if TOO_LONG < end - place {
         return place + TOO_LONG;
     }
     end
 }
 
-// Reads on behind the begun line, where no line was found.
-fn read_on(stand: Stand, text: &mut [u8]) -> Stand {
+// Reads on behind the begun line, where no line was found; it is over where the output has failed.
+fn read_on(stand: Stand, failed: bool, text: &mut [u8]) -> Stand {
     let mut now = stand;
     let place = stand.place;
-    if stand.found || stand.over {
+    let end = stand.end;
+    now.over = stand.over | failed;
+    if stand.found | now.over {
         return now;
     }
-    if stand.end < place || text.len() < stand.end {
+    if text.len() < end {
         return now;
     }
-    let stop = kept_end(place, stand.end);
+    if end < place {
+        return now;
+    }
+    let stop = kept_end(place, end);
     streams::to_front(text, place, stop);
     let begun = stop - place;
     let came = streams::take_in(&mut text[begun..], b"book_player: standard input");
@@ -107,17 +121,52 @@ fn read_on(stand: Stand, text: &mut [u8]) -> Stand {
     now
 }
 
-// The line that was found; none where there is none.
-fn line_of(stand: Stand, text: &[u8]) -> Line {
-    if stand.found && stand.from <= stand.to && stand.to <= text.len() {
-        return read_line(&text[stand.from..stand.to]);
-    }
+// No line.
+fn no_line() -> Line {
     Line {
         command: Command::None,
         name: Name::None,
         numbers: [0; 12],
         count: 0,
     }
+}
+
+// The line that was found; none where there is none.
+fn line_of(stand: Stand, text: &[u8]) -> Line {
+    let from = stand.from;
+    let to = stand.to;
+    if !stand.found {
+        return no_line();
+    }
+    if text.len() < to {
+        return no_line();
+    }
+    if to < from {
+        return no_line();
+    }
+    read_line(&text[from..to])
+}
+
+// Plays a line: each of these does what it is for where the line asks for it.
+fn play(
+    desk: Desk,
+    line: Line,
+    columns: &mut [u32],
+    positions: &mut [u32],
+    lower_ends: &mut [u32],
+    out: &mut [u8],
+    cells: &mut [u32],
+) -> Desk {
+    let mut now = player_desk::begin(desk, line);
+    now = player_desk::play_open(now, line, columns, positions, lower_ends);
+    now = player_desk::play_quote(now, line, columns, positions, lower_ends, out);
+    now = player_desk::play_look(now, line, columns, positions, lower_ends, cells);
+    now = player_desk::play_watch(now, line, columns, positions, lower_ends, out);
+    now = player_desk::play_end(now, line, columns, positions, lower_ends);
+    now = player_desk::play_audit(now, line, columns, positions, lower_ends);
+    now = player_desk::play_lend(now, line);
+    now = player_desk::play_head(now, line);
+    player_desk::play_cell(now, line, columns, positions, lower_ends)
 }
 
 fn main() {
@@ -144,34 +193,24 @@ fn main() {
         over: false,
     };
     let mut turns = u64::MAX;
-    while 0 < turns && !stand.over && !print.failed {
+    while 0 < turns && !stand.over {
         turns -= 1;
-        let end = stand.end;
-        stand = find_line(stand, &text[..end]);
-        if !stand.found {
-            print = flush(print, &lines);
-        }
+        stand = find_line(stand, &text);
+        let found = stand.found;
+        print = flush_unless(found, print, &lines);
         let line = line_of(stand, &text);
-        desk = player_desk::begin(desk, line);
-        desk = player_desk::play_open(desk, line, &mut columns, &mut positions, &mut lower_ends);
-        desk = player_desk::play_quote(
+        desk = play(
             desk,
             line,
             &mut columns,
             &mut positions,
             &mut lower_ends,
             &mut out,
+            &mut cells,
         );
-        desk = player_desk::play_look(desk, line, &columns, &positions, &lower_ends, &mut cells);
-        desk = player_desk::play_watch(desk, line, &columns, &positions, &lower_ends, &mut out);
-        desk = player_desk::play_end(desk, line, &columns, &positions, &lower_ends);
-        desk = player_desk::play_audit(desk, line, &columns, &positions, &lower_ends);
-        desk = player_desk::play_lend(desk, line);
-        desk = player_desk::play_head(desk, line);
-        desk = player_desk::play_cell(desk, line, &mut columns, &mut positions, &mut lower_ends);
         print = print_line(
             print,
-            stand.found,
+            found,
             desk,
             &columns,
             &positions,
@@ -180,7 +219,8 @@ fn main() {
             &cells,
             &mut lines,
         );
-        stand = read_on(stand, &mut text);
+        let failed = print.failed;
+        stand = read_on(stand, failed, &mut text);
     }
     flush(print, &lines);
 }
