@@ -1,139 +1,105 @@
+-- `main` meets its contract: each call leaves the buffers as long as they were.
+use mathlib.Core.Path.{_≡_, refl}
+use native.Mathlib.Omega.{arith}
+use lib.ListN.{length}
+use borrow.Author.Needs.{needs}
 use Rattle.book_player.proofs.main.Statement.{statement}
 use Rattle.book_player.proofs.main.Tie as tie
-use Rattle.book_player.proofs.main.Reads as reads
-use Rattle.book_player.proofs.main.Lts as lts
-use Rattle.book_player.proofs.find_line.Reads as find-line-reads
-use Rattle.book_player.proofs.first_desk.Reads as first-desk-reads
-use Rattle.book_player.proofs.line_of.Reads as line-of-reads
-use Rattle.book_player.proofs.play.Reads as play-reads
-use Rattle.book_player.proofs.read_on.Reads as read-on-reads
-use Rattle.player_print.proofs.flush.Reads as flush-reads
-use Rattle.player_print.proofs.flush_unless.Reads as flush-unless-reads
-use Rattle.player_print.proofs.print_line.Reads as print-line-reads
 
 abbrev Inv-loop : tie.InvT-loop
 Inv-loop columns₀ positions₀ lower-ends₀ out₀ cells₀ text₀ lines₀ desk₀ print₀ stand₀ turns₀ columns positions lower-ends out cells text lines desk print stand turns =
-    ?
+    (length columns ≡ 6144) × (length positions ≡ 1024) × (length lower-ends ≡ 1024) × (length out ≡ 57400) × (length cells ≡ 57400) × (length text ≡ 65536) × (length lines ≡ 65536)
 
 abbrev μ-loop : tie.MeasureT-loop
 μ-loop columns₀ positions₀ lower-ends₀ out₀ cells₀ text₀ lines₀ desk₀ print₀ stand₀ turns₀ columns positions lower-ends out cells text lines desk print stand turns =
-    ?
+    turns
 
--- src/main.rt:180:9
 first-desk-requires : tie.Need-first-desk-requires Inv-loop μ-loop
-first-desk-requires c κs = ?
+first-desk-requires c κs = search needs
 
--- src/main.rt:196:5
 loop-holds : tie.Need-loop-holds Inv-loop μ-loop
-loop-holds c = ?
+loop-holds c = (refl, refl, refl, refl, refl, refl, refl)
 
--- src/main.rt:197:9
 sub-turns : tie.Need-sub-turns Inv-loop μ-loop
-sub-turns c = ?
+sub-turns c = search needs
 
--- src/main.rt:198:34
 slice-aggregate-find-line : tie.Need-slice-aggregate-find-line Inv-loop μ-loop
-slice-aggregate-find-line c = ?
+slice-aggregate-find-line c = let i = c .before .before .before .before .loop .inv in omega (arith, i .0, i .1, i .2, i .3, i .4, i .5, i .6)
 
--- src/main.rt:198:9
 find-line-requires : tie.Need-find-line-requires Inv-loop μ-loop
-find-line-requires c κs = ?
+find-line-requires c κs = search needs
 
--- src/main.rt:200:44
 slice-aggregate-flush-unless : tie.Need-slice-aggregate-flush-unless Inv-loop μ-loop
-slice-aggregate-flush-unless c = ?
+slice-aggregate-flush-unless c = let i = c .before .before .before .before .before .before .loop .inv in omega (arith, i .0, i .1, i .2, i .3, i .4, i .5, i .6)
 
--- src/main.rt:200:9
 flush-unless-requires : tie.Need-flush-unless-requires Inv-loop μ-loop
-flush-unless-requires c κs = ?
+flush-unless-requires c κs = search needs
 
--- src/main.rt:201:35
 slice-aggregate-line-of : tie.Need-slice-aggregate-line-of Inv-loop μ-loop
-slice-aggregate-line-of c = ?
+slice-aggregate-line-of c = let i = c .before .before .before .before .before .before .before .before .loop .inv in omega (arith, i .0, i .1, i .2, i .3, i .4, i .5, i .6)
 
--- src/main.rt:201:13
 line-of-requires : tie.Need-line-of-requires Inv-loop μ-loop
-line-of-requires c κs = ?
+line-of-requires c κs = search needs
 
--- src/main.rt:205:13
 slice-aggregate-play : tie.Need-slice-aggregate-play Inv-loop μ-loop
-slice-aggregate-play c = ?
+slice-aggregate-play c = let i = c .before .before .before .before .before .before .before .before .before .before .loop .inv in omega (arith, i .0, i .1, i .2, i .3, i .4, i .5, i .6)
 
--- src/main.rt:206:13
 slice-aggregate-play-2 : tie.Need-slice-aggregate-play-2 Inv-loop μ-loop
-slice-aggregate-play-2 c = ?
+slice-aggregate-play-2 c = let i = c .before .before .before .before .before .before .before .before .before .before .before .loop .inv in omega (arith, i .0, i .1, i .2, i .3, i .4, i .5, i .6)
 
--- src/main.rt:207:13
 slice-aggregate-play-3 : tie.Need-slice-aggregate-play-3 Inv-loop μ-loop
-slice-aggregate-play-3 c = ?
+slice-aggregate-play-3 c = let i = c .before .before .before .before .before .before .before .before .before .before .before .before .loop .inv in omega (arith, i .0, i .1, i .2, i .3, i .4, i .5, i .6)
 
--- src/main.rt:208:13
 slice-aggregate-play-4 : tie.Need-slice-aggregate-play-4 Inv-loop μ-loop
-slice-aggregate-play-4 c = ?
+slice-aggregate-play-4 c = let i = c .before .before .before .before .before .before .before .before .before .before .before .before .before .loop .inv in omega (arith, i .0, i .1, i .2, i .3, i .4, i .5, i .6)
 
--- src/main.rt:209:13
 slice-aggregate-play-5 : tie.Need-slice-aggregate-play-5 Inv-loop μ-loop
-slice-aggregate-play-5 c = ?
+slice-aggregate-play-5 c = let i = c .before .before .before .before .before .before .before .before .before .before .before .before .before .before .loop .inv in omega (arith, i .0, i .1, i .2, i .3, i .4, i .5, i .6)
 
--- src/main.rt:202:9
 play-requires : tie.Need-play-requires Inv-loop μ-loop
-play-requires c κs = ?
+play-requires c κs = search needs
 
--- src/main.rt:215:13
 slice-aggregate-print-line : tie.Need-slice-aggregate-print-line Inv-loop μ-loop
-slice-aggregate-print-line c = ?
+slice-aggregate-print-line c = let i = c .before .before .before .before .before .before .before .before .before .before .before .before .before .before .before .before .before .before .before .before .before .loop .inv in omega (arith, i .0, i .1, i .2, i .3, i .4, i .5, i .6, (c .before .before .before .before .before .before .play))
 
--- src/main.rt:216:13
 slice-aggregate-print-line-2 : tie.Need-slice-aggregate-print-line-2 Inv-loop μ-loop
-slice-aggregate-print-line-2 c = ?
+slice-aggregate-print-line-2 c = let i = c .before .before .before .before .before .before .before .before .before .before .before .before .before .before .before .before .before .before .before .before .before .before .loop .inv in omega (arith, i .0, i .1, i .2, i .3, i .4, i .5, i .6, (c .before .before .before .before .before .before .before .play))
 
--- src/main.rt:217:13
 slice-aggregate-print-line-3 : tie.Need-slice-aggregate-print-line-3 Inv-loop μ-loop
-slice-aggregate-print-line-3 c = ?
+slice-aggregate-print-line-3 c = let i = c .before .before .before .before .before .before .before .before .before .before .before .before .before .before .before .before .before .before .before .before .before .before .before .loop .inv in omega (arith, i .0, i .1, i .2, i .3, i .4, i .5, i .6, (c .before .before .before .before .before .before .before .before .play))
 
--- src/main.rt:218:13
 slice-aggregate-print-line-4 : tie.Need-slice-aggregate-print-line-4 Inv-loop μ-loop
-slice-aggregate-print-line-4 c = ?
+slice-aggregate-print-line-4 c = let i = c .before .before .before .before .before .before .before .before .before .before .before .before .before .before .before .before .before .before .before .before .before .before .before .before .loop .inv in omega (arith, i .0, i .1, i .2, i .3, i .4, i .5, i .6, (c .before .before .before .before .before .before .before .before .before .play))
 
--- src/main.rt:219:13
 slice-aggregate-print-line-5 : tie.Need-slice-aggregate-print-line-5 Inv-loop μ-loop
-slice-aggregate-print-line-5 c = ?
+slice-aggregate-print-line-5 c = let i = c .before .before .before .before .before .before .before .before .before .before .before .before .before .before .before .before .before .before .before .before .before .before .before .before .before .loop .inv in omega (arith, i .0, i .1, i .2, i .3, i .4, i .5, i .6, (c .before .before .before .before .before .before .before .before .before .before .play))
 
--- src/main.rt:220:13
 slice-aggregate-print-line-6 : tie.Need-slice-aggregate-print-line-6 Inv-loop μ-loop
-slice-aggregate-print-line-6 c = ?
+slice-aggregate-print-line-6 c = let i = c .before .before .before .before .before .before .before .before .before .before .before .before .before .before .before .before .before .before .before .before .before .before .before .before .before .before .loop .inv in omega (arith, i .0, i .1, i .2, i .3, i .4, i .5, i .6, (c .before .before .before .before .before .before .before .before .before .before .before .play))
 
--- src/main.rt:211:9
 print-line-requires : tie.Need-print-line-requires Inv-loop μ-loop
-print-line-requires c κs = ?
+print-line-requires c κs = search needs
 
--- src/main.rt:223:40
 slice-aggregate-read-on : tie.Need-slice-aggregate-read-on Inv-loop μ-loop
-slice-aggregate-read-on c = ?
+slice-aggregate-read-on c = let i = c .before .before .before .before .before .before .before .before .before .before .before .before .before .before .before .before .before .before .before .before .before .before .before .before .before .before .before .before .before .loop .inv in omega (arith, i .0, i .1, i .2, i .3, i .4, i .5, i .6, (c .before .before .before .before .before .before .before .before .before .before .before .before .before .before .play), (c .before .before .print-line))
 
--- src/main.rt:223:9
 read-on-requires : tie.Need-read-on-requires Inv-loop μ-loop
-read-on-requires c κs = ?
+read-on-requires c κs = search needs
 
--- src/main.rt:196:5
 loop-less : tie.Need-loop-less Inv-loop μ-loop
-loop-less c = ?
+loop-less c = omega (arith, c .before .before .before .before .before .before .before .before .before .before .before .before .before .before .before .before .before .before .before .before .before .before .before .before .before .before .before .before .before .before .loop-test .taken)
 
--- src/main.rt:196:5
 loop-again : tie.Need-loop-again Inv-loop μ-loop
-loop-again c = ?
+loop-again c = let i = c .before .before .before .before .before .before .before .before .before .before .before .before .before .before .before .before .before .before .before .before .before .before .before .before .before .before .before .before .before .before .before .loop .inv in (omega (arith, i .0, i .1, i .2, i .3, i .4, i .5, i .6, (c .before .before .before .before .before .before .before .before .before .before .before .before .before .before .before .before .play), (c .before .before .before .before .print-line), (c .before .read-on)), omega (arith, i .0, i .1, i .2, i .3, i .4, i .5, i .6, (c .before .before .before .before .before .before .before .before .before .before .before .before .before .before .before .before .play), (c .before .before .before .before .print-line), (c .before .read-on)), omega (arith, i .0, i .1, i .2, i .3, i .4, i .5, i .6, (c .before .before .before .before .before .before .before .before .before .before .before .before .before .before .before .before .play), (c .before .before .before .before .print-line), (c .before .read-on)), omega (arith, i .0, i .1, i .2, i .3, i .4, i .5, i .6, (c .before .before .before .before .before .before .before .before .before .before .before .before .before .before .before .before .play), (c .before .before .before .before .print-line), (c .before .read-on)), omega (arith, i .0, i .1, i .2, i .3, i .4, i .5, i .6, (c .before .before .before .before .before .before .before .before .before .before .before .before .before .before .before .before .play), (c .before .before .before .before .print-line), (c .before .read-on)), omega (arith, i .0, i .1, i .2, i .3, i .4, i .5, i .6, (c .before .before .before .before .before .before .before .before .before .before .before .before .before .before .before .before .play), (c .before .before .before .before .print-line), (c .before .read-on)), omega (arith, i .0, i .1, i .2, i .3, i .4, i .5, i .6, (c .before .before .before .before .before .before .before .before .before .before .before .before .before .before .before .before .play), (c .before .before .before .before .print-line), (c .before .read-on)))
 
--- src/main.rt:225:18
 slice-aggregate-flush : tie.Need-slice-aggregate-flush Inv-loop μ-loop
-slice-aggregate-flush c = ?
+slice-aggregate-flush c = let i = c .before .before .loop .inv in omega (arith, i .0, i .1, i .2, i .3, i .4, i .5, i .6)
 
--- src/main.rt:225:5
 flush-requires : tie.Need-flush-requires Inv-loop μ-loop
-flush-requires c κs = ?
+flush-requires c κs = search needs
 
--- src/main.rt:172:1
 returns : tie.Need-returns Inv-loop μ-loop
-returns c = ?
+returns c = search needs
 
 pub main-spec : {M : Type 1} → statement M
 main-spec =

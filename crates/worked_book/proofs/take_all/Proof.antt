@@ -1,80 +1,67 @@
+-- `take_all` meets its contract: it goes through the quotes, and each leaves the lent parts as long as they were.
+use mathlib.Core.Path.{_≡_, refl}
+use Prim.Native.Nat.{_-_, _≤_}
+use native.Mathlib.Omega.{arith}
+use lib.ListN.{length}
+use borrow.Author.Needs.{needs}
 use Rattle.worked_book.proofs.take_all.Statement.{statement}
 use Rattle.worked_book.proofs.take_all.Tie as tie
-use Rattle.worked_book.proofs.take_all.Reads as reads
-use Rattle.worked_book.proofs.take_all.Lts as lts
-use Rattle.worked_book.proofs.take.Reads as take-reads
 
 abbrev Inv-loop : tie.InvT-loop
 Inv-loop quotes columns₀ positions₀ lower-ends₀ records out₀ now₀ i₀ columns positions lower-ends out now i =
-    ?
+    (length columns ≡ length columns₀) × (length positions ≡ length positions₀) × (length lower-ends ≡ length lower-ends₀) × (length out ≡ length out₀) × (i ≤ length quotes)
 
 abbrev μ-loop : tie.MeasureT-loop
 μ-loop quotes columns₀ positions₀ lower-ends₀ records out₀ now₀ i₀ columns positions lower-ends out now i =
-    ?
+    length quotes - i
 
--- src/main.rt:90:5
 loop-holds : tie.Need-loop-holds Inv-loop μ-loop
-loop-holds c = ?
+loop-holds c = (refl, refl, refl, refl, omega arith)
 
--- src/main.rt:90:11
 add-loop : tie.Need-add-loop Inv-loop μ-loop
-add-loop c = ?
+add-loop c = search needs
 
--- src/main.rt:91:22
 mul-t11 : tie.Need-mul-t11 Inv-loop μ-loop
-mul-t11 c = ?
+mul-t11 c = search needs
 
--- src/main.rt:91:22
 shared-slice-read-t15 : tie.Need-shared-slice-read-t15 Inv-loop μ-loop
-shared-slice-read-t15 c = ?
+shared-slice-read-t15 c = search needs
 
--- src/main.rt:91:40
 add-t12 : tie.Need-add-t12 Inv-loop μ-loop
-add-t12 c = ?
+add-t12 c = search needs
 
--- src/main.rt:91:33
 mul-t16 : tie.Need-mul-t16 Inv-loop μ-loop
-mul-t16 c = ?
+mul-t16 c = search needs
 
--- src/main.rt:91:33
 shared-slice-read-t18 : tie.Need-shared-slice-read-t18 Inv-loop μ-loop
-shared-slice-read-t18 c = ?
+shared-slice-read-t18 c = search needs
 
--- src/main.rt:92:9
 take-requires : tie.Need-take-requires Inv-loop μ-loop
-take-requires c κs = ?
+take-requires c κs = search needs
 
--- src/main.rt:93:9
 add-i : tie.Need-add-i Inv-loop μ-loop
-add-i c = ?
+add-i c = search needs
 
--- src/main.rt:90:5
 loop-less : tie.Need-loop-less Inv-loop μ-loop
-loop-less c = ?
+loop-less c = search needs
 
--- src/main.rt:90:5
 loop-again : tie.Need-loop-again Inv-loop μ-loop
-loop-again c = ?
+loop-again c = search needs
 
--- src/main.rt:79:1
 same-length : tie.Need-same-length Inv-loop μ-loop
-same-length c = ?
+same-length c = search needs
 
--- src/main.rt:79:1
 same-length-2 : tie.Need-same-length-2 Inv-loop μ-loop
-same-length-2 c = ?
+same-length-2 c = search needs
 
--- src/main.rt:79:1
 same-length-3 : tie.Need-same-length-3 Inv-loop μ-loop
-same-length-3 c = ?
+same-length-3 c = search needs
 
--- src/main.rt:79:1
 same-length-4 : tie.Need-same-length-4 Inv-loop μ-loop
-same-length-4 c = ?
+same-length-4 c = search needs
 
--- src/main.rt:79:1
 returns : tie.Need-returns Inv-loop μ-loop
-returns c = ?
+returns c = search needs
 
 pub take-all-spec : {M : Type 1} → statement M
 take-all-spec =
