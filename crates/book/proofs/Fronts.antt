@@ -25,8 +25,8 @@ use Rattle.model.specs.Book.{shortTables, shortLoan, tornRows, bookRows, standi
 use Rattle.watches.specs.Records.{watched, firstEight, stored, Vacant}
 use Rattle.model.specs.Promises.{Opened, Quoted, Watched, Ended}
 use Rattle.watching.proofs.Watches.{watch-free}
-use Rattle.book.specs.declared.lending.Judgement.{Judgement}
-use Rattle.book.specs.Lent.{judgement, OpenJudged, WatchJudged}
+use Rattle.lending.specs.declared.Judgement.{Judgement}
+use Rattle.lending.specs.Lent.{judgement, OpenJudged, WatchJudged}
 
 -- as many numbers as there are records, of eight that are read off them
 pub lent-front : (ws : List ℕ) → take (length ws) (firstEight ws) ≡ take 8 ws

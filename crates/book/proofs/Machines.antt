@@ -10,9 +10,9 @@ use Rattle.head.proofs.Head as Hd
 use Rattle.head.proofs.Head.Laws as Hd′
 use Rattle.head.proofs.Reply as R
 use Rattle.head.proofs.Reply.Laws as R′
-use Rattle.book.specs.declared.lending.Judgement.{Judgement}
-use Rattle.book.proofs.lending.Judgement as J
-use Rattle.book.proofs.lending.Judgement.Laws as J′
+use Rattle.lending.specs.declared.Judgement.{Judgement}
+use Rattle.lending.proofs.Judgement as J
+use Rattle.lending.proofs.Judgement.Laws as J′
 
 abbrev pub headed : Head → List Val
 headed h = LL.vals Hd.the-type Hd′.the-laws h

@@ -1,15 +1,13 @@
 // The public calls on a book: opening, quote, look, watch and end, with the watches in a lent list of records.
-mod lending;
-
 ghost use Rattle.watches.specs.Records.{watched};
 ghost use Rattle.model.specs.Promises.{tables, Opened, Quoted, Watched, Ended};
-use crate::lending::end_lent;
-use crate::lending::open_lent;
-use crate::lending::quote_lent;
-use crate::lending::watch_lent;
 use head::Head;
 use head::Reply;
 use head::Watch;
+use lending::end_lent;
+use lending::open_lent;
+use lending::quote_lent;
+use lending::watch_lent;
 pub use looking::look;
 pub use watches::find_record;
 use watches::insert_record;

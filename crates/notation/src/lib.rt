@@ -6,6 +6,7 @@ use frames::Message;
 pub use lines::line_end;
 pub use lines::read_line;
 pub use lines::write_line;
+pub use scanning::fields_from;
 
 // What a line says: its message, or a refusal where it says none, and its numbers with zeros behind them.
 pub struct Said {

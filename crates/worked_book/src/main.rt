@@ -1,11 +1,14 @@
-// A worked book: opens, quotes, looks, watches, ends and audits on real buffers, and prints each answer; then it draws the refusals
-// that the calls give.
+// A worked book: opens, quotes, looks, watches, ends and audits on real buffers, and judges and prints each answer; then it draws the
+// refusals that the calls give, and writes and reads a frame.
+use by_value::Made;
+use frames::Message;
 use head::Answer;
 use head::Head;
 use head::Reply;
 use head::Verdict;
+use head::Watch;
 use libc::STDOUT_FILENO;
-use watches::WatchReply;
+use reading::Place;
 
 // Prints a line of at most eleven numbers.
 fn print(letter: u8, numbers: &[u32]) {
@@ -52,10 +55,10 @@ fn take(
     columns: &mut [u32],
     positions: &mut [u32],
     lower_ends: &mut [u32],
-    watches: [u32; 8],
+    records: [Watch; 8],
     out: &mut [u8],
 ) -> Head {
-    let reply = quoting::quote(head, &quote, columns, positions, lower_ends, watches, out);
+    let reply = by_value::quote(head, &quote, columns, positions, lower_ends, records, out);
     let answer = reply.answer;
     let next = reply.head;
     let count = reply.count;
@@ -72,10 +75,30 @@ fn take(
     next
 }
 
+// Takes quotes of two columns, one behind the other.
+fn take_all(
+    head: Head,
+    quotes: &[u32],
+    columns: &mut [u32],
+    positions: &mut [u32],
+    lower_ends: &mut [u32],
+    records: [Watch; 8],
+    out: &mut [u8],
+) -> Head {
+    let mut now = head;
+    let mut i = 0;
+    while i + 1 < quotes.len() {
+        let quote = [quotes[i], quotes[i + 1]];
+        now = take(now, quote, columns, positions, lower_ends, records, out);
+        i += 2;
+    }
+    now
+}
+
 // Looks at the list of n, and prints it, or the refusal.
 fn look(head: Head, n: u32, columns: &[u32], positions: &[u32], lower_ends: &[u32]) {
     let mut cells = [0u32; 9];
-    let reply = looking::look(head, n, columns, positions, lower_ends, &mut cells[1..]);
+    let reply = book::look(head, n, columns, positions, lower_ends, &mut cells[1..]);
     let answer = reply.answer;
     let count = reply.count;
     match answer {
@@ -105,97 +128,111 @@ fn audit(head: Head, columns: &[u32], positions: &[u32], lower_ends: &[u32]) {
     }
 }
 
-// Opens the book of 01's worked example: two columns, a memory of five, lower is better.
-fn open(columns: &mut [u32], positions: &mut [u32], lower_ends: &mut [u32]) -> WatchReply {
-    let opened = opening::open(2, 5, 0, columns, positions, lower_ends, [0u32; 8]);
-    print(b'O', &[2, 5, 0]);
-    opened
-}
-
-// Quotes 1 to 5 of the worked example, while nothing is watched.
-fn first_quotes(
-    head: Head,
+// Opens the book of 01's worked example: two columns, a memory of five, lower is better. Prints its line, or the refusal.
+fn open(
     columns: &mut [u32],
     positions: &mut [u32],
     lower_ends: &mut [u32],
-    watches: [u32; 8],
-    out: &mut [u8],
-) -> Head {
-    let one = take(head, [5, 5], columns, positions, lower_ends, watches, out);
-    let two = take(one, [3, 8], columns, positions, lower_ends, watches, out);
-    let three = take(two, [4, 4], columns, positions, lower_ends, watches, out);
-    let four = take(three, [7, 2], columns, positions, lower_ends, watches, out);
-    take(four, [4, 4], columns, positions, lower_ends, watches, out)
+    records: [Watch; 8],
+) -> Made {
+    let made = by_value::open(2, 5, 0, columns, positions, lower_ends, records);
+    let reply = made.reply;
+    let answer = reply.answer;
+    match answer {
+        Answer::Accepted => {
+            print(b'O', &[2, 5, 0]);
+        }
+        Answer::Refused(_) => {
+            print_refusal(answer);
+        }
+    }
+    made
 }
 
-// The worked example's watch of 2: prints what joins, and hands back the watches.
-fn watch_two(
+// Watches the list of n, and prints what joins, or the refusal. Hands back the records.
+fn watch(
+    head: Head,
+    n: u32,
+    columns: &[u32],
+    positions: &[u32],
+    lower_ends: &[u32],
+    records: [Watch; 8],
+    out: &mut [u8],
+) -> [Watch; 8] {
+    let made = by_value::watch(head, n, columns, positions, lower_ends, records, out);
+    let reply = made.reply;
+    let answer = reply.answer;
+    let count = reply.count;
+    match answer {
+        Answer::Accepted => {
+            let numbers = [n];
+            print(b'W', &numbers);
+            print_changes(out, count);
+        }
+        Answer::Refused(_) => {
+            print_refusal(answer);
+        }
+    }
+    made.records
+}
+
+// Ends the watch of n, and prints its line, or the refusal. Hands back the records.
+fn end(
+    head: Head,
+    n: u32,
+    columns: &[u32],
+    positions: &[u32],
+    lower_ends: &[u32],
+    records: [Watch; 8],
+) -> [Watch; 8] {
+    let made = by_value::end(head, n, columns, positions, lower_ends, records);
+    let reply = made.reply;
+    let answer = reply.answer;
+    match answer {
+        Answer::Accepted => {
+            let numbers = [n];
+            print(b'U', &numbers);
+        }
+        Answer::Refused(_) => {
+            print_refusal(answer);
+        }
+    }
+    made.records
+}
+
+// Prints whether n is watched: n, then 1 or 0.
+fn find(records: [Watch; 8], n: u32) {
+    if by_value::find_record(records, n) {
+        let numbers = [n, 1];
+        print(b'S', &numbers);
+    } else {
+        let numbers = [n, 0];
+        print(b'S', &numbers);
+    }
+}
+
+// Refusals of calls that only read the tables, 5, 8, 10, 11, 12, 13, and the watch of 2 ended.
+fn refusals(
     head: Head,
     columns: &[u32],
     positions: &[u32],
     lower_ends: &[u32],
-    watches: [u32; 8],
-    out: &mut [u8],
-) -> [u32; 8] {
-    let set = watching::watch(head, 2, columns, positions, lower_ends, watches, out);
-    let joined = set.reply;
-    print(b'W', &[2]);
-    print_changes(out, joined.count);
-    set.watches
-}
-
-// Quote 6 of the worked example, the first that is watched, and the look at the list of 5.
-fn sixth_quote(
-    head: Head,
-    columns: &mut [u32],
-    positions: &mut [u32],
-    lower_ends: &mut [u32],
-    watches: [u32; 8],
-    out: &mut [u8],
-) -> Head {
-    let six = take(head, [6, 6], columns, positions, lower_ends, watches, out);
-    look(six, 5, columns, positions, lower_ends);
-    six
-}
-
-// Quotes 7 and 8 of the worked example, and the look at the list of 3.
-fn last_quotes(
-    head: Head,
-    columns: &mut [u32],
-    positions: &mut [u32],
-    lower_ends: &mut [u32],
-    watches: [u32; 8],
-    out: &mut [u8],
-) -> Head {
-    let seven = take(head, [2, 9], columns, positions, lower_ends, watches, out);
-    let eight = take(seven, [4, 3], columns, positions, lower_ends, watches, out);
-    look(eight, 3, columns, positions, lower_ends);
-    eight
-}
-
-// Refusals of calls that only read the tables, 5, 8, 10, 11, 12, 13, and the watch ended.
-fn refusals(head: Head, columns: &[u32], positions: &[u32], lower_ends: &[u32], watches: [u32; 8]) {
+    records: [Watch; 8],
+) {
     let mut out = [0u8; 6];
     let mut wide = head;
     wide.capacity = 6;
     let mut torn = head;
     torn.rows = 0;
     look(head, 6, columns, positions, lower_ends);
-    let again = watching::watch(head, 2, columns, positions, lower_ends, watches, &mut out);
-    let again_reply = again.reply;
-    print_answer(again_reply);
-    let ended = watching::end(head, 3, columns, positions, lower_ends, watches);
-    let ended_reply = ended.reply;
-    print_answer(ended_reply);
+    watch(head, 2, columns, positions, lower_ends, records, &mut out);
+    end(head, 3, columns, positions, lower_ends, records);
     look(wide, 1, columns, positions, lower_ends);
     look(torn, 1, columns, positions, lower_ends);
-    let short = watching::watch(head, 5, columns, positions, lower_ends, watches, &mut out);
-    let short_reply = short.reply;
-    print_answer(short_reply);
-    let last = watching::end(head, 2, columns, positions, lower_ends, watches);
-    let last_reply = last.reply;
-    print_answer(last_reply);
-    print(b'U', &[2]);
+    watch(head, 5, columns, positions, lower_ends, records, &mut out);
+    find(records, 2);
+    let ended = end(head, 2, columns, positions, lower_ends, records);
+    find(ended, 2);
 }
 
 // Refusal of an opening with seven columns: 3.
@@ -203,17 +240,32 @@ fn refuse_opening() {
     let mut columns = [0u32; 63];
     let mut positions = [0u32; 9];
     let mut lower_ends = [0u32; 9];
-    let opened = opening::open(
+    let records = [Watch { n: 0 }; 8];
+    let made = by_value::open(
         7,
         9,
         0,
         &mut columns,
         &mut positions,
         &mut lower_ends,
-        [0u32; 8],
+        records,
     );
-    let reply = opened.reply;
+    let reply = made.reply;
     print_answer(reply);
+}
+
+// Eight records, of the watches of 1 to 8.
+fn all_watched() -> [Watch; 8] {
+    [
+        Watch { n: 1 },
+        Watch { n: 2 },
+        Watch { n: 3 },
+        Watch { n: 4 },
+        Watch { n: 5 },
+        Watch { n: 6 },
+        Watch { n: 7 },
+        Watch { n: 8 },
+    ]
 }
 
 // Refusals on a book of one column at its limits, the last position and eight watches: 4, 9, 6.
@@ -222,34 +274,73 @@ fn limits() {
     let mut positions = [0u32; 9];
     let mut lower_ends = [0u32; 9];
     let mut out = [0u8; 100];
-    let eight = [1, 2, 3, 4, 5, 6, 7, 8];
+    let records = all_watched();
     positions[0] = Head::MAX_POSITION;
     let mut head = Head::fresh(1, 9, 0);
     head.newest = Head::MAX_POSITION;
     head.rows = 1;
-    let two = [1, 2];
-    print_answer(quoting::quote(
+    take(
         head,
-        &two,
+        [1, 2],
         &mut columns,
         &mut positions,
         &mut lower_ends,
-        eight,
+        records,
         &mut out,
-    ));
-    let full = watching::watch(head, 9, &columns, &positions, &lower_ends, eight, &mut out);
-    let full_reply = full.reply;
-    print_answer(full_reply);
+    );
+    watch(
+        head,
+        9,
+        &columns,
+        &positions,
+        &lower_ends,
+        records,
+        &mut out,
+    );
     let one = [1];
-    print_answer(quoting::quote(
+    print_answer(by_value::quote(
         head,
         &one,
         &mut columns,
         &mut positions,
         &mut lower_ends,
-        eight,
+        records,
         &mut out,
     ));
+}
+
+// What the head tells of itself: the first position of the window of n, and the next position.
+fn tell(head: Head, n: u32) {
+    let next = head.after_quote(head.rows);
+    let still = head.after_watch();
+    if head.window_start(n) <= 16777215 {
+        let numbers = [n, head.window_start(n) as u32, next.newest, still.newest];
+        print(b'H', &numbers);
+    }
+}
+
+// Writes the frame of a watch of n, reads it back by a reading place, and prints n and the place behind it; then the tape ends.
+fn there_and_back(n: u16) {
+    let mut tape = [0u8; 3];
+    let written = frames::write(Message::Watch(n), [0; 6], &mut tape);
+    let answer = written.answer;
+    print_refusal(answer);
+    let found = by_value::read(&tape, Place { at: 0 });
+    let read = found.read;
+    let place = found.place;
+    let message = read.message;
+    if let Message::Watch(m) = message {
+        if place.at <= 3 {
+            let numbers = [m as u32, place.at as u32];
+            print(b'T', &numbers);
+        }
+    }
+    let last = by_value::read(&tape, place);
+    let end = last.read;
+    let said = end.message;
+    if let Message::End = said {
+        print(b'E', &[]);
+    }
 }
 
 // Plays 01's worked example, audits the book that it leaves, and draws the refusals.
@@ -258,36 +349,47 @@ fn main() {
     let mut positions = [0u32; 5];
     let mut lower_ends = [0u32; 5];
     let mut out = [0u8; 57400];
-    let opened = open(&mut columns, &mut positions, &mut lower_ends);
+    let none = [Watch { n: 0 }; 8];
+    let opened = open(&mut columns, &mut positions, &mut lower_ends, none);
     let reply = opened.reply;
-    let none = opened.watches;
-    let five = first_quotes(
+    let empty = opened.records;
+    let first = [5, 5, 3, 8, 4, 4, 7, 2, 4, 4];
+    let five = take_all(
         reply.head,
+        &first,
         &mut columns,
         &mut positions,
         &mut lower_ends,
-        none,
+        empty,
         &mut out,
     );
-    let watches = watch_two(five, &columns, &positions, &lower_ends, none, &mut out);
-    let six = sixth_quote(
+    let records = watch(five, 2, &columns, &positions, &lower_ends, empty, &mut out);
+    let sixth = [6, 6];
+    let six = take_all(
         five,
+        &sixth,
         &mut columns,
         &mut positions,
         &mut lower_ends,
-        watches,
+        records,
         &mut out,
     );
-    let eight = last_quotes(
+    look(six, 5, &columns, &positions, &lower_ends);
+    let last = [2, 9, 4, 3];
+    let eight = take_all(
         six,
+        &last,
         &mut columns,
         &mut positions,
         &mut lower_ends,
-        watches,
+        records,
         &mut out,
     );
+    look(eight, 3, &columns, &positions, &lower_ends);
     audit(eight, &columns, &positions, &lower_ends);
-    refusals(eight, &columns, &positions, &lower_ends, watches);
+    tell(eight, 3);
+    refusals(eight, &columns, &positions, &lower_ends, records);
     refuse_opening();
     limits();
+    there_and_back(2);
 }

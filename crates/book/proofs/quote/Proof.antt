@@ -56,10 +56,10 @@ use Rattle.watches.proofs.numbers.Met as numbers-thm
 use Rattle.model.specs.Promises.{tables as lent-tables, Quoted}
 use Rattle.book.proofs.Fronts.{quote-records}
 use Rattle.book.proofs.Machines.{headed, machines, spelled}
-use Rattle.book.proofs.lending.quote_lent as callee
-use Rattle.book.proofs.lending.quote_lent.Symbol as callee-def
-use Rattle.book.proofs.lending.quote_lent.Symbol.{name as #book·quote-lent}
-use Rattle.book.proofs.lending.quote_lent.Met as callee-thm
+use Rattle.lending.proofs.quote_lent as callee
+use Rattle.lending.proofs.quote_lent.Symbol as callee-def
+use Rattle.lending.proofs.quote_lent.Symbol.{name as #lending·quote-lent}
+use Rattle.lending.proofs.quote_lent.Met as callee-thm
 use Rattle.book.proofs.quote.Key.{name as #book·quote}
 use Rattle.book.proofs.quote as f
 use Rattle.book.proofs.quote.Statement as stated
@@ -136,7 +136,7 @@ module _ {M : Type 1} (𝓤 : URA M) (H : Heap 𝓤) (A : Atoms 𝓤) (W : Given
       owned ! R.the-row (Is R.the-row) ((LL.makes R.the-type R′.the-plain) 𝓤 H A) j (machines j) is $ done !
 
   module _ (is-head : Is Hd.the-row head (headed head)) (quote-fits : length (quote .now) < 2 ^ 64) (columns-fits : length (columns .now) < 2 ^ 64) (positions-fits : length (positions .now) < 2 ^ 64) (lowerEnds-fits : length (lowerEnds .now) < 2 ^ 64) (room : Room T.the-row (length ys)) (out-fits : length (out .now) < 2 ^ 64)
-      (C : Calls 𝓤 H) (Λ : Loops 𝓤 H) (fm : FmC 𝓤 H (W .laws) C) (known-numbers : Triple 𝓤 (C #watches·numbers) (Numbers 𝓤 H A mem run)) (known-callee : Triple 𝓤 (C #book·quote-lent) (Callee 𝓤 H A mem run)) where
+      (C : Calls 𝓤 H) (Λ : Loops 𝓤 H) (fm : FmC 𝓤 H (W .laws) C) (known-numbers : Triple 𝓤 (C #watches·numbers) (Numbers 𝓤 H A mem run)) (known-callee : Triple 𝓤 (C #lending·quote-lent) (Callee 𝓤 H A mem run)) where
     walk : ent 𝓤 (onEntry 𝓤 H A f.signature (κ₀, (κ₁, (κ₂, (κ₃, (κ₄, (κ₅, tt)))))) (q₀, (q₁, (q₂, (q₃, (q₄, (q₅, tt)))))) x at) (WpFn 𝓤 H C Λ code.function given Post)
     walk =
         qed W Entry ∵ enter ! C Λ code.function given _ $
@@ -168,7 +168,7 @@ module _ {M : Type 1} (𝓤 : URA M) (H : Heap 𝓤) (A : Atoms 𝓤) (W : Given
         keep ! (0 ∷ 5 ∷ 4 ∷ 3 ∷ 2 ∷ 1 ∷ []) $ by ! (exits (zs .1 .1 .0) (zs .1 .1 .1 .0) (zs .1 .1 .1 .1 .0) (zs .1 .1 .1 .1 .1 .1 .1 .0) j (spelled j c has) columns-same positions-same lowerEnds-same out-same (quote-records ys head (quote .now) lent e said))))))))))))))))))))))))))))))
 
 module _ {M : Type 1} (𝓤 : URA M) (H : Heap 𝓤) (A : Atoms 𝓤) (W : Given 𝓤 H A) (mem : Memory → SProp 𝓤) (run : Routine → Fun 𝓤) (𝓣 : Tables 𝓤 H)
-    (known-numbers : Triple 𝓤 (𝓣 .C #watches·numbers) (Numbers 𝓤 H A mem run)) (known-callee : Triple 𝓤 (𝓣 .C #book·quote-lent) (Callee 𝓤 H A mem run)) where
+    (known-numbers : Triple 𝓤 (𝓣 .C #watches·numbers) (Numbers 𝓤 H A mem run)) (known-callee : Triple 𝓤 (𝓣 .C #lending·quote-lent) (Callee 𝓤 H A mem run)) where
   quote-walks : Walks 𝓤 H A f.ended stayed (WpFn 𝓤 H (𝓣 .C) (𝓣 .Λ) code.function) (f.clauses 𝓤 H A mem run)
   quote-walks =
       walked 𝓤 H A f.ended stayed (f.clauses 𝓤 H A mem run) (WpFn 𝓤 H (𝓣 .C) (𝓣 .Λ) code.function) (λ κs. (headed, (slice-vals, (slice-vals, (slice-vals, (slice-vals, (slice-vals, (slice-vals, tt))))))))
@@ -190,4 +190,4 @@ quote-spec 𝓤 H 𝓜 𝓖 𝓡 =
     (tables 𝓤 H 𝓜 𝓡 code.env .C) (tables 𝓤 H 𝓜 𝓡 code.env .Λ) #book·quote code.function (code.unfolded 𝓤 H 𝓜 𝓡)
     (quote-meets 𝓤 H (𝓖 .A) (givenOf 𝓤 H 𝓜 𝓖) (𝓜 .mem) (𝓡 .run) (tablesOf 𝓤 H 𝓜 (tables 𝓤 H 𝓜 𝓡 code.env))
     (cited 𝓤 H (Numbers 𝓤 H (𝓖 .A) (𝓜 .mem) (𝓡 .run)) 𝓜 𝓡 code.env #watches·numbers numbers-def.routine code.calls-watches·numbers (numbers-thm.met 𝓤 H 𝓜 𝓖 𝓡))
-    (cited 𝓤 H (Callee 𝓤 H (𝓖 .A) (𝓜 .mem) (𝓡 .run)) 𝓜 𝓡 code.env #book·quote-lent callee-def.routine code.calls-book·lending·quote-lent (callee-thm.met 𝓤 H 𝓜 𝓖 𝓡)))
+    (cited 𝓤 H (Callee 𝓤 H (𝓖 .A) (𝓜 .mem) (𝓡 .run)) 𝓜 𝓡 code.env #lending·quote-lent callee-def.routine code.calls-lending·quote-lent (callee-thm.met 𝓤 H 𝓜 𝓖 𝓡)))

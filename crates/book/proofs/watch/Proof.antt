@@ -59,18 +59,18 @@ use Rattle.watches.proofs.insert_record.Symbol as change-def
 use Rattle.watches.proofs.insert_record.Symbol.{name as #watches·insert-record}
 use Rattle.watches.proofs.insert_record.Met as change-thm
 use Rattle.model.specs.Promises.{tables as lent-tables, Watched}
-use Rattle.book.specs.declared.lending.Judgement.{Judgement}
-use Rattle.book.specs.Lent.{WatchJudged}
+use Rattle.lending.specs.declared.Judgement.{Judgement}
+use Rattle.lending.specs.Lent.{WatchJudged}
 use Rattle.book.proofs.Fronts.{watch-left, watch-asks, watch-inserted}
 use Rattle.book.proofs.Machines.{headed, machines, replied}
 use Rattle.book.proofs.Deciding.{decides, stays-last}
 use Rattle.book.proofs.Calling.{Insert, inserts, changes-last}
-use Rattle.book.proofs.lending.Judgement as J
-use Rattle.book.proofs.lending.Judgement.Laws as J′
-use Rattle.book.proofs.lending.watch_lent as callee
-use Rattle.book.proofs.lending.watch_lent.Symbol as callee-def
-use Rattle.book.proofs.lending.watch_lent.Symbol.{name as #book·watch-lent}
-use Rattle.book.proofs.lending.watch_lent.Met as callee-thm
+use Rattle.lending.proofs.Judgement as J
+use Rattle.lending.proofs.Judgement.Laws as J′
+use Rattle.lending.proofs.watch_lent as callee
+use Rattle.lending.proofs.watch_lent.Symbol as callee-def
+use Rattle.lending.proofs.watch_lent.Symbol.{name as #lending·watch-lent}
+use Rattle.lending.proofs.watch_lent.Met as callee-thm
 use Rattle.book.proofs.watch.Key.{name as #book·watch}
 use Rattle.book.proofs.watch as f
 use Rattle.book.proofs.watch.Statement as stated
@@ -151,7 +151,7 @@ module _ {M : Type 1} (𝓤 : URA M) (H : Heap 𝓤) (A : Atoms 𝓤) (W : Given
       owned ! R.the-row (Is R.the-row) ((LL.makes R.the-type R′.the-plain) 𝓤 H A) j (machines j) is $ done !
 
   module _ (is-head : Is Hd.the-row head (headed head)) (n-fits : n < 2 ^ 32) (columns-fits : length (columns .now) < 2 ^ 64) (positions-fits : length (positions .now) < 2 ^ 64) (lowerEnds-fits : length (lowerEnds .now) < 2 ^ 64) (room : Room T.the-row (length ys)) (out-fits : length (out .now) < 2 ^ 64)
-      (C : Calls 𝓤 H) (Λ : Loops 𝓤 H) (fm : FmC 𝓤 H (W .laws) C) (known-numbers : Triple 𝓤 (C #watches·numbers) (Numbers 𝓤 H A mem run)) (known-callee : Triple 𝓤 (C #book·watch-lent) (Callee 𝓤 H A mem run)) (known-change : Triple 𝓤 (C #watches·insert-record) (Insert 𝓤 H A mem run)) where
+      (C : Calls 𝓤 H) (Λ : Loops 𝓤 H) (fm : FmC 𝓤 H (W .laws) C) (known-numbers : Triple 𝓤 (C #watches·numbers) (Numbers 𝓤 H A mem run)) (known-callee : Triple 𝓤 (C #lending·watch-lent) (Callee 𝓤 H A mem run)) (known-change : Triple 𝓤 (C #watches·insert-record) (Insert 𝓤 H A mem run)) where
     walk : ent 𝓤 (onEntry 𝓤 H A f.signature (κ₀, (κ₁, (κ₂, (κ₃, (κ₄, tt))))) (q₀, (q₁, (q₂, (q₃, (q₄, tt))))) x at) (WpFn 𝓤 H C Λ code.function given Post)
     walk =
         qed W Entry ∵ enter ! C Λ code.function given _ $
@@ -192,7 +192,7 @@ module _ {M : Type 1} (𝓤 : URA M) (H : Heap 𝓤) (A : Atoms 𝓤) (W : Given
         keep ! (1 ∷ 3 ∷ 0 ∷ 2 ∷ []) $ by ! (exits ys (zs .1 .1 .1 .1 .1 .1 .1 .0) (j .reply) (replied j c has) refl out-same (watch-left ys head n lent e j said off)))))))))))))))))))))))))))))
 
 module _ {M : Type 1} (𝓤 : URA M) (H : Heap 𝓤) (A : Atoms 𝓤) (W : Given 𝓤 H A) (mem : Memory → SProp 𝓤) (run : Routine → Fun 𝓤) (𝓣 : Tables 𝓤 H)
-    (known-numbers : Triple 𝓤 (𝓣 .C #watches·numbers) (Numbers 𝓤 H A mem run)) (known-callee : Triple 𝓤 (𝓣 .C #book·watch-lent) (Callee 𝓤 H A mem run)) (known-change : Triple 𝓤 (𝓣 .C #watches·insert-record) (Insert 𝓤 H A mem run)) where
+    (known-numbers : Triple 𝓤 (𝓣 .C #watches·numbers) (Numbers 𝓤 H A mem run)) (known-callee : Triple 𝓤 (𝓣 .C #lending·watch-lent) (Callee 𝓤 H A mem run)) (known-change : Triple 𝓤 (𝓣 .C #watches·insert-record) (Insert 𝓤 H A mem run)) where
   watch-walks : Walks 𝓤 H A f.ended stayed (WpFn 𝓤 H (𝓣 .C) (𝓣 .Λ) code.function) (f.clauses 𝓤 H A mem run)
   watch-walks =
       walked 𝓤 H A f.ended stayed (f.clauses 𝓤 H A mem run) (WpFn 𝓤 H (𝓣 .C) (𝓣 .Λ) code.function) (λ κs. (headed, (uint-vals w32, (slice-vals, (slice-vals, (slice-vals, (slice-vals, (slice-vals, tt))))))))
@@ -214,5 +214,5 @@ watch-spec 𝓤 H 𝓜 𝓖 𝓡 =
     (tables 𝓤 H 𝓜 𝓡 code.env .C) (tables 𝓤 H 𝓜 𝓡 code.env .Λ) #book·watch code.function (code.unfolded 𝓤 H 𝓜 𝓡)
     (watch-meets 𝓤 H (𝓖 .A) (givenOf 𝓤 H 𝓜 𝓖) (𝓜 .mem) (𝓡 .run) (tablesOf 𝓤 H 𝓜 (tables 𝓤 H 𝓜 𝓡 code.env))
     (cited 𝓤 H (Numbers 𝓤 H (𝓖 .A) (𝓜 .mem) (𝓡 .run)) 𝓜 𝓡 code.env #watches·numbers numbers-def.routine code.calls-watches·numbers (numbers-thm.met 𝓤 H 𝓜 𝓖 𝓡))
-    (cited 𝓤 H (Callee 𝓤 H (𝓖 .A) (𝓜 .mem) (𝓡 .run)) 𝓜 𝓡 code.env #book·watch-lent callee-def.routine code.calls-book·lending·watch-lent (callee-thm.met 𝓤 H 𝓜 𝓖 𝓡))
+    (cited 𝓤 H (Callee 𝓤 H (𝓖 .A) (𝓜 .mem) (𝓡 .run)) 𝓜 𝓡 code.env #lending·watch-lent callee-def.routine code.calls-lending·watch-lent (callee-thm.met 𝓤 H 𝓜 𝓖 𝓡))
     (cited 𝓤 H (Insert 𝓤 H (𝓖 .A) (𝓜 .mem) (𝓡 .run)) 𝓜 𝓡 code.env #watches·insert-record change-def.routine code.calls-watches·insert-record (change-thm.met 𝓤 H 𝓜 𝓖 𝓡)))

@@ -1,0 +1,124 @@
+// The calls of a book and the reader for callers that hold plain values: the eight records and the reading place go in and come back by value.
+ghost use mathlib.Core.Path.{_≡_};
+ghost use Rattle.lists.specs.Lists.{contains};
+ghost use Rattle.model.specs.Book.{standing};
+ghost use Rattle.model.specs.Promises.{tables, Opened, Quoted, Watched, Ended};
+ghost use Rattle.watches.specs.Records.{watched};
+ghost use Rattle.reading.specs.Reading.{Moved};
+use frames::Read;
+use head::Head;
+use head::Reply;
+use head::Watch;
+use reading::Place;
+
+// What a call that may change the records hands back: its reply, and the records.
+pub struct Made {
+    pub reply: Reply,
+    pub records: [Watch; 8],
+}
+
+// What was read, and the place after it.
+pub struct Found {
+    pub read: Read,
+    pub place: Place,
+}
+
+// Begins a new book.
+pub fn open(
+    dimensions: u32,
+    capacity: u32,
+    directions: u32,
+    columns: &mut [u32],
+    positions: &mut [u32],
+    lower_ends: &mut [u32],
+    records: [Watch; 8],
+) -> Made
+    ensures { λ r. ⌜ Opened dimensions capacity directions (tables (now (columns .entry)) (now (positions .entry)) (now («lower_ends» .entry))) (watched records) (r .reply) (tables (now (columns .exit)) (now (positions .exit)) (now («lower_ends» .exit))) (watched (r .records)) ⌝ }
+{
+    let mut held = records;
+    let reply = book::open(
+        dimensions,
+        capacity,
+        directions,
+        columns,
+        positions,
+        lower_ends,
+        &mut held,
+    );
+    Made {
+        reply,
+        records: held,
+    }
+}
+
+// Takes a quote.
+pub fn quote(
+    head: Head,
+    quoted: &[u32],
+    columns: &mut [u32],
+    positions: &mut [u32],
+    lower_ends: &mut [u32],
+    records: [Watch; 8],
+    out: &mut [u8],
+) -> Reply
+    ensures { λ r. ⌜ Quoted head (now (quoted .entry)) (tables (now (columns .entry)) (now (positions .entry)) (now («lower_ends» .entry))) (watched records) (now (out .entry)) r (tables (now (columns .exit)) (now (positions .exit)) (now («lower_ends» .exit))) (now (out .exit)) ⌝ }
+{
+    let held = records;
+    book::quote(head, quoted, columns, positions, lower_ends, &held, out)
+}
+
+// Sets a watch of n.
+pub fn watch(
+    head: Head,
+    n: u32,
+    columns: &[u32],
+    positions: &[u32],
+    lower_ends: &[u32],
+    records: [Watch; 8],
+    out: &mut [u8],
+) -> Made
+    ensures { λ r. ⌜ Watched head n (tables (now (columns .entry)) (now (positions .entry)) (now («lower_ends» .entry))) (watched records) (now (out .entry)) (r .reply) (watched (r .records)) (now (out .exit)) ⌝ }
+{
+    let mut held = records;
+    let reply = book::watch(head, n, columns, positions, lower_ends, &mut held, out);
+    Made {
+        reply,
+        records: held,
+    }
+}
+
+// Ends the watch of n.
+pub fn end(
+    head: Head,
+    n: u32,
+    columns: &[u32],
+    positions: &[u32],
+    lower_ends: &[u32],
+    records: [Watch; 8],
+) -> Made
+    ensures { λ r. ⌜ Ended head n (tables (now (columns .entry)) (now (positions .entry)) (now («lower_ends» .entry))) (watched records) (r .reply) (watched (r .records)) ⌝ }
+{
+    let mut held = records;
+    let reply = book::end(head, n, columns, positions, lower_ends, &mut held);
+    Made {
+        reply,
+        records: held,
+    }
+}
+
+// Whether n is watched.
+pub fn find_record(records: [Watch; 8], n: u32) -> bool
+    ensures { λ r. ⌜ r ≡ contains n (standing (watched records)) ⌝ }
+{
+    let held = records;
+    book::find_record(&held, n)
+}
+
+// What is read at the place.
+pub fn read(tape: &[u8], place: Place) -> Found
+    ensures { λ r. ⌜ Moved (now (tape .entry)) place (r .read) (r .place) ⌝ }
+{
+    let mut held = place;
+    let read = reading::read(tape, &mut held);
+    Found { read, place: held }
+}

@@ -1,0 +1,35 @@
+-- `end_lent` meets its contract: fewer than eight records are refused, and of more only eight are asked.
+use mathlib.Core.Path.{_∙_, ap}
+use native.Mathlib.Omega.{arith}
+use borrow.Author.Needs.{needs}
+use Rattle.lending.specs.Lent.{judgement}
+use Rattle.lending.proofs.Fewer.{end-eight, end-few}
+use Rattle.lending.proofs.end_lent.Statement.{statement}
+use Rattle.lending.proofs.end_lent.Tie as tie
+
+few-requires : tie.Need-few-requires
+few-requires c κs = search needs
+
+judge-requires : tie.Need-judge-requires
+judge-requires c κs = search needs
+
+returns : tie.Need-returns
+returns c =
+    let a = c .before .before .before .before .before .before .args in
+    c .judge .ensures ∙ ap judgement (end-few (a .watches) (a .lent) (omega arith) _ _ _ (c .before .few .ensures))
+
+end-requires : tie.Need-end-requires
+end-requires c κs = search needs
+
+judge-requires-2 : tie.Need-judge-requires-2
+judge-requires-2 c κs = search needs
+
+returns-2 : tie.Need-returns-2
+returns-2 c =
+    let s = c .before .before .before .before .before .before in
+    let a = s .args in
+    let g = s .good .1 .1 .1 .1 .1 .0 in
+    c .judge2 .ensures ∙ ap judgement (end-eight (a .watches) (a .lent) _ _ _ (omega (arith, g)) (c .before .end .ensures))
+
+pub end-lent-spec : {M : Type 1} → statement M
+end-lent-spec = tie.close (tie.spec few-requires judge-requires returns end-requires judge-requires-2 returns-2)

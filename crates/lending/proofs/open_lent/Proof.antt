@@ -1,0 +1,53 @@
+-- `open_lent` meets its contract: fewer than eight records are refused, and of more only eight are asked.
+use mathlib.Core.Path.{_∙_, ap, ap₂}
+use native.Mathlib.Omega.{arith}
+use borrow.Author.Needs.{needs}
+use Rattle.lending.specs.Lent.{judgement, fewReply}
+use Rattle.lending.proofs.Fewer.{open-eight, open-few}
+use Rattle.lending.proofs.open_lent.Statement.{statement}
+use Rattle.lending.proofs.open_lent.Tie as tie
+
+fresh-requires : tie.Need-fresh-requires
+fresh-requires c κs = search needs
+
+fresh-requires-2 : tie.Need-fresh-requires-2
+fresh-requires-2 c κs = search needs
+
+few-requires : tie.Need-few-requires
+few-requires c κs = search needs
+
+judge-requires : tie.Need-judge-requires
+judge-requires c κs = search needs
+
+returns : tie.Need-returns
+returns c =
+    let a = c .before .before .before .before .before .before .before .before .args in
+    let e = c .before .few .ensures ∙ ap₂ fewReply (c .before .before .before .fresh .ensures) (c .before .before .fresh2 .ensures) in
+    open-few (a .watches) (a .lent) (omega arith) _ _ _ _ (c .judge .ensures ∙ ap judgement e)
+
+open-requires : tie.Need-open-requires
+open-requires c κs = search needs
+
+judge-requires-2 : tie.Need-judge-requires-2
+judge-requires-2 c κs = search needs
+
+same-length : tie.Need-same-length
+same-length c = search needs
+
+same-length-2 : tie.Need-same-length-2
+same-length-2 c = search needs
+
+same-length-3 : tie.Need-same-length-3
+same-length-3 c = search needs
+
+returns-2 : tie.Need-returns-2
+returns-2 c =
+    let s = c .before .before .before .before .before .before .before .before .before .before .before .before .before .before .before in
+    let a = s .args in
+    let g = s .good .1 .1 .1 .1 .1 .1 .0 in
+    open-eight (a .watches) (a .lent) _ _ _ _ (omega (arith, g)) (c .before .before .before .before .before .before .before .«open» .ensures) (c .judge2 .ensures)
+
+pub open-lent-spec : {M : Type 1} → statement M
+open-lent-spec =
+    tie.close
+    (tie.spec fresh-requires fresh-requires-2 few-requires judge-requires returns open-requires judge-requires-2 same-length same-length-2 same-length-3 returns-2)

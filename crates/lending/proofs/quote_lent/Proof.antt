@@ -1,0 +1,41 @@
+-- `quote_lent` meets its contract: fewer than eight records are refused, and of more only eight are asked.
+use native.Mathlib.Omega.{arith}
+use borrow.Author.Needs.{needs}
+use Rattle.lending.proofs.Fewer.{quote-eight, quote-few}
+use Rattle.lending.proofs.quote_lent.Statement.{statement}
+use Rattle.lending.proofs.quote_lent.Tie as tie
+
+few-requires : tie.Need-few-requires
+few-requires c κs = search needs
+
+returns : tie.Need-returns
+returns c =
+    let a = c .before .before .before .before .before .before .before .args in
+    quote-few (a .watches) (a .lent) (omega arith) _ _ _ (c .few .ensures)
+
+quote-requires : tie.Need-quote-requires
+quote-requires c κs = search needs
+
+same-length : tie.Need-same-length
+same-length c = search needs
+
+same-length-2 : tie.Need-same-length-2
+same-length-2 c = search needs
+
+same-length-3 : tie.Need-same-length-3
+same-length-3 c = search needs
+
+same-length-4 : tie.Need-same-length-4
+same-length-4 c = search needs
+
+returns-2 : tie.Need-returns-2
+returns-2 c =
+    let s = c .before .before .before .before .before .before .before .before .before .before .before .before .before .before .before .before .before .before .before in
+    let a = s .args in
+    let g = s .good .1 .1 .1 .1 .1 .0 in
+    quote-eight (a .watches) (a .lent) _ _ _ (omega (arith, g)) (c .before .before .before .before .before .before .before .before .quote .ensures)
+
+pub quote-lent-spec : {M : Type 1} → statement M
+quote-lent-spec =
+    tie.close
+    (tie.spec few-requires returns quote-requires same-length same-length-2 same-length-3 same-length-4 returns-2)

@@ -1,0 +1,142 @@
+// The calls with the watches as the numbers of the first eight records, and how many records are lent: what `book` makes of lent records.
+ghost use mathlib.Core.Path.{_≡_};
+ghost use lib.ListN.{take};
+ghost use Rattle.model.specs.Book.{endReply};
+ghost use Rattle.model.specs.Promises.{tables, Quoted};
+ghost use Rattle.lending.specs.Lent.{judgement, fewReply, OpenJudged, WatchJudged};
+use head::Answer;
+use head::Head;
+use head::Refusal;
+use head::Reply;
+use opening::open;
+use quoting::quote;
+use watching::end;
+use watching::watch;
+
+// What a call that may change the records answers: its reply, and whether they change.
+pub struct Judgement {
+    pub reply: Reply,
+    pub accepted: bool,
+}
+
+// The reply where fewer than eight records are lent, with these settings, to a call that hands back this head: 3, 11.
+fn few(settings: Head, head: Head) -> Reply
+    ensures { λ r. ⌜ r ≡ fewReply settings head ⌝ }
+{
+    if settings.settings_hold() {
+        return Reply {
+            answer: Answer::Refused(Refusal::ShortLoan),
+            head,
+            count: 0,
+        };
+    }
+    Reply {
+        answer: Answer::Refused(Refusal::Settings),
+        head,
+        count: 0,
+    }
+}
+
+// A reply, and whether it accepts.
+fn judge(reply: Reply) -> Judgement
+    ensures { λ r. ⌜ r ≡ judgement reply ⌝ }
+{
+    let answer = reply.answer;
+    match answer {
+        Answer::Accepted => Judgement {
+            reply,
+            accepted: true,
+        },
+        Answer::Refused(_) => Judgement {
+            reply,
+            accepted: false,
+        },
+    }
+}
+
+// Begins a new book but for the records: clears the tables, and says whether the records are to be emptied.
+pub fn open_lent(
+    dimensions: u32,
+    capacity: u32,
+    directions: u32,
+    columns: &mut [u32],
+    positions: &mut [u32],
+    lower_ends: &mut [u32],
+    watches: [u32; 8],
+    lent: usize,
+) -> Judgement
+    ensures { λ r. ⌜ OpenJudged dimensions capacity directions (tables (now (columns .entry)) (now (positions .entry)) (now («lower_ends» .entry))) (take lent watches) r (tables (now (columns .exit)) (now (positions .exit)) (now («lower_ends» .exit))) ⌝ }
+{
+    if lent < 8 {
+        let settings = Head::fresh(dimensions, capacity, directions);
+        return judge(few(settings, Head::fresh(0, 0, 0)));
+    }
+    let made = open(
+        dimensions,
+        capacity,
+        directions,
+        columns,
+        positions,
+        lower_ends,
+        watches,
+    );
+    judge(made.reply)
+}
+
+// Takes a quote.
+pub fn quote_lent(
+    head: Head,
+    quoted: &[u32],
+    columns: &mut [u32],
+    positions: &mut [u32],
+    lower_ends: &mut [u32],
+    watches: [u32; 8],
+    lent: usize,
+    out: &mut [u8],
+) -> Reply
+    ensures { λ r. ⌜ Quoted head (now (quoted .entry)) (tables (now (columns .entry)) (now (positions .entry)) (now («lower_ends» .entry))) (take lent watches) (now (out .entry)) r (tables (now (columns .exit)) (now (positions .exit)) (now («lower_ends» .exit))) (now (out .exit)) ⌝ }
+{
+    if lent < 8 {
+        return few(head, head);
+    }
+    quote(head, quoted, columns, positions, lower_ends, watches, out)
+}
+
+// Sets a watch of n but for the records: writes its joins, and says whether n is to be inserted.
+pub fn watch_lent(
+    head: Head,
+    n: u32,
+    columns: &[u32],
+    positions: &[u32],
+    lower_ends: &[u32],
+    watches: [u32; 8],
+    lent: usize,
+    out: &mut [u8],
+) -> Judgement
+    ensures { λ r. ⌜ WatchJudged head n (tables (now (columns .entry)) (now (positions .entry)) (now («lower_ends» .entry))) (take lent watches) (now (out .entry)) r (now (out .exit)) ⌝ }
+{
+    if lent < 8 {
+        return judge(few(head, head));
+    }
+    let made = watch(head, n, columns, positions, lower_ends, watches, out);
+    judge(made.reply)
+}
+
+// Ends the watch of n but for the records: says whether n is to be removed.
+pub fn end_lent(
+    head: Head,
+    n: u32,
+    columns: &[u32],
+    positions: &[u32],
+    lower_ends: &[u32],
+    watches: [u32; 8],
+    lent: usize,
+) -> Judgement
+    ensures { λ r. ⌜ r ≡ judgement (endReply head n (tables (now (columns .entry)) (now (positions .entry)) (now («lower_ends» .entry))) (take lent watches)) ⌝ }
+{
+    if lent < 8 {
+        return judge(few(head, head));
+    }
+    let made = end(head, n, columns, positions, lower_ends, watches);
+    judge(made.reply)
+}

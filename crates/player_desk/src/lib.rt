@@ -1,0 +1,130 @@
+// The desk of the book player: a head, eight records and how much of each buffer is lent, and the calls that its lines ask for.
+mod making;
+mod poking;
+
+use head::Head;
+use head::Reply;
+use head::Verdict;
+use head::Watch;
+pub use making::play_audit;
+pub use making::play_end;
+pub use making::play_look;
+pub use making::play_open;
+pub use making::play_quote;
+pub use making::play_watch;
+pub use poking::begin;
+pub use poking::play_cell;
+pub use poking::play_head;
+pub use poking::play_lend;
+
+// What is to be printed of a line: nothing, that it cannot be taken, a reply with bytes or with cells, a verdict, or the tables.
+pub enum Seen {
+    Nothing,
+    Unread,
+    Bytes,
+    Cells,
+    Verdict,
+    Tables,
+}
+
+// How many cells of each table are lent, and how many bytes of output, or cells to a look.
+pub struct Loan {
+    pub columns: usize,
+    pub positions: usize,
+    pub lower_ends: usize,
+    pub out: usize,
+}
+
+// The head for the next call, the records, what is lent, what is to be printed, and the last reply and verdict.
+pub struct Desk {
+    pub head: Head,
+    pub records: [Watch; 8],
+    pub loan: Loan,
+    pub seen: Seen,
+    pub reply: Reply,
+    pub verdict: Verdict,
+}
+
+impl Desk {
+    // The desk with something else to print.
+    pub fn showing(self, seen: Seen) -> Desk {
+        let head = self.head;
+        let records = self.records;
+        let loan = self.loan;
+        let reply = self.reply;
+        let verdict = self.verdict;
+        Desk {
+            head,
+            records,
+            loan,
+            seen,
+            reply,
+            verdict,
+        }
+    }
+
+    // The desk with another head and other records.
+    pub fn holding(self, head: Head, records: [Watch; 8]) -> Desk {
+        let loan = self.loan;
+        let seen = self.seen;
+        let reply = self.reply;
+        let verdict = self.verdict;
+        Desk {
+            head,
+            records,
+            loan,
+            seen,
+            reply,
+            verdict,
+        }
+    }
+
+    // The desk with another loan.
+    pub fn lending(self, loan: Loan) -> Desk {
+        let head = self.head;
+        let records = self.records;
+        let seen = self.seen;
+        let reply = self.reply;
+        let verdict = self.verdict;
+        Desk {
+            head,
+            records,
+            loan,
+            seen,
+            reply,
+            verdict,
+        }
+    }
+
+    // The desk after a reply that is to be printed so.
+    pub fn answered(self, reply: Reply, seen: Seen) -> Desk {
+        let head = self.head;
+        let records = self.records;
+        let loan = self.loan;
+        let verdict = self.verdict;
+        Desk {
+            head,
+            records,
+            loan,
+            seen,
+            reply,
+            verdict,
+        }
+    }
+
+    // The desk after an audit.
+    pub fn judged(self, verdict: Verdict) -> Desk {
+        let head = self.head;
+        let records = self.records;
+        let loan = self.loan;
+        let reply = self.reply;
+        Desk {
+            head,
+            records,
+            loan,
+            seen: Seen::Verdict,
+            reply,
+            verdict,
+        }
+    }
+}

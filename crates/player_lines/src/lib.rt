@@ -1,0 +1,38 @@
+// The lines of the book player: a word, the name of a table where the word wants one, and numbers in decimal with one space before each.
+mod words;
+
+pub use words::read_line;
+
+// What a line asks for. No line has come, or it is one that the player cannot take.
+pub enum Command {
+    None,
+    Unread,
+    Open,
+    Quote,
+    Look,
+    Watch,
+    End,
+    Audit,
+    Lend,
+    Cell,
+    Head,
+    Show,
+}
+
+// What a line names: a table, the watches, or the output.
+pub enum Name {
+    None,
+    Columns,
+    Positions,
+    Lower,
+    Watches,
+    Out,
+}
+
+// A line as it was read: its numbers with zeros behind them, and how many there are.
+pub struct Line {
+    pub command: Command,
+    pub name: Name,
+    pub numbers: [u32; 12],
+    pub count: usize,
+}

@@ -1,0 +1,281 @@
+// What is printed of each line, gathered and written out in large pieces.
+use head::Answer;
+use head::Head;
+use head::Verdict;
+use player_desk::Desk;
+use player_desk::Seen;
+
+// How many lines of input were seen, how many bytes are gathered, and whether the output has failed.
+pub struct Print {
+    pub lines: u32,
+    pub used: usize,
+    pub failed: bool,
+}
+
+// Writes out what is gathered.
+pub fn flush(print: Print, gathered: &[u8]) -> Print {
+    let mut now = print;
+    let used = print.used;
+    now.used = 0;
+    if used <= gathered.len() {
+        if !streams::put_out(&gathered[..used], b"book_player: standard output") {
+            now.failed = true;
+        }
+    }
+    now
+}
+
+// Writes out what is gathered, unless a line was found.
+pub fn flush_unless(found: bool, print: Print, gathered: &[u8]) -> Print {
+    if found {
+        return print;
+    }
+    flush(print, gathered)
+}
+
+// What is gathered where there is this much room behind it; else it is written out.
+fn with_room(print: Print, room: usize, gathered: &[u8]) -> Print {
+    let used = print.used;
+    if used <= gathered.len() {
+        if room <= gathered.len() - used {
+            return print;
+        }
+    }
+    flush(print, gathered)
+}
+
+// Prints a line of at most eight numbers.
+fn put_short(print: Print, letter: u8, numbers: &[u32], gathered: &mut [u8]) -> Print {
+    let mut now = with_room(print, 90, gathered);
+    let used = now.used;
+    if 8 < numbers.len() {
+        return now;
+    }
+    if gathered.len() < used {
+        return now;
+    }
+    if gathered.len() - used < 90 {
+        return now;
+    }
+    let count = text::put_line(letter, numbers, &mut gathered[used..]);
+    now.used = std::num::wrapping_add_u64(used as u64, count as u64) as usize;
+    now
+}
+
+// Prints one byte.
+fn put_byte(print: Print, byte: u8, gathered: &mut [u8]) -> Print {
+    let mut now = with_room(print, 1, gathered);
+    let used = now.used;
+    if used < gathered.len() {
+        gathered[used] = byte;
+        now.used = used + 1;
+    }
+    now
+}
+
+// Prints a space and a number.
+fn put_field(print: Print, n: u32, gathered: &mut [u8]) -> Print {
+    let mut now = put_byte(print, b' ', gathered);
+    now = with_room(now, 10, gathered);
+    let used = now.used;
+    if gathered.len() < used {
+        return now;
+    }
+    if gathered.len() - used < 10 {
+        return now;
+    }
+    let count = text::put_number(n, &mut gathered[used..]);
+    now.used = std::num::wrapping_add_u64(used as u64, count as u64) as usize;
+    now
+}
+
+// Prints the first cells of a table behind a letter.
+fn put_cells(print: Print, letter: u8, cells: &[u32], count: usize, gathered: &mut [u8]) -> Print {
+    let mut now = put_byte(print, letter, gathered);
+    let mut i = 0;
+    while i < cells.len() && i < count {
+        now = put_field(now, cells[i], gathered);
+        i += 1;
+    }
+    put_byte(now, 10, gathered)
+}
+
+// A byte as a number of 32 bits.
+fn wide(byte: u8) -> u32 {
+    byte as u32
+}
+
+// Prints the first bytes of an output behind an X.
+fn put_bytes(print: Print, bytes: &[u8], count: usize, gathered: &mut [u8]) -> Print {
+    let mut now = put_byte(print, b'X', gathered);
+    let mut i = 0;
+    while i < bytes.len() && i < count {
+        now = put_field(now, wide(bytes[i]), gathered);
+        i += 1;
+    }
+    put_byte(now, 10, gathered)
+}
+
+// The number of an answer: 0 where it accepts.
+fn number(answer: Answer) -> u32 {
+    match answer {
+        Answer::Accepted => 0,
+        Answer::Refused(refusal) => refusal.number(),
+    }
+}
+
+// A count as a number of 32 bits; the largest one where it is none.
+fn narrow(count: usize) -> u32 {
+    if 4294967295 < count {
+        return 4294967295;
+    }
+    count as u32
+}
+
+// Prints the reply of the last call.
+fn put_reply(print: Print, desk: Desk, gathered: &mut [u8]) -> Print {
+    let reply = desk.reply;
+    let answer = reply.answer;
+    let head = reply.head;
+    let numbers = [
+        number(answer),
+        narrow(reply.count),
+        head.dimensions,
+        head.capacity,
+        head.directions,
+        head.newest,
+        head.rows,
+    ];
+    put_short(print, b'A', &numbers, gathered)
+}
+
+// Prints the verdict of the last audit.
+fn put_verdict(print: Print, desk: Desk, gathered: &mut [u8]) -> Print {
+    let verdict = desk.verdict;
+    match verdict {
+        Verdict::Yes => put_word(print, b"V yes\n", gathered),
+        Verdict::No => put_word(print, b"V no\n", gathered),
+        Verdict::Refused(refusal) => {
+            let numbers = [refusal.number()];
+            put_short(print, b'V', &numbers, gathered)
+        }
+    }
+}
+
+// Prints a few bytes.
+fn put_word(print: Print, word: &[u8], gathered: &mut [u8]) -> Print {
+    let mut now = print;
+    let mut i = 0;
+    while i < word.len() {
+        now = put_byte(now, word[i], gathered);
+        i += 1;
+    }
+    now
+}
+
+// How many places the tables of a head have: none where its capacity or its dimensions are out of range.
+fn places(head: Head) -> usize {
+    let sizes = Head::fresh(head.dimensions, head.capacity, 0);
+    if sizes.settings_hold() {
+        return head.capacity as usize;
+    }
+    0
+}
+
+// How many cells the columns of a head have: as many as places for each dimension.
+fn column_cells(head: Head) -> usize {
+    let n = places(head) as u64;
+    let mut cells: u64 = 0;
+    let mut i: u32 = 0;
+    while i < head.dimensions && 0 < n {
+        cells = std::num::wrapping_add_u64(cells, n);
+        i += 1;
+    }
+    cells as usize
+}
+
+// Prints the records.
+fn put_records(print: Print, desk: Desk, gathered: &mut [u8]) -> Print {
+    let records = desk.records;
+    let a = records[0];
+    let b = records[1];
+    let c = records[2];
+    let d = records[3];
+    let e = records[4];
+    let f = records[5];
+    let g = records[6];
+    let h = records[7];
+    let numbers = [a.n, b.n, c.n, d.n, e.n, f.n, g.n, h.n];
+    put_short(print, b'W', &numbers, gathered)
+}
+
+// Prints the tables and the records.
+fn put_tables(
+    print: Print,
+    desk: Desk,
+    columns: &[u32],
+    positions: &[u32],
+    lower_ends: &[u32],
+    gathered: &mut [u8],
+) -> Print {
+    let head = desk.head;
+    let n = places(head);
+    let mut now = put_cells(print, b'C', columns, column_cells(head), gathered);
+    now = put_cells(now, b'P', positions, n, gathered);
+    now = put_cells(now, b'E', lower_ends, n, gathered);
+    put_records(now, desk, gathered)
+}
+
+// Prints a reply with the bytes that were written.
+fn put_bytes_reply(print: Print, desk: Desk, out: &[u8], gathered: &mut [u8]) -> Print {
+    let reply = desk.reply;
+    let now = put_reply(print, desk, gathered);
+    if reply.count == 0 {
+        return now;
+    }
+    put_bytes(now, out, reply.count, gathered)
+}
+
+// Prints a reply with the cells that were written.
+fn put_cells_reply(print: Print, desk: Desk, cells: &[u32], gathered: &mut [u8]) -> Print {
+    let reply = desk.reply;
+    let now = put_reply(print, desk, gathered);
+    if reply.count == 0 {
+        return now;
+    }
+    put_cells(now, b'X', cells, reply.count, gathered)
+}
+
+// Names a line that cannot be taken.
+fn put_unread(print: Print, gathered: &mut [u8]) -> Print {
+    let numbers = [print.lines];
+    put_short(print, b'?', &numbers, gathered)
+}
+
+// Prints what was seen of the line that was found.
+pub fn print_line(
+    print: Print,
+    found: bool,
+    desk: Desk,
+    columns: &[u32],
+    positions: &[u32],
+    lower_ends: &[u32],
+    out: &[u8],
+    cells: &[u32],
+    gathered: &mut [u8],
+) -> Print {
+    if !found {
+        return print;
+    }
+    let mut now = print;
+    now.lines = std::num::wrapping_add_u32(print.lines, 1);
+    let seen = desk.seen;
+    match seen {
+        Seen::Nothing => now,
+        Seen::Unread => put_unread(now, gathered),
+        Seen::Bytes => put_bytes_reply(now, desk, out, gathered),
+        Seen::Cells => put_cells_reply(now, desk, cells, gathered),
+        Seen::Verdict => put_verdict(now, desk, gathered),
+        Seen::Tables => put_tables(now, desk, columns, positions, lower_ends, gathered),
+    }
+}
