@@ -4,7 +4,7 @@ use mathlib.Core.Logic.{_⊎_, inl, inr}
 use Prim.Native.Nat.{ℕ, zero, suc, _*_, _≤_, zero-le}
 use native.Mathlib.Nat.{mul-le-mul-right, le-refl}
 use mathlib.Core.Bool.{Bool, true, false, _||_, cond}
-use mathlib.Core.List.{List, [], _∷_, _++_, map}
+use mathlib.Core.List.{List, [], _++_, map}
 use lib.Dec.{ltb}
 use lib.ListN.{length, take, drop, replicate, length-map, length-replicate}
 use lib.Seq.{take-append-seam, take-all}
@@ -17,9 +17,9 @@ use Rattle.head.specs.Heads.{settingsHold}
 use Rattle.head.proofs.Numbers.{zero-passed}
 use Rattle.frames.specs.Frames.{readAt}
 use Rattle.model.specs.Rows.{Row, Tables, filled}
-use Rattle.model.specs.Reference.{Reference, Lengths, Told, unopened, opened, rowsOf, headOf, withQuote, withWatched, opening, tooShort, tells, referenceStep}
+use Rattle.model.specs.Reference.{Reference, Lengths, unopened, opened, rowsOf, headOf, withQuote, withWatched, opening, tooShort, tells, referenceStep}
 use Rattle.model.specs.Book.{shortTables, shortLoan}
-use Rattle.model.specs.Calls.{Call, Open, Quote, Look, Watch, End, Outputs, Lent, Seen, bookStep, lengthsOf, shown, expectedStep, runs, worldFirst}
+use Rattle.model.specs.Calls.{Call, Open, Quote, Look, Watch, End, Outputs, Lent, bookStep, lengthsOf, shown, expectedStep, runs, worldFirst}
 use Rattle.model.proofs.Tables.{cells-counted}
 use Rattle.model.proofs.Sound.{rows-few, rows-wide}
 use Rattle.model.proofs.Simulation.{Invariant, Simulation, Agree, referenceWith, some-capacity, shown-opened, long-tables, long-records}

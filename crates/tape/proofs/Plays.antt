@@ -18,7 +18,7 @@ use Rattle.frames.specs.declared.Message.{Message}
 use Rattle.frames.specs.declared.Message.the-variants as Message
 use Rattle.frames.specs.declared.Read.{Read}
 use Rattle.frames.specs.Kinds.{lookKind, watchKind, unwatchKind, shapeOf, codeOf, bodyLength}
-use Rattle.frames.specs.Frames.{messageBy, messageAt, columnsAt, Saying, told, ended, refused, saying, Reading, reading, stays, readAt}
+use Rattle.frames.specs.Frames.{messageBy, messageAt, columnsAt, Saying, told, saying, Reading, reading, stays, readAt}
 use Rattle.frames.proofs.Shapes.{quote-kinds}
 use Rattle.frames.proofs.Reading.{read-says, read-columns, read-next, Found, beyond, at-end, unknown, cut, whole, found}
 use Rattle.model.specs.Rows.{Tables}

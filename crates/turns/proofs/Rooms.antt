@@ -1,15 +1,13 @@
 -- Rooms: what an accepted call wrote fits the room that it was lent.
-use mathlib.Core.Path.{_≡_, refl, sym, ap}
+use mathlib.Core.Path.{_≡_, refl, ap}
 use Prim.Native.Nat.{ℕ, zero, suc, _+_, _≤_}
 use native.Mathlib.Omega.{arith}
-use mathlib.Core.Bool.{Bool}
-use mathlib.Core.List.{List, [], _∷_, _++_, append-nil}
-use lib.Dec.{ltb}
+use mathlib.Core.List.{List, [], _++_, append-nil}
 use lib.ListN.{length}
 use borrow.Author.Tests.{ltb-false}
 use Rattle.head.specs.declared.Head.{Head}
 use Rattle.head.specs.declared.Reply.{Reply}
-use Rattle.head.specs.Refusals.{firstOf, granted}
+use Rattle.head.specs.Refusals.{granted}
 use Rattle.head.specs.Replies.{Outcome}
 use Rattle.head.proofs.Numbers.{zero-passed}
 use Rattle.model.specs.Rows.{Tables}

@@ -2,14 +2,13 @@
 use Prim.Native.Nat.{ℕ}
 use mathlib.Core.List.{List, [], _∷_, _++_}
 use lib.ListN.{take}
-use Rattle.head.specs.declared.Head.{Head}
 use Rattle.head.specs.Refusals.{granted}
 use Rattle.head.specs.Replies.{Outcome}
 use Rattle.model.specs.Calls.{Call, Open, Quote, Look, Watch, End, Outputs}
 use Rattle.text.specs.Text.{line}
 use Rattle.printed.specs.Printed.{changesText}
 
--- what a call answered: what it handed back, and what its outputs hold
+-- what a call answered: what it handed back, and what its outputs hold from their start on
 pub record Answered : Type 0 where
   pub outcome : Outcome
   pub outputs : Outputs
