@@ -1,21 +1,35 @@
 -- From the contract of the player to the reference model: whatever its own code prints of a tape, read in whatever pieces, is the reference
 -- model's print of that tape.
-use mathlib.Core.Path.{_≡_, sym, subst, _∙_}
+use mathlib.Core.Path.{_≡_, refl, sym, ap, subst, _∙_}
 use Prim.Native.Nat.{ℕ}
 use mathlib.Core.List.{List, [], _++_}
-use lib.ListN.{length, take, drop}
+use lib.ListN.{length, take, drop, replicate}
 use lib.Seq.{take-append-seam}
 use Rattle.lists.specs.Lists.{laid}
 use Rattle.head.specs.Heads.{freshHead}
+use Rattle.frames.specs.Frames.{readAt}
 use Rattle.model.specs.Rows.{Tables}
 use Rattle.model.specs.Reference.{opened, unopened}
+use Rattle.model.specs.Calls.{lengthsOf}
 use Rattle.turns.specs.Turns.{Player, bookMake, player}
 use Rattle.tape.specs.declared.Step.{Step}
-use Rattle.tape.specs.Play.{print, referenceMake, lengthsOf, begun, bookPlay}
+use Rattle.tape.specs.Play.{Asked, finished, unread, misplaced, request, asked, playAsked, playAt, print, referenceMake, begun, bookPlay}
 use Rattle.tape.specs.Steps.{Stepped}
 use Rattle.tape.specs.Streams.{Streams, plays, stops, drops, fills}
 use Rattle.tape.specs.Prints.{left, Prints, goes-on, ends, forgets, reads}
 use Rattle.tape.proofs.Streaming.{streamed-agrees}
+
+-- a player keeps its cells for positions
+asked-cells : (a : Asked) (next : ℕ) (k : Player) → playAsked begun bookMake a next k .state .outputs .cells ≡ k .outputs .cells
+unfolding playAsked bookMake
+asked-cells finished next k = refl
+asked-cells (unread n) next k = refl
+asked-cells misplaced next k = refl
+asked-cells (request c) next k = refl
+
+cells-kept : (tape : List ℕ) (place : ℕ) (k : Player) → bookPlay tape place k .state .outputs .cells ≡ k .outputs .cells
+unfolding playAt
+cells-kept tape place k = let read = readAt tape place in asked-cells (asked (begun k) (read .says) (read .columns)) (read .next) k
 
 -- a step that met its contract played its frame: the text that it laid, and the player that it leaves, are the definition's
 module _ {tape before after bytes' : List ℕ} {place : ℕ} {k : Player} {r : Step} {t' : Tables} (m : Stepped tape place k before r t' bytes' after) where
@@ -23,8 +37,11 @@ module _ {tape before after bytes' : List ℕ} {place : ℕ} {k : Player} {r : S
   unfolding laid
   its-text = rw (m .count, m .text) (take-append-seam (bookPlay tape place k .text) (drop (length (bookPlay tape place k .text)) before))
 
-  its-player : left r t' bytes' ≡ bookPlay tape place k .state
-  its-player = rw (m .head, m .watches, m .lent, m .bytes)
+  its-player : left k r t' bytes' ≡ bookPlay tape place k .state
+  its-player =
+      let next = bookPlay tape place k .state in
+      rw (m .head, m .watches, m .lent, m .bytes)
+      (ap (λ (cells : List ℕ). let p : Player = record { world = next .world; outputs = record { bytes = next .outputs .bytes; cells = cells } } in p) (sym (cells-kept tape place k)))
 
 -- what is printed by steps that were made is what the definition prints of the same pieces
 prints-stream : {piece rest text : List ℕ} {place : ℕ} {k : Player} → Prints piece place k rest text → Streams begun bookMake piece place k rest text
@@ -40,5 +57,5 @@ prints-stream (reads more p) = fills more (prints-stream p)
 
 -- from a head of zeros, the lines that the player's steps print of a tape, read in any pieces, are the reference model's print of it
 pub played-agrees : (tape : List ℕ) (t : Tables) (ws bytes : List ℕ) {text : List ℕ} → Prints [] 0 (player (freshHead 0 0 0) t ws bytes) tape text
-    → text ≡ print opened (referenceMake (lengthsOf (record { tables = t; watches = ws })) (length bytes)) tape unopened
-played-agrees tape t ws bytes p = streamed-agrees tape (record { tables = t; watches = ws }) bytes (prints-stream p)
+    → text ≡ print opened (referenceMake (lengthsOf (record { tables = t; watches = ws }) (record { bytes = bytes; cells = replicate 1024 0 }))) tape unopened
+played-agrees tape t ws bytes p = streamed-agrees tape (record { tables = t; watches = ws }) (record { bytes = bytes; cells = replicate 1024 0 }) (prints-stream p)

@@ -1,107 +1,193 @@
--- One frame played: the message in its place, its call, and what the player hands back.
-use mathlib.Core.Path.{_≡_, refl, sym, _∙_}
-use Prim.Native.Nat.{ℕ, _+_, _≤_}
+-- One frame played: what it wants in its place, its call, and what the player hands back.
+use mathlib.Core.Path.{_≡_, refl, sym, ap, _∙_}
+use Prim.Native.Nat.{ℕ, _+_, _≤_, _<_}
 use native.Mathlib.Omega.{arith}
 use mathlib.Core.Bool.{Bool, true, false, cond}
 use mathlib.Core.List.{List, [], _∷_}
 use lib.Dec.{eqb}
-use lib.ListN.{length, getD, take}
+use lib.ListN.{length, getD, take, replicate, length-take, length-replicate}
 use types.Run.{OneOf, miss}
 use denote.Enum.Declared.{tagOf}
 use borrow.Author.Tests.{eq-eqb, ne-eqb}
 use Rattle.lists.specs.Lists.{run}
 use Rattle.head.specs.declared.Head.{Head}
-use Rattle.head.specs.declared.Refusal.the-variants.{OutOfPlace}
 use Rattle.head.specs.Heads.{settingsHold}
-use Rattle.octets.specs.Bytes.{number2, number4}
+use Rattle.frames.specs.declared.Shape.{Shape}
+use Rattle.frames.specs.declared.Shape.the-variants.{Columns, Size, SizePosition, Settings, Unknown}
 use Rattle.frames.specs.declared.Message.{Message}
-use Rattle.frames.specs.declared.Message.the-variants.{Quote, Look, Watch, Unwatch, Leave, Join, Open, End, Refused}
+use Rattle.frames.specs.declared.Message.the-variants as Message
 use Rattle.frames.specs.declared.Read.{Read}
-use Rattle.frames.specs.Frames.{within, bodyLength, messageAt, columnsAt, stays, readAt}
-use Rattle.frames.proofs.Message.{the-type}
-use Rattle.frames.proofs.Reading.{within-bounds, Found, beyond, at-end, unknown, cut, whole, found}
+use Rattle.frames.specs.Kinds.{lookKind, watchKind, unwatchKind, shapeOf, codeOf, bodyLength}
+use Rattle.frames.specs.Frames.{messageBy, messageAt, columnsAt, Saying, told, saying, Reading, reading, stays, readAt}
+use Rattle.frames.proofs.Shapes.{quote-kinds}
+use Rattle.frames.proofs.Reading.{read-says, read-columns, read-next, Found, beyond, at-end, unknown, cut, whole, found}
 use Rattle.model.specs.Rows.{Tables}
+use Rattle.model.specs.Calls.{Call}
 use Rattle.turns.specs.declared.Turn.{Turn}
-use Rattle.turns.specs.Print.{Request}
-use Rattle.turns.specs.Turns.{Player, bookMake, player, Outcome, made, refusedWith, Turned}
-use Rattle.turns.specs.Messages.{observed, unquoted}
+use Rattle.turns.specs.declared.Wanted.{Wanted}
+use Rattle.turns.specs.declared.Wanted.the-variants.{Quote, Look, Watch, End, Open, Nothing, Refused, Misplaced}
+use Rattle.turns.proofs.Wanted.{the-type}
+use Rattle.turns.specs.Turns.{Player, bookMake, player, Effect, made, refusedWith, Turned}
+use Rattle.turns.specs.Wishes.{observed, unquoted}
 use Rattle.tape.specs.declared.Step.{Step}
-use Rattle.tape.specs.Play.{asked, Played, playAsked, playAt, begun, bookPlay}
-use Rattle.tape.specs.Placing.{outOfPlace, placed, columnCount, taken}
+use Rattle.tape.specs.Play.{Asked, finished, unread, misplaced, request, sizedAsks, asks, inPlace, placed, asked, Played, playAsked, playAt, begun, bookPlay}
+use Rattle.tape.specs.Placing.{wants, outOfPlace, taken}
 use Rattle.tape.specs.Steps.{Stepped}
 
--- ---- the message
+-- ---- what a message wants
 
--- a message ends the tape: its end, or what cannot be read
-unfoldable ends : Message → Bool
-ends (Quote k) = false
-ends (Look n) = false
-ends (Watch n) = false
-ends (Unwatch n) = false
-ends (Leave n p) = false
-ends (Join n p) = false
-ends (Open d N directions) = false
-ends End = true
-ends (Refused k) = true
+-- a frame with n, by its kind
+module _ (kind n : ℕ) (columns : List ℕ) where
+  pub look-sized : kind ≡ lookKind → wants (Look n) columns ≡ sizedAsks kind n
+  unfolding wants sizedAsks
+  look-sized e = rw e
 
--- the message of a whole frame has at most six columns and does not end the tape
-whole-message : (tape : List ℕ) (body kind : ℕ) → (columnCount (messageAt tape body kind) ≤ 6) × (ends (messageAt tape body kind) ≡ false)
-unfolding messageAt columnCount ends
-whole-message tape body kind = go (within 1 6 kind) refl (eqb kind 16) (eqb kind 17) (eqb kind 18) (eqb kind 32) (eqb kind 33)
+  pub watch-sized : kind ≡ watchKind → wants (Watch n) columns ≡ sizedAsks kind n
+  unfolding wants sizedAsks
+  watch-sized e = rw e
+
+  pub end-sized : kind ≡ unwatchKind → wants (End n) columns ≡ sizedAsks kind n
+  unfolding wants sizedAsks
+  end-sized e = rw e
+
+  pub none-sized : (kind ≡ lookKind → ⊥) → (kind ≡ watchKind → ⊥) → (kind ≡ unwatchKind → ⊥) → wants Misplaced columns ≡ sizedAsks kind n
+  unfolding wants sizedAsks
+  none-sized a b c = rw (ne-eqb kind lookKind a, ne-eqb kind watchKind b, ne-eqb kind unwatchKind c)
+
+-- what is asked in its place, of a message
+pub message-asked : (b : Bool) (m : Message) (columns : List ℕ) → placed b (asks m columns) ≡ asked b (saying m) columns
+unfolding asked saying asks placed
+message-asked b (Message.Quote k) columns = refl
+message-asked b (Message.Sized kind n) columns = refl
+message-asked b (Message.Change kind n p) columns = refl
+message-asked b (Message.Open d N directions) columns = refl
+message-asked b Message.End columns = refl
+message-asked b (Message.Refused k) columns = refl
+
+-- what is wanted in its place
+wanted-placed : (b : Bool) (w : Wanted) (columns : List ℕ) → cond (outOfPlace b w) misplaced (wants w columns) ≡ placed b (wants w columns)
+unfolding wants outOfPlace placed inPlace
+wanted-placed true (Quote n) columns = refl
+wanted-placed true (Look n) columns = refl
+wanted-placed true (Watch n) columns = refl
+wanted-placed true (End n) columns = refl
+wanted-placed true (Open d N directions) columns = refl
+wanted-placed false (Quote n) columns = refl
+wanted-placed false (Look n) columns = refl
+wanted-placed false (Watch n) columns = refl
+wanted-placed false (End n) columns = refl
+wanted-placed false (Open d N directions) columns = refl
+wanted-placed b Nothing columns = refl
+wanted-placed b (Refused k) columns = refl
+wanted-placed b Misplaced columns = refl
+
+module _ (b : Bool) (m : Message) (w : Wanted) (e : (columns : List ℕ) → wants w columns ≡ asks m columns) where
+  -- what is out of place
+  pub placed-out : {test : Bool} → test ≡ outOfPlace b w → test ≡ true → (columns : List ℕ) → wants Misplaced columns ≡ asked b (saying m) columns
+  unfolding wants
+  placed-out f t columns =
+      let out : outOfPlace b w ≡ true = sym f ∙ t in
+      ap (λ (x : Bool). cond x misplaced (wants w columns)) (sym out) ∙ wanted-placed b w columns ∙ ap (placed b) (e columns) ∙ message-asked b m columns
+
+  -- and what is in its place
+  pub placed-in : {test : Bool} → test ≡ outOfPlace b w → test ≡ false → (columns : List ℕ) → wants w columns ≡ asked b (saying m) columns
+  placed-in f t columns =
+      let out : outOfPlace b w ≡ false = sym f ∙ t in
+      ap (λ (x : Bool). cond x misplaced (wants w columns)) (sym out) ∙ wanted-placed b w columns ∙ ap (placed b) (e columns) ∙ message-asked b m columns
+
+-- ---- what is asked for at a place
+
+-- how many columns are asked with
+unfoldable columnsIn : Asked → ℕ
+columnsIn finished = 0
+columnsIn (unread k) = 0
+columnsIn misplaced = 0
+columnsIn (request (Call.Open d N directions)) = 0
+columnsIn (request (Call.Quote x)) = length x
+columnsIn (request (Call.Look n)) = 0
+columnsIn (request (Call.Watch n)) = 0
+columnsIn (request (Call.End n)) = 0
+
+-- what ends the tape
+unfoldable ends : Asked → Bool
+ends finished = true
+ends (unread k) = true
+ends misplaced = false
+ends (request c) = false
+
+-- what was read does not end the tape, and asks with at most six columns
+record Plain (a : Asked) : Type 0 where
+  few : columnsIn a ≤ 6
+  on : ends a ≡ false
+
+misplaced-plain : Plain misplaced
+unfolding columnsIn ends
+misplaced-plain = record { few = omega arith; on = refl }
+
+-- so does what is asked in its place
+placed-plain : (b : Bool) (c : Call) → Plain (request c) → Plain (placed b (request c))
+unfolding placed
+placed-plain b c p = go (inPlace b c)
   where
-    n : ℕ
-    n = number2 tape body
+    go : (x : Bool) → Plain (cond x (request c) misplaced)
+    go true = p
+    go false = misplaced-plain
 
-    p : ℕ
-    p = number4 tape (body + 2)
+-- what is never in its place
+never-plain : (b : Bool) → Plain (placed b misplaced)
+unfolding placed
+never-plain b = misplaced-plain
 
-    of : (q a b c d e : Bool) → Message
-    of q a b c d e =
-        cond q (Quote kind)
-        (cond a (Look n)
-        (cond b (Watch n)
-        (cond c (Unwatch n)
-        (cond d (Leave n p)
-        (cond e (Join n p) (Open (getD tape body 0) (number2 tape (body + 1)) (getD tape (body + 3) 0)))))))
-
-    go : (q : Bool) → within 1 6 kind ≡ q → (a b c d e : Bool) → (columnCount (of q a b c d e) ≤ 6) × (ends (of q a b c d e) ≡ false)
-    go true w a b c d e = (within-bounds 1 6 kind w .1, refl)
-    go false w true b c d e = (omega arith, refl)
-    go false w false true c d e = (omega arith, refl)
-    go false w false false true d e = (omega arith, refl)
-    go false w false false false true e = (omega arith, refl)
-    go false w false false false false true = (omega arith, refl)
-    go false w false false false false false = (omega arith, refl)
-
--- what is read at a place of a tape has at most six columns, and the place stays where it ends the tape
-read-message : (tape : List ℕ) (place : ℕ) {r : Read} → Found tape place r → (columnCount (r .message) ≤ 6) × (eqb (r .next) place ≡ ends (r .message))
-unfolding columnCount ends stays
-read-message tape place (beyond h) = (omega arith, eq-eqb place place refl)
-read-message tape place (at-end e) = (omega arith, eq-eqb place place refl)
-read-message tape place unknown = (omega arith, eq-eqb place place refl)
-read-message tape place cut = (omega arith, eq-eqb place place refl)
-read-message tape place (whole k h) =
-    let m = whole-message tape (place + 1) (getD tape place 0) in
-    (m .0, ne-eqb (place + 1 + bodyLength (getD tape place 0)) place (λ e. omega arith) ∙ sym (m .1))
-
--- the message in its place has at most six columns
-placed-columns : (tape : List ℕ) (place : ℕ) (begun : Bool) {r : Read} {m : Message} → r ≡ readAt tape place → m ≡ placed begun (r .message) → columnCount m ≤ 6
-unfolding placed columnCount
-placed-columns tape place begun {r} e f =
-    let few : columnCount (r .message) ≤ 6 = rw e (read-message tape place (found tape place) .0) in
-    rw f (go (outOfPlace begun (r .message)) (r .message) few)
+-- a frame with n
+sized-plain : (b : Bool) (kind n : ℕ) → Plain (placed b (sizedAsks kind n))
+unfolding sizedAsks columnsIn ends
+sized-plain b kind n = go (eqb kind lookKind) (eqb kind watchKind) (eqb kind unwatchKind)
   where
-    go : (b : Bool) (m : Message) → columnCount m ≤ 6 → columnCount (cond b (Refused OutOfPlace) m) ≤ 6
-    go true m h = omega arith
-    go false m h = h
+    go : (x y z : Bool) → Plain (placed b (cond x (request (Call.Look n)) (cond y (request (Call.Watch n)) (cond z (request (Call.End n)) misplaced))))
+    go true y z = placed-plain b (Call.Look n) (record { few = omega arith; on = refl })
+    go false true z = placed-plain b (Call.Watch n) (record { few = omega arith; on = refl })
+    go false false true = placed-plain b (Call.End n) (record { few = omega arith; on = refl })
+    go false false false = never-plain b
 
--- a quote that is in its place has at most six columns
-pub quote-few : (tape : List ℕ) (place : ℕ) (begun : Bool) {r : Read} {m : Message} {n : ℕ} → r ≡ readAt tape place → m ≡ placed begun (r .message) → m ≡ Quote n → n ≤ 6
-unfolding columnCount
-quote-few tape place begun e f q = rw q at (placed-columns tape place begun e f)
+-- the message of a whole frame
+whole-plain : (b : Bool) (tape : List ℕ) (body kind : ℕ) (columns : List ℕ) → codeOf (shapeOf kind) < 4 → Plain (asked b (told (messageAt tape body kind)) columns)
+unfolding asked messageAt messageBy asks columnsIn ends
+whole-plain b tape body kind columns known = go (shapeOf kind) refl known
+  where
+    go : (shape : Shape) → shapeOf kind ≡ shape → codeOf shape < 4 → Plain (placed b (asks (messageBy shape tape body kind) columns))
+    go Columns e l = let r = quote-kinds kind e in placed-plain b (Call.Quote (take kind columns)) (record { few = omega (arith, length-take kind columns, r .1); on = refl })
+    go Size e l = sized-plain b kind _
+    go SizePosition e l = never-plain b
+    go Settings e l = placed-plain b (Call.Open _ _ _) (record { few = omega arith; on = refl })
+    go Unknown e l = absurd (omega arith)
+
+-- what was read at a place: at most six columns are asked with, and the tape ends where the place stays
+read-plain : (b : Bool) (tape : List ℕ) (place : ℕ) (columns : List ℕ) {r : Reading} → Found tape place r
+    → (columnsIn (asked b (r .says) columns) ≤ 6) × (eqb (r .next) place ≡ ends (asked b (r .says) columns))
+unfolding asked columnsIn ends stays
+read-plain b tape place columns (beyond h) = (omega arith, eq-eqb place place refl)
+read-plain b tape place columns (at-end e) = (omega arith, eq-eqb place place refl)
+read-plain b tape place columns unknown = (omega arith, eq-eqb place place refl)
+read-plain b tape place columns cut = (omega arith, eq-eqb place place refl)
+read-plain b tape place columns (whole k h) =
+    let m = whole-plain b tape (place + 1) (getD tape place 0) columns k in
+    (m .few, ne-eqb (place + 1 + bodyLength (getD tape place 0)) place (λ e. omega arith) ∙ sym (m .on))
+
+module _ (tape : List ℕ) (place : ℕ) (b : Bool) (r : Read) (w : Wanted) (e : reading r ≡ readAt tape place) (g : (columns : List ℕ) → wants w columns ≡ asked b (saying (r .message)) columns) where
+  -- what is wanted is what is asked for at the place
+  wanted-asked : (columns : List ℕ) → wants w columns ≡ asked b (readAt tape place .says) columns
+  wanted-asked columns = g columns ∙ ap (λ (x : Saying). asked b x columns) (read-says r e)
+
+  -- a quote that is in its place has at most six columns
+  pub quote-few : {n : ℕ} → w ≡ Quote n → n ≤ 6
+  unfolding wants columnsIn
+  quote-few {n} q =
+      let columns = replicate {A = ℕ} n 0 in
+      let same : length (take n columns) ≡ columnsIn (asked b (readAt tape place .says) columns) = ap (λ (v : Wanted). columnsIn (wants v columns)) (sym q) ∙ ap columnsIn (wanted-asked columns) in
+      omega (arith, same, length-take n columns, length-replicate {A = ℕ} n 0, read-plain b tape place columns (found tape place) .0)
 
 -- what is read has six columns, with zeros behind those of its quote
-read-six : (tape : List ℕ) (place : ℕ) {r : Read} → Found tape place r → length (r .columns) ≡ 6
+read-six : (tape : List ℕ) (place : ℕ) {r : Reading} → Found tape place r → length (r .columns) ≡ 6
 unfolding stays columnsAt run
 read-six tape place (beyond h) = refl
 read-six tape place (at-end e) = refl
@@ -109,65 +195,69 @@ read-six tape place unknown = refl
 read-six tape place cut = refl
 read-six tape place (whole k h) = refl
 
-pub columns-six : (tape : List ℕ) (place : ℕ) {r : Read} → r ≡ readAt tape place → length (r .columns) ≡ 6
-columns-six tape place e = rw e (read-six tape place (found tape place))
+pub columns-six : (tape : List ℕ) (place : ℕ) (r : Read) → reading r ≡ readAt tape place → length (r .columns) ≡ 6
+columns-six tape place r e = rw (read-columns r e) (read-six tape place (found tape place))
 
 -- what is no quote is taken without columns
-taken-unquoted : (m : Message) (columns : List ℕ) (k : Player) → OneOf (1 ∷ 2 ∷ 3 ∷ 4 ∷ 5 ∷ 6 ∷ 7 ∷ 8 ∷ []) (tagOf the-type m) → taken m columns k ≡ unquoted m k
+taken-unquoted : (w : Wanted) (columns : List ℕ) (k : Player) → OneOf (1 ∷ 2 ∷ 3 ∷ 4 ∷ 5 ∷ 6 ∷ 7 ∷ []) (tagOf the-type w) → taken w columns k ≡ unquoted w k
 unfolding taken
-taken-unquoted (Quote n) columns k one = absurd (miss (1 ∷ 2 ∷ 3 ∷ 4 ∷ 5 ∷ 6 ∷ 7 ∷ 8 ∷ []) 0 tt one)
+taken-unquoted (Quote n) columns k one = absurd (miss (1 ∷ 2 ∷ 3 ∷ 4 ∷ 5 ∷ 6 ∷ 7 ∷ []) 0 tt one)
 taken-unquoted (Look n) columns k one = refl
 taken-unquoted (Watch n) columns k one = refl
-taken-unquoted (Unwatch n) columns k one = refl
-taken-unquoted (Leave n p) columns k one = refl
-taken-unquoted (Join n p) columns k one = refl
+taken-unquoted (End n) columns k one = refl
 taken-unquoted (Open d N directions) columns k one = refl
-taken-unquoted End columns k one = refl
+taken-unquoted Nothing columns k one = refl
 taken-unquoted (Refused refusal) columns k one = refl
+taken-unquoted Misplaced columns k one = refl
 
--- what is played with this outcome
-abbrev playedAs : Outcome → ℕ → Bool → Played Player
+-- what is played with this effect
+abbrev playedAs : Effect → ℕ → Bool → Played Player
 playedAs one next over = record { number = one .number; text = one .text; state = one .state; next = next; over = over }
 
--- what is asked at a place is the message in its place, taken
-asked-taken : (begun' : Bool) (m : Message) (columns : List ℕ) (next : ℕ) (k : Player)
-    → playAsked begun bookMake (asked begun' m columns) next k ≡ playedAs (taken (placed begun' m) columns k) next (ends m)
-unfolding playAsked asked taken unquoted observed placed outOfPlace ends made refusedWith
-asked-taken true (Quote n) columns next k = refl
-asked-taken true (Look n) columns next k = refl
-asked-taken true (Watch n) columns next k = refl
-asked-taken true (Unwatch n) columns next k = refl
-asked-taken true (Open d N directions) columns next k = refl
-asked-taken false (Quote n) columns next k = refl
-asked-taken false (Look n) columns next k = refl
-asked-taken false (Watch n) columns next k = refl
-asked-taken false (Unwatch n) columns next k = refl
-asked-taken false (Open d N directions) columns next k = refl
-asked-taken b (Leave n p) columns next k = refl
-asked-taken b (Join n p) columns next k = refl
-asked-taken b End columns next k = refl
-asked-taken b (Refused refusal) columns next k = refl
+-- what is wanted is played as it is taken
+wanted-played : (w : Wanted) (columns : List ℕ) (next : ℕ) (k : Player)
+    → playAsked begun bookMake (wants w columns) next k ≡ playedAs (taken w columns k) next (ends (wants w columns))
+unfolding playAsked wants ends taken unquoted observed made refusedWith
+wanted-played (Quote n) columns next k = refl
+wanted-played (Look n) columns next k = refl
+wanted-played (Watch n) columns next k = refl
+wanted-played (End n) columns next k = refl
+wanted-played (Open d N directions) columns next k = refl
+wanted-played Nothing columns next k = refl
+wanted-played (Refused refusal) columns next k = refl
+wanted-played Misplaced columns next k = refl
 
 -- ---- the step
-module _ (tape : List ℕ) (place : ℕ) (h : Head) (t : Tables) (ws bytes before : List ℕ) {r : Read} {held : Bool} {m : Message} (e : r ≡ readAt tape place)
-    (f : held ≡ settingsHold (h .dimensions) (h .capacity) (h .directions)) (g : m ≡ placed held (r .message)) where
+module _ (tape : List ℕ) (place : ℕ) (h : Head) (t : Tables) (ws bytes before : List ℕ) (r : Read) {held : Bool} (w : Wanted) (e : reading r ≡ readAt tape place)
+    (f : held ≡ settingsHold (h .dimensions) (h .capacity) (h .directions)) (g : (columns : List ℕ) → wants w columns ≡ asked held (saying (r .message)) columns) where
   -- the player before the frame
   abbrev k : Player
   k = player h t ws bytes
 
+  -- what is wanted is what is asked for
+  wanted-there : wants w (r .columns) ≡ asked (begun k) (readAt tape place .says) (readAt tape place .columns)
+  unfolding begun
+  wanted-there =
+      wanted-asked tape place held r w e g (r .columns)
+      ∙ ap (λ (b : Bool). asked b (readAt tape place .says) (r .columns)) f
+      ∙ ap (asked (begun k) (readAt tape place .says)) (read-columns r e)
+
   -- what is played
-  played : bookPlay tape place k ≡ playedAs (taken m (r .columns) k) (r .next) (eqb (r .next) place)
-  unfolding playAt begun
+  played : bookPlay tape place k ≡ playedAs (taken w (r .columns) k) (r .next) (eqb (r .next) place)
+  unfolding playAt
   played =
-      rw (g, f, e, read-message tape place (found tape place) .1)
-      (asked-taken (begun k) (readAt tape place .message) (readAt tape place .columns) (readAt tape place .next) k)
+      let over : eqb (r .next) place ≡ ends (wants w (r .columns)) =
+      ap (λ (n : ℕ). eqb n place) (read-next r e)
+      ∙ read-plain (begun k) tape place (readAt tape place .columns) (found tape place) .1
+      ∙ ap ends (sym wanted-there) in
+      rw (over, ← wanted-there, ← (read-next r e)) (wanted-played w (r .columns) (r .next) k)
 
   module _ {turn : Turn} {step : Step} {t' : Tables} {bytes' after : List ℕ}
-      (w : step ≡ record { answer = turn .answer; over = eqb (r .next) place; next = r .next; count = turn .count; head = turn .head; watches = turn .watches }) where
+      (z : step ≡ record { answer = turn .answer; over = eqb (r .next) place; next = r .next; count = turn .count; head = turn .head; watches = turn .watches }) where
     -- the step of a turn
-    step-played : Turned (taken m (r .columns) k) before turn t' bytes' after → Stepped tape place k before step t' bytes' after
+    step-played : Turned (taken w (r .columns) k) before turn t' bytes' after → Stepped tape place k before step t' bytes' after
     step-played u =
-        rw w record {
+        rw z record {
           answer = rw played (u .answer);
           over = rw played;
           next = rw played;
@@ -180,10 +270,10 @@ module _ (tape : List ℕ) (place : ℕ) (h : Head) (t : Tables) (ws bytes befor
         }
 
     -- that of a quote
-    pub quote-played : {n : ℕ} → m ≡ Quote n → Turned (made (Request.Quote (take n (r .columns))) k) before turn t' bytes' after → Stepped tape place k before step t' bytes' after
+    pub quote-played : {n : ℕ} → w ≡ Quote n → Turned (made (Call.Quote (take n (r .columns))) k) before turn t' bytes' after → Stepped tape place k before step t' bytes' after
     unfolding taken
     quote-played q u = step-played (rw q u)
 
-    -- and that of any other message
-    pub other-played : OneOf (1 ∷ 2 ∷ 3 ∷ 4 ∷ 5 ∷ 6 ∷ 7 ∷ 8 ∷ []) (tagOf the-type m) → Turned (unquoted m k) before turn t' bytes' after → Stepped tape place k before step t' bytes' after
-    other-played one u = step-played (rw (taken-unquoted m (r .columns) k one) u)
+    -- and that of anything else
+    pub other-played : OneOf (1 ∷ 2 ∷ 3 ∷ 4 ∷ 5 ∷ 6 ∷ 7 ∷ []) (tagOf the-type w) → Turned (unquoted w k) before turn t' bytes' after → Stepped tape place k before step t' bytes' after
+    other-played one u = step-played (rw (taken-unquoted w (r .columns) k one) u)

@@ -7,7 +7,7 @@ use Rattle.model.specs.Calls.{Reached}
 use Rattle.model.proofs.Reached.{reached-step}
 use Rattle.frames.specs.Frames.{readAt}
 use Rattle.model.specs.Promises.{world}
-use Rattle.turns.specs.Turns.{Player, callOf, bookMake, player}
+use Rattle.turns.specs.Turns.{Player, bookMake, player}
 use Rattle.tape.specs.declared.Step.{Step}
 use Rattle.tape.specs.Play.{Asked, finished, unread, misplaced, request, asked, playAsked, playAt, begun, bookPlay}
 use Rattle.tape.specs.Steps.{Stepped}
@@ -19,12 +19,12 @@ module _ (k : Player) (c : Reached (k .world)) where
   asked-reached finished next = c
   asked-reached (unread refusal) next = c
   asked-reached misplaced next = c
-  asked-reached (request r) next = reached-step (callOf r (k .bytes)) c
+  asked-reached (request r) next = reached-step r (k .outputs) c
 
   -- one frame
   frame-reached : (tape : List ℕ) (place : ℕ) → Reached (bookPlay tape place k .state .world)
   unfolding playAt
-  frame-reached tape place = asked-reached (asked (begun k) (readAt tape place .message) (readAt tape place .columns)) (readAt tape place .next)
+  frame-reached tape place = asked-reached (asked (begun k) (readAt tape place .says) (readAt tape place .columns)) (readAt tape place .next)
 
 -- what playing one frame leaves
 pub step-reached : {tape : List ℕ} {place : ℕ} {h : Head} {t t' : Tables} {ws bytes before bytes' after : List ℕ} {r : Step}

@@ -9,21 +9,23 @@ use mathlib.Core.List.{List, [], _++_, append-nil, append-assoc}
 use lib.Dec.{ltb, leb, eqb}
 use lib.ListN.{length, getD, length-append, List·getD-append}
 use lib.Seq.{getD-append-add, drop-append-add}
-use borrow.Author.Tests.{ltb-true, lt-ltb, le-ltb, le-leb, leb-true, eqb-true, eq-eqb, ne-eqb}
+use borrow.Author.Tests.{ltb-true, lt-ltb, le-ltb, le-leb, leb-true, eqb-true, eqb-false, eq-eqb, ne-eqb}
 use Rattle.lists.proofs.Booleans.{either, agree, clash, and-left, and-right, or-cases}
 use Rattle.lists.proofs.Cells.{map-run}
 use Rattle.head.specs.declared.Refusal.the-variants.{UnknownKind, CutFrame}
-use Rattle.head.specs.Heads.{freshHead}
+use Rattle.head.specs.Refusals.{number}
 use Rattle.octets.specs.Bytes.{number2, number4}
-use Rattle.frames.specs.declared.Message.the-variants.{End, Refused}
-use Rattle.frames.specs.declared.Read.{Read}
-use Rattle.frames.specs.Frames.{within, bodyLength, messageAt, columnsAt, stays, readAt}
-use Rattle.frames.proofs.Reading.{message-drop, columns-drop, within-bounds, quote-body, Kind, quotes, looks, watches, unwatches, leaves, joins, opens, kind-of, Found, beyond, at-end, unknown, cut, whole, found}
+use Rattle.frames.specs.declared.Shape.{Shape}
+use Rattle.frames.specs.declared.Shape.the-variants.{Columns, Size, SizePosition, Settings, Unknown}
+use Rattle.frames.specs.Kinds.{within, shapeOf, bodyLength}
+use Rattle.frames.specs.Frames.{messageBy, messageAt, columnsAt, told, ended, refused, Reading, stays, readAt}
+use Rattle.frames.proofs.Shapes.{within-bounds, quote-body, size-body, change-body, open-body, kind-known, known-body}
+use Rattle.frames.proofs.Reading.{message-drop, columns-drop, Found, beyond, at-end, unknown, cut, whole, found}
 use Rattle.model.specs.Reference.{unopened, opened}
-use Rattle.model.specs.Calls.{Lent}
-use Rattle.turns.specs.Print.{Request, Answered}
+use Rattle.model.specs.Calls.{Call, Outputs, Lent, lengthsOf, worldFirst}
+use Rattle.turns.specs.Print.{Answered}
 use Rattle.turns.specs.Turns.{bookMake}
-use Rattle.tape.specs.Play.{Asked, finished, unread, misplaced, request, asked, Played, playAsked, playAt, printFrom, print, referenceMake, lengthsOf, begun}
+use Rattle.tape.specs.Play.{Asked, finished, unread, misplaced, request, asked, Played, playAsked, playAt, printFrom, print, referenceMake, begun}
 use Rattle.tape.specs.Steps.{ready}
 use Rattle.tape.specs.Streams.{linesFrom, further, Streams, plays, stops, drops, fills}
 use Rattle.tape.proofs.Agrees.{print-agrees}
@@ -44,15 +46,17 @@ module _ (piece rest : List ℕ) where
   four-same i h = rw (cell i (omega arith), cell (i + 1) (omega arith), cell (i + 2) (omega arith), cell (i + 3) (omega arith))
 
   -- the message of a frame that stands whole in the piece
-  message-same : (body kind : ℕ) → Kind kind → body + bodyLength kind ≤ length piece → messageAt (piece ++ rest) body kind ≡ messageAt piece body kind
-  unfolding messageAt bodyLength
-  message-same body kind (quotes u v) h = rw (le-leb 1 kind u, le-leb kind 6 v)
-  message-same body _ looks h = rw (two-same body h)
-  message-same body _ watches h = rw (two-same body h)
-  message-same body _ unwatches h = rw (two-same body h)
-  message-same body _ leaves h = rw (two-same body (omega arith), four-same (body + 2) (omega arith))
-  message-same body _ joins h = rw (two-same body (omega arith), four-same (body + 2) (omega arith))
-  message-same body _ opens h = rw (cell body (omega arith), two-same (body + 1) (omega arith), cell (body + 3) (omega arith))
+  message-same : (body kind : ℕ) → body + bodyLength kind ≤ length piece → messageAt (piece ++ rest) body kind ≡ messageAt piece body kind
+  unfolding messageAt messageBy
+  message-same body kind h = go (shapeOf kind) refl
+    where
+      go : (shape : Shape) → shapeOf kind ≡ shape → messageBy shape (piece ++ rest) body kind ≡ messageBy shape piece body kind
+      go Columns e = refl
+      go Size e = rw (two-same body (omega (arith, size-body kind e)))
+      go SizePosition e = rw (two-same body (omega (arith, change-body kind e)), four-same (body + 2) (omega (arith, change-body kind e)))
+      go Settings e =
+          rw (cell body (omega (arith, open-body kind e)), two-same (body + 1) (omega (arith, open-body kind e)), cell (body + 3) (omega (arith, open-body kind e)))
+      go Unknown e = refl
 
   -- and its columns
   columns-same : (body kind : ℕ) → body + bodyLength kind ≤ length piece → columnsAt (piece ++ rest) body kind ≡ columnsAt piece body kind
@@ -87,11 +91,11 @@ module _ (piece rest : List ℕ) where
       inside : place < length piece
       inside = ltb-true place (length piece) (and-left (ltb place (length piece)) (eqb (bodyLength kind) 255 || leb next (length piece)) e)
 
-      read : List ℕ → Read
-      read tape = record { message = messageAt tape (place + 1) kind; columns = columnsAt tape (place + 1) kind; next = next }
+      read : List ℕ → Reading
+      read tape = record { says = told (messageAt tape (place + 1) kind); columns = columnsAt tape (place + 1) kind; next = next }
 
-      rest-of : List ℕ → Read
-      rest-of tape = cond (eqb (bodyLength kind) 255) (stays (Refused UnknownKind) place) (cond (ltb (length tape) next) (stays (Refused CutFrame) place) (read tape))
+      rest-of : List ℕ → Reading
+      rest-of tape = cond (eqb (bodyLength kind) 255) (stays (refused (number UnknownKind)) place) (cond (ltb (length tape) next) (stays (refused (number CutFrame)) place) (read tape))
 
       stands : eqb (bodyLength kind) 255 ≡ false → next ≤ length piece
       stands f = pick (or-cases (eqb (bodyLength kind) 255) (leb next (length piece)) (and-right (ltb place (length piece)) (eqb (bodyLength kind) 255 || leb next (length piece)) e))
@@ -108,22 +112,11 @@ module _ (piece rest : List ℕ) where
             f,
             le-ltb (length (piece ++ rest)) next (omega (arith, length-append piece rest)),
             le-ltb (length piece) next h,
-            message-same (place + 1) kind (kind-of kind f) h,
+            message-same (place + 1) kind h,
             columns-same (place + 1) kind h,
           )
 
--- the body of a frame has at most 24 bytes
-body-most : (kind : ℕ) → Kind kind → bodyLength kind ≤ 24
-unfolding bodyLength
-body-most kind (quotes u v) = omega (arith, quote-body kind u v)
-body-most _ looks = omega arith
-body-most _ watches = omega arith
-body-most _ unwatches = omega arith
-body-most _ leaves = omega arith
-body-most _ joins = omega arith
-body-most _ opens = omega arith
-
--- so a frame is ready where 25 bytes have come
+-- a frame is ready where 25 bytes have come
 pub ready-soon : (piece : List ℕ) (place : ℕ) → place + 25 ≤ length piece → ready piece place ≡ true
 unfolding ready
 ready-soon piece place h = rw (lt-ltb place (length piece) (omega arith)) (go (either (eqb (bodyLength kind) 255)))
@@ -133,7 +126,7 @@ ready-soon piece place h = rw (lt-ltb place (length piece) (omega arith)) (go (e
 
     go : (eqb (bodyLength kind) 255 ≡ true) ⊎ (eqb (bodyLength kind) 255 ≡ false) → eqb (bodyLength kind) 255 || leb (place + 1 + bodyLength kind) (length piece) ≡ true
     go (inl e) = rw e
-    go (inr e) = rw (e, le-leb (place + 1 + bodyLength kind) (length piece) (omega (arith, body-most kind (kind-of kind e))))
+    go (inr e) = rw (e, le-leb (place + 1 + bodyLength kind) (length piece) (omega (arith, known-body kind (kind-known kind (eqb-false (bodyLength kind) 255 e)))))
 
 -- ---- what is read, whatever stood before
 
@@ -147,8 +140,8 @@ equal-shifted a x y =
     agree (eqb (a + x) (a + y)) (eqb x y) (λ t. eq-eqb x y (omega (arith, eqb-true (a + x) (a + y) t))) (λ t. eq-eqb (a + x) (a + y) (omega (arith, eqb-true x y t)))
 
 -- what is read at a place with this many bytes before it
-shifted : ℕ → Read → Read
-shifted n r = record { message = r .message; columns = r .columns; next = n + r .next }
+shifted : ℕ → Reading → Reading
+shifted n r = record { says = r .says; columns = r .columns; next = n + r .next }
 
 -- what is read behind other bytes is the same, so many places further on
 read-behind : (before tape : List ℕ) (place : ℕ) → readAt (before ++ tape) (length before + place) ≡ shifted (length before) (readAt tape place)
@@ -175,19 +168,19 @@ read-behind before tape place =
     n : ℕ
     n = length before
 
-    read : ℕ → Read
-    read next = record { message = messageAt tape (place + 1) kind; columns = columnsAt tape (place + 1) kind; next = next }
+    read : ℕ → Reading
+    read next = record { says = told (messageAt tape (place + 1) kind); columns = columnsAt tape (place + 1) kind; next = next }
 
     go : (a b c d : Bool)
-        → cond a (stays (Refused CutFrame) (n + place))
-        (cond b (stays End (n + place))
-        (cond c (stays (Refused UnknownKind) (n + place))
-        (cond d (stays (Refused CutFrame) (n + place)) (read (n + (place + 1 + bodyLength kind))))))
+        → cond a (stays (refused (number CutFrame)) (n + place))
+        (cond b (stays ended (n + place))
+        (cond c (stays (refused (number UnknownKind)) (n + place))
+        (cond d (stays (refused (number CutFrame)) (n + place)) (read (n + (place + 1 + bodyLength kind))))))
         ≡ shifted n
-        (cond a (stays (Refused CutFrame) place)
-        (cond b (stays End place)
-        (cond c (stays (Refused UnknownKind) place)
-        (cond d (stays (Refused CutFrame) place) (read (place + 1 + bodyLength kind))))))
+        (cond a (stays (refused (number CutFrame)) place)
+        (cond b (stays ended place)
+        (cond c (stays (refused (number UnknownKind)) place)
+        (cond d (stays (refused (number CutFrame)) place) (read (place + 1 + bodyLength kind))))))
     go true b c d = refl
     go false true c d = refl
     go false false true d = refl
@@ -196,7 +189,7 @@ read-behind before tape place =
 
 -- ---- one frame
 
-module _ {S : Type 0} (begun : S → Bool) (make : Request → S → Answered × S) where
+module _ {S : Type 0} (begun : S → Bool) (make : Call → S → Answered × S) where
   -- a frame that is ready is played the same however the tape goes on
   pub ready-same : (piece rest : List ℕ) (place : ℕ) (s : S) → ready piece place ≡ true → playAt begun make (piece ++ rest) place s ≡ playAt begun make piece place s
   unfolding playAt
@@ -215,7 +208,7 @@ module _ {S : Type 0} (begun : S → Bool) (make : Request → S → Answered ×
   unfolding playAt shifted
   front-same before tape place s =
       let read = readAt tape place in
-      rw (read-behind before tape place) (asked-behind (length before) (asked (begun s) (read .message) (read .columns)) (read .next) s)
+      rw (read-behind before tape place) (asked-behind (length before) (asked (begun s) (read .says) (read .columns)) (read .next) s)
 
   -- the place behind a frame is the one that was read
   next-read : (a : Asked) (next : ℕ) (s : S) → playAsked begun make a next s .next ≡ next
@@ -231,15 +224,15 @@ module _ {S : Type 0} (begun : S → Bool) (make : Request → S → Answered ×
   unfolding playAt playAsked asked stays
   onward tape place s e = go (readAt tape place) (found tape place) e
     where
-      one : Read → Played S
-      one r = playAsked begun make (asked (begun s) (r .message) (r .columns)) (r .next) s
+      one : Reading → Played S
+      one r = playAsked begun make (asked (begun s) (r .says) (r .columns)) (r .next) s
 
-      go : (r : Read) → Found tape place r → one r .over ≡ false → (place < one r .next) × (one r .next ≤ length tape)
+      go : (r : Reading) → Found tape place r → one r .over ≡ false → (place < one r .next) × (one r .next ≤ length tape)
       go _ (beyond h) e = absurd (clash true refl e)
       go _ (at-end h) e = absurd (clash true refl e)
       go _ unknown e = absurd (clash true refl e)
       go _ cut e = absurd (clash true refl e)
-      go r (whole k h) e = rw (next-read (asked (begun s) (r .message) (r .columns)) (r .next) s) (omega arith, h)
+      go r (whole k h) e = rw (next-read (asked (begun s) (r .says) (r .columns)) (r .next) s) (omega arith, h)
 
   -- ---- all frames
 
@@ -352,7 +345,7 @@ module _ {S : Type 0} (begun : S → Bool) (make : Request → S → Answered ×
       rw (append-nil rest) at t
 
 -- what the book prints of a tape that is read in pieces is the print by the reference model
-pub streamed-agrees : (tape : List ℕ) (l : Lent) (bytes : List ℕ) {text : List ℕ}
-    → Streams begun bookMake [] 0 (record { world = record { head = freshHead 0 0 0; lent = l }; bytes = bytes }) tape text
-    → text ≡ print opened (referenceMake (lengthsOf l) (length bytes)) tape unopened
-streamed-agrees tape l bytes t = printed-in-pieces begun bookMake tape _ t ∙ print-agrees tape l bytes
+pub streamed-agrees : (tape : List ℕ) (l : Lent) (o : Outputs) {text : List ℕ}
+    → Streams begun bookMake [] 0 (record { world = worldFirst l; outputs = o }) tape text
+    → text ≡ print opened (referenceMake (lengthsOf l o)) tape unopened
+streamed-agrees tape l o t = printed-in-pieces begun bookMake tape _ t ∙ print-agrees tape l o

@@ -8,7 +8,7 @@ use lib.Dec.{ltb, leb, eqb}
 use lib.ListN.{length, getD}
 use borrow.Author.Tests.{ltb-true, lt-ltb, le-ltb, leb-true, le-leb}
 use Rattle.lists.proofs.Booleans.{agree}
-use Rattle.frames.specs.Frames.{bodyLength}
+use Rattle.frames.specs.Kinds.{bodyLength}
 use Rattle.tape.specs.Steps.{ready}
 
 module _ (tape : List ℕ) (place : ℕ) where

@@ -3,26 +3,26 @@ use mathlib.Core.Path.{_≡_, refl}
 use Rattle.lists.specs.Lists.{filter, any, flat, run, between, contains, insert}
 use Rattle.dominance.specs.Dominance.{higher, better, betterAt, noWorse, someBetter, dominates}
 use Rattle.skyline.specs.Skyline.{windowStart, dominatedIn, skyline, undominated, rows, lowerEnd}
-use Rattle.head.specs.Refusals.{first, settled}
+use Rattle.head.specs.Refusals.{firstOf, granted}
 use Rattle.head.specs.Heads.{settingsHold}
 use Rattle.octets.specs.Bytes.{bytes2, bytes4, number2, number4}
-use Rattle.frames.specs.Frames.{bodyLength, frame, messageAt, columnsAt, stays, readAt}
-use Rattle.model.specs.Changes.{missing, changes, allChanges, frames}
-use Rattle.model.specs.Reference.{unopened, quoteAt, dominatesAt, skylineOf, rowOf, rowsOf, headOf, opened, outside, withQuote, withWatched, opening, tooShort, tells, referenceStep}
+use Rattle.frames.specs.Kinds.{kinds, shapeIn, shapeOf, lengthOf, bodyLength}
+use Rattle.frames.specs.Frames.{frame, messageBy, messageAt, columnsAt, stays, readAt, before, messagesFrom}
+use Rattle.model.specs.Changes.{missing, changesBy, changes, allChanges, frames}
+use Rattle.model.specs.Reference.{unopened, ample, quoteAt, dominatesAt, skylineOf, rowOf, rowsOf, headOf, opened, outside, withQuote, withWatched, opening, tooShort, tells, referenceStep}
 use Rattle.text.specs.Text.{digitsUpTo, digits, field, line}
-use Rattle.printed.specs.Printed.{changeLine, changeLines, changeAt, changesIn}
-use Rattle.turns.specs.Print.{changesText, linesOf, answerText, textOf}
-use Rattle.turns.specs.Turns.{changeBytes}
-use Rattle.tape.specs.Play.{asked, playAsked, playAt, printFrom, print, fedOf, referenceMake}
-use Rattle.tape.specs.Worked.{workedTape, workedText, ampleLengths}
+use Rattle.printed.specs.Printed.{changeLine, changeLines, changesText}
+use Rattle.turns.specs.Print.{linesOf, textOf}
+use Rattle.tape.specs.Play.{sizedAsks, asks, inPlace, placed, asked, playAsked, playAt, printFrom, print, referenceMake}
+use Rattle.tape.specs.Worked.{workedTape, workedText}
 
 -- the reference model prints 01's tape as 01 does
-pub worked-print : print opened (referenceMake ampleLengths changeBytes) workedTape unopened ≡ workedText
+pub worked-print : print opened (referenceMake ample) workedTape unopened ≡ workedText
 unfolding filter any flat run between contains insert
     higher better betterAt noWorse someBetter dominates windowStart dominatedIn skyline undominated rows lowerEnd
-    first settled settingsHold bytes2 bytes4 number2 number4 bodyLength frame messageAt columnsAt stays readAt
-    missing changes allChanges frames quoteAt dominatesAt skylineOf rowOf rowsOf headOf opened outside
+    firstOf granted settingsHold bytes2 bytes4 number2 number4 kinds shapeIn shapeOf lengthOf bodyLength frame messageBy messageAt columnsAt stays readAt before messagesFrom
+    missing changesBy changes allChanges frames quoteAt dominatesAt skylineOf rowOf rowsOf headOf opened outside
     withQuote withWatched opening tooShort tells referenceStep
-    digitsUpTo digits field line changeLine changeLines changeAt changesIn changesText linesOf answerText textOf
-    asked playAsked playAt printFrom print fedOf referenceMake
+    digitsUpTo digits field line changeLine changeLines changesText linesOf textOf
+    sizedAsks asks inPlace placed asked playAsked playAt printFrom print referenceMake
 worked-print = refl

@@ -1,51 +1,45 @@
--- A frame in its place, and what its message comes to.
+-- What a frame wants of the player, in its place, and what it comes to.
 use Prim.Native.Nat.{ℕ}
-use mathlib.Core.Bool.{Bool, true, false, not, cond}
+use mathlib.Core.Bool.{Bool, false, not}
 use mathlib.Core.List.{List}
 use lib.ListN.{take}
-use Rattle.head.specs.declared.Refusal.the-variants.{OutOfPlace}
-use Rattle.frames.specs.declared.Message.{Message}
-use Rattle.frames.specs.declared.Message.the-variants.{Quote, Look, Watch, Unwatch, Leave, Join, Open, End, Refused}
-use Rattle.turns.specs.Print.{Request}
-use Rattle.turns.specs.Turns.{Player, Outcome, made}
-use Rattle.turns.specs.Messages.{unquoted}
+use Rattle.head.specs.Refusals.{number}
+use Rattle.model.specs.Calls.{Call}
+use Rattle.turns.specs.declared.Wanted.{Wanted}
+use Rattle.turns.specs.declared.Wanted.the-variants.{Quote, Look, Watch, End, Open, Nothing, Refused, Misplaced}
+use Rattle.turns.specs.Turns.{Player, Effect, made}
+use Rattle.turns.specs.Wishes.{unquoted}
+use Rattle.tape.specs.Play.{Asked, finished, unread, misplaced, request}
 
--- the frame of a message is out of place, before or after an accepted opening (01: 7)
-unfoldable pub outOfPlace : Bool → Message → Bool
+-- what is wanted, as it is asked for: a quote with its columns
+unfoldable pub wants : Wanted → List ℕ → Asked
+wants (Quote k) columns = request (Call.Quote (take k columns))
+wants (Look n) columns = request (Call.Look n)
+wants (Watch n) columns = request (Call.Watch n)
+wants (End n) columns = request (Call.End n)
+wants (Open d N directions) columns = request (Call.Open d N directions)
+wants Nothing columns = finished
+wants (Refused k) columns = unread (number k)
+wants Misplaced columns = misplaced
+
+-- what is wanted is out of place, before or after an accepted opening (01: 7)
+unfoldable pub outOfPlace : Bool → Wanted → Bool
 outOfPlace begun (Quote k) = not begun
 outOfPlace begun (Look n) = not begun
 outOfPlace begun (Watch n) = not begun
-outOfPlace begun (Unwatch n) = not begun
-outOfPlace begun (Leave n p) = true
-outOfPlace begun (Join n p) = true
+outOfPlace begun (End n) = not begun
 outOfPlace begun (Open d N directions) = begun
-outOfPlace begun End = false
+outOfPlace begun Nothing = false
 outOfPlace begun (Refused k) = false
+outOfPlace begun Misplaced = false
 
--- a message in its place, or the refusal of one that is not
-unfoldable pub placed : Bool → Message → Message
-placed begun message = cond (outOfPlace begun message) (Refused OutOfPlace) message
-
--- how many columns the quote of a message has
-unfoldable pub columnCount : Message → ℕ
-columnCount (Quote k) = k
-columnCount (Look n) = 0
-columnCount (Watch n) = 0
-columnCount (Unwatch n) = 0
-columnCount (Leave n p) = 0
-columnCount (Join n p) = 0
-columnCount (Open d N directions) = 0
-columnCount End = 0
-columnCount (Refused k) = 0
-
--- a message that is in its place, a quote with its columns
-unfoldable pub taken : Message → List ℕ → Player → Outcome
-taken (Quote n) columns k = made (Request.Quote (take n columns)) k
+-- what is wanted comes to this
+unfoldable pub taken : Wanted → List ℕ → Player → Effect
+taken (Quote n) columns k = made (Call.Quote (take n columns)) k
 taken (Look n) columns k = unquoted (Look n) k
 taken (Watch n) columns k = unquoted (Watch n) k
-taken (Unwatch n) columns k = unquoted (Unwatch n) k
-taken (Leave n p) columns k = unquoted (Leave n p) k
-taken (Join n p) columns k = unquoted (Join n p) k
+taken (End n) columns k = unquoted (End n) k
 taken (Open d N directions) columns k = unquoted (Open d N directions) k
-taken End columns k = unquoted End k
+taken Nothing columns k = unquoted Nothing k
 taken (Refused refusal) columns k = unquoted (Refused refusal) k
+taken Misplaced columns k = unquoted Misplaced k

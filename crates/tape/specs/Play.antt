@@ -1,18 +1,19 @@
 -- Playing a tape, frame by frame, and its print: once for whatever makes the calls, then by the reference model and by the book model.
 use Prim.Native.Nat.{ℕ, zero, suc}
-use mathlib.Core.Bool.{Bool, true, false, cond}
+use mathlib.Core.Bool.{Bool, true, false, not, cond}
 use mathlib.Core.List.{List, [], _++_}
+use lib.Dec.{eqb}
 use lib.ListN.{length, take}
-use Rattle.head.specs.declared.Refusal.{Refusal}
 use Rattle.head.specs.declared.Refusal.the-variants.{OutOfPlace}
-use Rattle.head.specs.Refusals.{number, numberOf}
+use Rattle.head.specs.Refusals.{number}
 use Rattle.head.specs.Heads.{settingsHold}
 use Rattle.frames.specs.declared.Message.{Message}
 use Rattle.frames.specs.declared.Message.the-variants as Message
-use Rattle.frames.specs.Frames.{readAt}
-use Rattle.model.specs.Reference.{Reference, Lengths, Fed, referenceStep}
-use Rattle.model.specs.Calls.{Lent}
-use Rattle.turns.specs.Print.{Request, Answered, refusalLine, textOf}
+use Rattle.frames.specs.Kinds.{lookKind, watchKind, unwatchKind}
+use Rattle.frames.specs.Frames.{Saying, told, ended, refused, readAt}
+use Rattle.model.specs.Reference.{Reference, Lengths, referenceStep}
+use Rattle.model.specs.Calls.{Call}
+use Rattle.turns.specs.Print.{Answered, refusalLine, textOf}
 use Rattle.turns.specs.Turns.{Player, bookMake}
 
 -- ---- what a frame asks for
@@ -20,21 +21,46 @@ use Rattle.turns.specs.Turns.{Player, bookMake}
 -- what stands at a place of a tape, for a player: its end, something that cannot be read, a frame out of place (01: 7), or a call
 pub data Asked : Type 0 where
   finished : Asked
-  unread : Refusal → Asked
+  unread : ℕ → Asked
   misplaced : Asked
-  request : Request → Asked
+  request : Call → Asked
 
--- what was read, before or after an accepted opening: an opening after one, any other frame before one, and a change are out of place
-unfoldable pub asked : Bool → Message → List ℕ → Asked
-asked begun (Message.Open d N directions) columns = cond begun misplaced (request (Request.Open d N directions))
-asked begun (Message.Quote k) columns = cond begun (request (Request.Quote (take k columns))) misplaced
-asked begun (Message.Look n) columns = cond begun (request (Request.Look n)) misplaced
-asked begun (Message.Watch n) columns = cond begun (request (Request.Watch n)) misplaced
-asked begun (Message.Unwatch n) columns = cond begun (request (Request.End n)) misplaced
-asked begun (Message.Leave n p) columns = misplaced
-asked begun (Message.Join n p) columns = misplaced
-asked begun Message.End columns = finished
-asked begun (Message.Refused k) columns = unread k
+-- what a frame with n asks for, by its kind; no other kind has a place on a tape
+unfoldable pub sizedAsks : ℕ → ℕ → Asked
+sizedAsks kind n =
+    cond (eqb kind lookKind) (request (Call.Look n))
+    (cond (eqb kind watchKind) (request (Call.Watch n))
+    (cond (eqb kind unwatchKind) (request (Call.End n)) misplaced))
+
+-- what a message asks for; a change has no place on a tape
+unfoldable pub asks : Message → List ℕ → Asked
+asks (Message.Quote k) columns = request (Call.Quote (take k columns))
+asks (Message.Sized kind n) columns = sizedAsks kind n
+asks (Message.Change kind n p) columns = misplaced
+asks (Message.Open d N directions) columns = request (Call.Open d N directions)
+asks Message.End columns = finished
+asks (Message.Refused k) columns = unread (number k)
+
+-- a call is in its place, before or after an accepted opening: an opening before one, any other call after one
+unfoldable pub inPlace : Bool → Call → Bool
+inPlace begun (Call.Open d N directions) = not begun
+inPlace begun (Call.Quote x) = begun
+inPlace begun (Call.Look n) = begun
+inPlace begun (Call.Watch n) = begun
+inPlace begun (Call.End n) = begun
+
+-- what is asked for, in its place
+unfoldable pub placed : Bool → Asked → Asked
+placed begun finished = finished
+placed begun (unread k) = unread k
+placed begun misplaced = misplaced
+placed begun (request c) = cond (inPlace begun c) (request c) misplaced
+
+-- what was read asks for, before or after an accepted opening
+unfoldable pub asked : Bool → Saying → List ℕ → Asked
+asked begun (told m) columns = placed begun (asks m columns)
+asked begun ended columns = finished
+asked begun (refused k) columns = unread k
 
 -- ---- frame by frame
 
@@ -47,20 +73,20 @@ pub record Played (S : Type 0) : Type 0 where
   pub next : ℕ
   pub over : Bool
 
-module _ {S : Type 0} (begun : S → Bool) (make : Request → S → Answered × S) where
+module _ {S : Type 0} (begun : S → Bool) (make : Call → S → Answered × S) where
   -- what stands at a place, played: the end prints nothing, what cannot be read its number, and both end the tape (01: after 1 or 2 it
   -- stops); a frame out of place prints its number, a call its lines, and the tape goes on
   unfoldable pub playAsked : Asked → ℕ → S → Played S
   playAsked finished next s = record { number = 0; text = []; state = s; next = next; over = true }
-  playAsked (unread k) next s = record { number = number k; text = refusalLine k; state = s; next = next; over = true }
-  playAsked misplaced next s = record { number = number OutOfPlace; text = refusalLine OutOfPlace; state = s; next = next; over = false }
-  playAsked (request r) next s =
-      let made = make r s in
-      record { number = numberOf (made .0 .answer); text = textOf r (made .0); state = made .1; next = next; over = false }
+  playAsked (unread k) next s = record { number = k; text = refusalLine k; state = s; next = next; over = true }
+  playAsked misplaced next s = record { number = number OutOfPlace; text = refusalLine (number OutOfPlace); state = s; next = next; over = false }
+  playAsked (request c) next s =
+      let made = make c s in
+      record { number = made .0 .outcome .number; text = textOf c (made .0); state = made .1; next = next; over = false }
 
   -- one frame of a tape, at a place
   unfoldable pub playAt : List ℕ → ℕ → S → Played S
-  playAt tape place s = let read = readAt tape place in playAsked (asked (begun s) (read .message) (read .columns)) (read .next) s
+  playAt tape place s = let read = readAt tape place in playAsked (asked (begun s) (read .says) (read .columns)) (read .next) s
 
   -- the lines of the frames from a place on, of at most this many
   unfoldable pub printFrom : ℕ → List ℕ → ℕ → S → List ℕ
@@ -75,29 +101,16 @@ module _ {S : Type 0} (begun : S → Bool) (make : Request → S → Answered ×
 
 -- ---- by the reference model
 
--- what the reference model is fed of a call, with the lengths of the tables and records and of the output for changes; that for
--- positions has 1,024 cells
-unfoldable pub fedOf : Lengths → ℕ → Request → Fed
-fedOf lengths room (Request.Open d N directions) = Fed.Open d N directions lengths
-fedOf lengths room (Request.Quote x) = Fed.Quote x room
-fedOf lengths room (Request.Look n) = Fed.Look n 1024
-fedOf lengths room (Request.Watch n) = Fed.Watch n room
-fedOf lengths room (Request.End n) = Fed.End n
-
--- the lengths of what is lent
-abbrev pub lengthsOf : Lent → Lengths
-lengthsOf l = record {
-  columns = length (l .tables .columns);
-  positions = length (l .tables .positions);
-  lowerEnds = length (l .tables .lowerEnds);
-  watches = length (l .watches);
-}
-
--- a call made by the reference model
-unfoldable pub referenceMake : Lengths → ℕ → Request → Reference → Answered × Reference
-referenceMake lengths room r s =
-    let told = referenceStep (fedOf lengths room r) s in
-    (record { answer = told .answer; head = told .head; written = told .written }, told .next)
+-- a call made by the reference model, which is lent these lengths
+unfoldable pub referenceMake : Lengths → Call → Reference → Answered × Reference
+referenceMake lengths c s =
+    let told = referenceStep c lengths s in (
+      record {
+        outcome = record { number = told .number; head = told .head; count = told .count };
+        outputs = record { bytes = told .bytes; cells = told .cells };
+      },
+      told .next,
+    )
 
 -- ---- by the book model
 

@@ -6,13 +6,14 @@ use mathlib.Core.Bool.{true, false}
 use mathlib.Core.List.{List, [], _++_}
 use lib.ListN.{length, take}
 use Rattle.model.specs.Rows.{Tables}
-use Rattle.turns.specs.Turns.{Player, player}
+use Rattle.model.specs.Promises.{world}
+use Rattle.turns.specs.Turns.{Player}
 use Rattle.tape.specs.declared.Step.{Step}
 use Rattle.tape.specs.Steps.{Stepped, ready}
 
--- the player that a step leaves
-abbrev pub left : Step → Tables → List ℕ → Player
-left r t' bytes' = player (r .head) t' (r .watches) bytes'
+-- the player that a step leaves: it keeps its cells for positions
+abbrev pub left : Player → Step → Tables → List ℕ → Player
+left k r t' bytes' = record { world = world (r .head) t' (r .watches); outputs = record { bytes = bytes'; cells = k .outputs .cells } }
 
 -- what a player prints from a buffer with this piece of a tape, from a place of it on, while the rest is still to come: each frame by a
 -- step that was made and met its contract, on what the step before left; it is ready, or nothing more comes; the bytes
@@ -20,7 +21,7 @@ left r t' bytes' = player (r .head) t' (r .watches) bytes'
 pub data Prints : List ℕ → ℕ → Player → List ℕ → List ℕ → Type 0 where
   goes-on : {piece rest text before after bytes' : List ℕ} {place : ℕ} {k : Player} {r : Step} {t' : Tables} → (ready piece place ≡ true) ⊎ (rest ≡ [])
       → Stepped piece place k before r t' bytes' after → r .over ≡ false
-      → Prints piece (r .next) (left r t' bytes') rest text
+      → Prints piece (r .next) (left k r t' bytes') rest text
       → Prints piece place k rest (take (r .count) after ++ text)
   ends : {piece rest before after bytes' : List ℕ} {place : ℕ} {k : Player} {r : Step} {t' : Tables} → (ready piece place ≡ true) ⊎ (rest ≡ [])
       → Stepped piece place k before r t' bytes' after → r .over ≡ true

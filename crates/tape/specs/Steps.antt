@@ -7,7 +7,7 @@ use lib.Dec.{ltb, leb, eqb}
 use lib.ListN.{length, getD}
 use Rattle.lists.specs.Lists.{laid}
 use Rattle.head.specs.Refusals.{numberOf}
-use Rattle.frames.specs.Frames.{bodyLength}
+use Rattle.frames.specs.Kinds.{bodyLength}
 use Rattle.model.specs.Rows.{Tables}
 use Rattle.turns.specs.Turns.{Player}
 use Rattle.tape.specs.declared.Step.{Step}
@@ -22,7 +22,7 @@ pub record Stepped (tape : List ℕ) (place : ℕ) (k : Player) (before : List �
   pub head : r .head ≡ bookPlay tape place k .state .world .head
   pub watches : r .watches ≡ bookPlay tape place k .state .world .lent .watches
   pub lent : t' ≡ bookPlay tape place k .state .world .lent .tables
-  pub bytes : bytes' ≡ bookPlay tape place k .state .bytes
+  pub bytes : bytes' ≡ bookPlay tape place k .state .outputs .bytes
   pub text : after ≡ laid (bookPlay tape place k .text) before
 
 -- what is read at a place stays the same however the tape goes on: a whole frame stands there, or a kind that is unknown

@@ -5,11 +5,12 @@ use Prim.Native.Nat.{ℕ, suc, _+_, _-_}
 use mathlib.Core.Bool.{Bool, true, false}
 use mathlib.Core.List.{List, [], _++_}
 use lib.ListN.{length}
-use Rattle.turns.specs.Print.{Request, Answered}
+use Rattle.model.specs.Calls.{Call}
+use Rattle.turns.specs.Print.{Answered}
 use Rattle.tape.specs.Play.{Played, playAt, printFrom}
 use Rattle.tape.specs.Steps.{ready}
 
-module _ {S : Type 0} (begun : S → Bool) (make : Request → S → Answered × S) where
+module _ {S : Type 0} (begun : S → Bool) (make : Call → S → Answered × S) where
   -- the lines of all frames from a place on
   unfoldable pub linesFrom : List ℕ → ℕ → S → List ℕ
   linesFrom tape place s = printFrom begun make (suc (length tape - place)) tape place s
@@ -20,7 +21,7 @@ further n one = record { number = one .number; text = one .text; state = one .st
 
 -- what is printed from a buffer with this piece of the tape, from a place of it on, by this player, while the rest is still to come:
 -- a frame is played where it is ready or nothing more comes; the bytes before the place may be dropped; more bytes may come in
-pub data Streams {S : Type 0} (begun : S → Bool) (make : Request → S → Answered × S) : List ℕ → ℕ → S → List ℕ → List ℕ → Type 0 where
+pub data Streams {S : Type 0} (begun : S → Bool) (make : Call → S → Answered × S) : List ℕ → ℕ → S → List ℕ → List ℕ → Type 0 where
   plays : {piece rest text : List ℕ} {place : ℕ} {s : S} → (ready piece place ≡ true) ⊎ (rest ≡ []) → playAt begun make piece place s .over ≡ false
       → Streams begun make piece (playAt begun make piece place s .next) (playAt begun make piece place s .state) rest text
       → Streams begun make piece place s rest (playAt begun make piece place s .text ++ text)

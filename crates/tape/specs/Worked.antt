@@ -2,9 +2,9 @@
 use Prim.Native.Nat.{ℕ, _+_}
 use mathlib.Core.List.{List, [], _∷_, _++_, map}
 use Rattle.lists.specs.Lists.{flat}
-use Rattle.frames.specs.declared.Message.the-variants.{Open, Quote, Look, Watch}
+use Rattle.frames.specs.declared.Message.the-variants.{Open, Quote, Sized}
+use Rattle.frames.specs.Kinds.{lookKind, watchKind}
 use Rattle.frames.specs.Frames.{frame}
-use Rattle.model.specs.Reference.{Lengths}
 
 -- the frame of a quote of two columns
 abbrev two : ℕ → ℕ → List ℕ
@@ -13,7 +13,7 @@ two a b = frame (Quote 2) (a ∷ b ∷ [])
 -- 01's tape
 abbrev pub workedTape : List ℕ
 workedTape =
-    flat (frame (Open 2 5 0) [] ∷ two 5 5 ∷ two 3 8 ∷ two 4 4 ∷ two 7 2 ∷ two 4 4 ∷ frame (Watch 2) [] ∷ two 6 6 ∷ frame (Look 5) [] ∷ two 2 9 ∷ two 4 3 ∷ frame (Look 3) [] ∷ [])
+    flat (frame (Open 2 5 0) [] ∷ two 5 5 ∷ two 3 8 ∷ two 4 4 ∷ two 7 2 ∷ two 4 4 ∷ frame (Sized watchKind 2) [] ∷ two 6 6 ∷ frame (Sized lookKind 5) [] ∷ two 2 9 ∷ two 4 3 ∷ frame (Sized lookKind 3) [] ∷ [])
 
 -- a line of numbers of one digit each
 abbrev plain : ℕ → List ℕ → List ℕ
@@ -43,7 +43,3 @@ workedText = flat (
     ∷ plain 43 (2 ∷ 8 ∷ [])
     ∷ plain 76 (3 ∷ 7 ∷ 8 ∷ [])
     ∷ [])
-
--- ample lengths
-abbrev pub ampleLengths : Lengths
-ampleLengths = record { columns = 6144; positions = 1024; lowerEnds = 1024; watches = 8 }

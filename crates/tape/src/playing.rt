@@ -1,47 +1,83 @@
 // The player: reads the frame at a place, judges its place on the tape, makes its call, and lays its lines.
 ghost use mathlib.Core.Path.{_≡_};
-ghost use Prim.Native.Nat.{_≤_};
+ghost use Prim.Native.Nat.{ℕ, _≤_};
+ghost use mathlib.Core.List.{List};
 ghost use lib.Dec.{eqb};
 ghost use lib.ListN.{length};
+ghost use Rattle.frames.specs.Frames.{saying};
 ghost use Rattle.model.specs.Calls.{Reached};
 ghost use Rattle.model.specs.Promises.{tables, world};
 ghost use Rattle.turns.specs.Turns.{textBytes, player};
 ghost use Rattle.tape.specs.Steps.{Stepped};
-ghost use Rattle.tape.specs.Placing.{outOfPlace, placed};
+ghost use Rattle.tape.specs.Play.{sizedAsks, asks, asked};
+ghost use Rattle.tape.specs.Placing.{wants, outOfPlace};
 use crate::CHANGE_BYTES;
 use crate::Step;
 use crate::TEXT_BYTES;
+use frames::LOOK;
 use frames::Message;
+use frames::UNWATCH;
+use frames::WATCH;
 use frames::read_at;
 use head::Head;
-use head::Refusal;
 use turns::Turn;
+use turns::Wanted;
 
-// Whether the frame of a message is out of place (01: 7).
-fn misplaced(begun: bool, message: Message) -> bool
-    ensures { λ r. ⌜ r ≡ outOfPlace begun message ⌝ }
+// What a frame with n wants, by its kind; no other kind has a place on a tape.
+fn sized(kind: u8, n: u16) -> Wanted
+    ensures { λ r. ⌜ ((columns : List ℕ) → wants r columns ≡ sizedAsks kind n) ⌝ }
+{
+    if kind == LOOK {
+        return Wanted::Look(n);
+    }
+    if kind == WATCH {
+        return Wanted::Watch(n);
+    }
+    if kind == UNWATCH {
+        return Wanted::End(n);
+    }
+    Wanted::Misplaced
+}
+
+// What a message wants; a change has no place on a tape.
+fn asks(message: Message) -> Wanted
+    ensures { λ r. ⌜ ((columns : List ℕ) → wants r columns ≡ asks message columns) ⌝ }
 {
     match message {
-        Message::Open(_, _, _) => begun,
-        Message::Quote(_) => !begun,
-        Message::Look(_) => !begun,
-        Message::Watch(_) => !begun,
-        Message::Unwatch(_) => !begun,
-        Message::Leave(_, _) => true,
-        Message::Join(_, _) => true,
-        Message::End => false,
-        Message::Refused(_) => false,
+        Message::Quote(k) => Wanted::Quote(k),
+        Message::Sized(kind, n) => sized(kind, n),
+        Message::Change(_, _, _) => Wanted::Misplaced,
+        Message::Open(d, n, directions) => Wanted::Open(d, n, directions),
+        Message::End => Wanted::Nothing,
+        Message::Refused(refusal) => Wanted::Refused(refusal),
     }
 }
 
-// A message in its place, or the refusal of one that is not.
-fn placed(begun: bool, message: Message) -> Message
-    ensures { λ r. ⌜ r ≡ placed begun message ⌝ }
+// Whether what is wanted is out of place (01: 7): an opening after an accepted one, any other call before one.
+fn misplaced(begun: bool, wanted: Wanted) -> bool
+    ensures { λ r. ⌜ r ≡ outOfPlace begun wanted ⌝ }
 {
-    if misplaced(begun, message) {
-        return Message::Refused(Refusal::OutOfPlace);
+    match wanted {
+        Wanted::Open(_, _, _) => begun,
+        Wanted::Quote(_) => !begun,
+        Wanted::Look(_) => !begun,
+        Wanted::Watch(_) => !begun,
+        Wanted::End(_) => !begun,
+        Wanted::Nothing => false,
+        Wanted::Refused(_) => false,
+        Wanted::Misplaced => false,
     }
-    message
+}
+
+// What a message wants, in its place.
+fn placed(begun: bool, message: Message) -> Wanted
+    ensures { λ r. ⌜ ((columns : List ℕ) → wants r columns ≡ asked begun (saying message) columns) ⌝ }
+{
+    let wanted = asks(message);
+    if misplaced(begun, wanted) {
+        return Wanted::Misplaced;
+    }
+    wanted
 }
 
 // The step that a turn makes: the tape is over where nothing could be read, and the place stayed.
@@ -79,9 +115,9 @@ pub fn play(
     let next = read.next;
     let quote = read.columns;
     let found = read.message;
-    let message = placed(head.settings_hold(), found);
-    match message {
-        Message::Quote(k) => {
+    let wanted = placed(head.settings_hold(), found);
+    match wanted {
+        Wanted::Quote(k) => {
             let reply = quoting::quote(
                 head,
                 &quote[..k as usize],
@@ -97,7 +133,7 @@ pub fn play(
             place,
             next,
             turns::make_other(
-                message,
+                wanted,
                 head,
                 columns,
                 positions,
@@ -130,9 +166,9 @@ pub fn play_reached(
     let next = read.next;
     let quote = read.columns;
     let found = read.message;
-    let message = placed(head.settings_hold(), found);
-    match message {
-        Message::Quote(k) => {
+    let wanted = placed(head.settings_hold(), found);
+    match wanted {
+        Wanted::Quote(k) => {
             let reply = quoting::quote_reached(
                 head,
                 &quote[..k as usize],
@@ -148,7 +184,7 @@ pub fn play_reached(
             place,
             next,
             turns::make_other(
-                message,
+                wanted,
                 head,
                 columns,
                 positions,

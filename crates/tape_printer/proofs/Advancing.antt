@@ -6,8 +6,7 @@ use mathlib.Core.Bool.{Bool, true, false, _&&_, _||_, not, true≢false}
 use mathlib.Core.List.{List}
 use lib.ListN.{length, getD, drop, length-append, length-drop}
 use Rattle.lists.specs.Lists.{laid}
-use Rattle.frames.specs.declared.Read.{Read}
-use Rattle.frames.specs.Frames.{messageAt, columnsAt, stays, readAt}
+use Rattle.frames.specs.Frames.{messageAt, columnsAt, told, Reading, stays, readAt}
 use Rattle.frames.proofs.Reading.{Found, beyond, at-end, unknown, cut, whole, found}
 use Rattle.turns.specs.Turns.{textBytes, Player, bookMake}
 use Rattle.tape.specs.Play.{Asked, finished, unread, misplaced, request, asked, playAsked, playAt, begun, bookPlay}
@@ -29,14 +28,14 @@ module _ (tape : List ℕ) (place : ℕ) (k : Player) (h : place ≤ length tape
   asked-on (request r) next m t = record { inside = t; less = omega arith }
 
   -- what stands at the place is played
-  read-on : (r : Read) → Found tape place r → let one = playAsked begun bookMake (asked (begun k) (r .message) (r .columns)) (r .next) k in Advanced tape place (one .next) (one .over)
+  read-on : (r : Reading) → Found tape place r → let one = playAsked begun bookMake (asked (begun k) (r .says) (r .columns)) (r .next) k in Advanced tape place (one .next) (one .over)
   unfolding playAsked asked stays left
   read-on _ (beyond t) = absurd (omega arith)
   read-on _ (at-end t) = record { inside = h; less = omega arith }
   read-on _ unknown = record { inside = h; less = omega arith }
   read-on _ cut = record { inside = h; less = omega arith }
   read-on _ (whole kind t) =
-      asked-on (asked (begun k) (messageAt tape (place + 1) (getD tape place 0)) (columnsAt tape (place + 1) (getD tape place 0))) _ (omega arith) t
+      asked-on (asked (begun k) (told (messageAt tape (place + 1) (getD tape place 0))) (columnsAt tape (place + 1) (getD tape place 0))) _ (omega arith) t
 
   -- a step
   pub advanced : Advanced tape place (bookPlay tape place k .next) (bookPlay tape place k .over)

@@ -1,49 +1,53 @@
 -- The lines of changes laid behind the line of an answer: how long both are at most, and what stands in the text then.
-use Prim.Native.Nat.{ℕ, _+_, _-_, _*_, _/_, _≤_}
+use mathlib.Core.Path.{_≡_, ap}
+use Prim.Native.Nat.{ℕ, zero, suc, _+_, _-_, _*_, _/_, _≤_}
 use native.Mathlib.Omega.{arith}
 use mathlib.Core.List.{List, [], _∷_, _++_}
-use lib.ListN.{length, length-append, length-map}
+use lib.ListN.{length, take, drop, length-append, length-take, length-drop}
 use borrow.Rule.Slice.PartMut.{midOf, putMid}
-use Rattle.lists.specs.Lists.{run}
-use Rattle.lists.proofs.Runs.{length-run}
+use Rattle.lists.specs.Lists.{laid}
 use Rattle.lists.proofs.Laying.{front-one, front-more}
-use Rattle.head.specs.declared.Answer.{Answer}
-use Rattle.head.specs.declared.Answer.the-variants.{Accepted, Refused}
-use Rattle.head.specs.Refusals.{number}
+use Rattle.head.specs.Refusals.{granted}
 use Rattle.text.specs.Text.{Laid}
 use Rattle.text.proofs.Lines.{line-short, of-front}
-use Rattle.printed.specs.Printed.{changeLines, changeAt, changesIn}
-use Rattle.printed.proofs.Printing.{changes-short}
+use Rattle.printed.specs.Printed.{changesText}
 use Rattle.turns.specs.Print.{refusalLine}
 use Rattle.turns.specs.Turns.{changeBytes, textBytes, answerLine}
 
 -- the line of an answer with at most two numbers has at most 24 bytes
-answer-short : (answer : Answer) (letter : ℕ) (numbers : List ℕ) → length numbers ≤ 2 → length (answerLine answer letter numbers) ≤ 24
-unfolding answerLine refusalLine
-answer-short Accepted letter numbers h = omega (arith, line-short letter numbers)
-answer-short (Refused k) letter numbers h = omega (arith, line-short 82 (number k ∷ []))
+answer-short : (number letter : ℕ) (numbers : List ℕ) → length numbers ≤ 2 → length (answerLine number letter numbers) ≤ 24
+unfolding answerLine refusalLine granted
+answer-short zero letter numbers h = omega (arith, line-short letter numbers)
+answer-short (suc k) letter numbers h = omega (arith, line-short 82 (suc k ∷ []))
 
--- the lines of n changes have at most 24 bytes each
-lines-short : (bytes : List ℕ) (n : ℕ) → length (changeLines (changesIn bytes n)) ≤ 24 * n
-unfolding changesIn
-lines-short bytes n = omega (arith, changes-short (changesIn bytes n), length-map (run 0 n) (λ i. changeAt bytes (7 * i)), length-run 0 n)
+-- what is laid into a text of the same length fits it
+laid-fits : (lines before : List ℕ) {after : List ℕ} → after ≡ laid lines before → length after ≡ length before → length lines ≤ length before
+unfolding laid
+laid-fits lines before e same = omega (arith, ap length e, length-append lines (drop (length lines) before), length-drop (length lines) before)
 
-module _ (answer : Answer) (letter : ℕ) (numbers bytes : List ℕ) (count : ℕ) {before text : List ℕ} {at : ℕ} (few : length numbers ≤ 2) (inside : count ≤ length bytes)
-    (most : length bytes ≤ changeBytes) (room : textBytes ≤ length before) (l : Laid (answerLine answer letter numbers) before at text) where
+module _ (number letter : ℕ) (numbers bytes : List ℕ) (count : ℕ) {before text : List ℕ} {at : ℕ} (few : length numbers ≤ 2) (inside : count ≤ length bytes)
+    (most : length bytes ≤ changeBytes) (room : textBytes ≤ length before) (l : Laid (answerLine number letter numbers) before at text) where
   -- the changes fit behind the line
   pub changes-room : at + 24 * (count / 7) ≤ length before
-  changes-room = omega (arith, l .counted, answer-short answer letter numbers few)
+  changes-room = omega (arith, l .counted, answer-short number letter numbers few)
 
-  module _ {last : List ℕ} {used : ℕ} (m : Laid (changeLines (changesIn bytes (count / 7))) (midOf at (length text - at) text) used last) where
-    both-short : length (answerLine answer letter numbers ++ changeLines (changesIn bytes (count / 7))) ≤ length before
-    both-short = rw length-append (omega (arith, changes-room, l .counted, lines-short bytes (count / 7)))
+  module _ {last : List ℕ} {used : ℕ} (m : Laid (changesText (take count bytes)) (midOf at (length text - at) text) used last) (kept : length last ≡ length (midOf at (length text - at) text))
+      (same : length text ≡ length before) where
+    abbrev lines : List ℕ
+    lines = changesText (take count bytes)
+
+    lines-fit : at + length lines ≤ length before
+    lines-fit = omega (arith, laid-fits lines (midOf at (length text - at) text) (m .text) kept, changes-room, same, length-take (length text - at) (drop at text), length-drop at text)
+
+    both-short : length (answerLine number letter numbers ++ lines) ≤ length before
+    both-short = rw length-append (omega (arith, lines-fit, l .counted))
 
     -- line and changes together
     pub both-room : at + used ≤ length before
-    both-room = omega (arith, changes-room, m .counted, lines-short bytes (count / 7))
+    both-room = omega (arith, lines-fit, m .counted)
 
     -- and both stand at the front of the text
-    pub both-laid : Laid (answerLine answer letter numbers ++ changeLines (changesIn bytes (count / 7))) before (at + used) (putMid at (length text - at) text last)
+    pub both-laid : Laid (answerLine number letter numbers ++ lines) before (at + used) (putMid at (length text - at) text last)
     both-laid =
-        let line = front-one (answerLine answer letter numbers) before (omega (arith, changes-room, l .counted)) (l .counted) (l .text) in
-        of-front (front-more line (changeLines (changesIn bytes (count / 7))) both-short (m .counted) (m .text))
+        let line = front-one (answerLine number letter numbers) before (omega (arith, changes-room, l .counted)) (l .counted) (l .text) in
+        of-front (front-more line lines both-short (m .counted) (m .text))

@@ -1,6 +1,5 @@
 -- The laws of the crate.
-pub mod Written
 pub mod Rooms
 pub mod Behind
 pub mod Turning
-pub mod Messages
+pub mod Wishes

@@ -1,4 +1,4 @@
 -- The definitions of the crate.
 pub mod Print
 pub mod Turns
-pub mod Messages
+pub mod Wishes

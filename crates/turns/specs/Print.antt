@@ -1,50 +1,31 @@
--- The calls that the frames of a tape ask for, and the lines that their answers print.
-use Prim.Native.Nat.{ℕ, _/_}
+-- What a call of a tape answered, and the lines that it prints.
+use Prim.Native.Nat.{ℕ}
 use mathlib.Core.List.{List, [], _∷_, _++_}
-use lib.ListN.{length}
-use Rattle.head.specs.declared.Head.{Head}
-use Rattle.head.specs.declared.Refusal.{Refusal}
-use Rattle.head.specs.declared.Answer.{Answer}
-use Rattle.head.specs.declared.Answer.the-variants.{Accepted, Refused}
-use Rattle.head.specs.Refusals.{number}
+use lib.ListN.{take}
+use Rattle.head.specs.Refusals.{granted}
+use Rattle.head.specs.Replies.{Outcome}
+use Rattle.model.specs.Calls.{Call, Open, Quote, Look, Watch, End, Outputs}
 use Rattle.text.specs.Text.{line}
-use Rattle.printed.specs.Printed.{changeLines, changesIn}
+use Rattle.printed.specs.Printed.{changesText}
 
--- a call that a frame asks for: opening, quote with its columns, look, watch, end of a watch
-pub data Request : Type 0 where
-  Open : ℕ → ℕ → ℕ → Request
-  Quote : List ℕ → Request
-  Look : ℕ → Request
-  Watch : ℕ → Request
-  End : ℕ → Request
-
--- what a call answered: its answer, the head handed back, and what it wrote
+-- what a call answered: what it handed back, and what its outputs hold from their start on
 pub record Answered : Type 0 where
-  pub answer : Answer
-  pub head : Head
-  pub written : List ℕ
-
--- the lines of the changes whose frames a call wrote
-unfoldable pub changesText : List ℕ → List ℕ
-changesText bytes = changeLines (changesIn bytes (length bytes / 7))
+  pub outcome : Outcome
+  pub outputs : Outputs
 
 -- the lines of an accepted call: O d N directions; Q position rows and its changes; L n positions; W n and its joins; U n
-unfoldable pub linesOf : Request → Head → List ℕ → List ℕ
-linesOf (Open d N directions) h written = line 79 (d ∷ N ∷ directions ∷ [])
-linesOf (Quote x) h written = line 81 (h .newest ∷ h .rows ∷ []) ++ changesText written
-linesOf (Look n) h written = line 76 (n ∷ written)
-linesOf (Watch n) h written = line 87 (n ∷ []) ++ changesText written
-linesOf (End n) h written = line 85 (n ∷ [])
+unfoldable pub linesOf : Call → Answered → List ℕ
+linesOf (Open d N directions) a = line 79 (d ∷ N ∷ directions ∷ [])
+linesOf (Quote x) a =
+    line 81 (a .outcome .head .newest ∷ a .outcome .head .rows ∷ []) ++ changesText (take (a .outcome .count) (a .outputs .bytes))
+linesOf (Look n) a = line 76 (n ∷ take (a .outcome .count) (a .outputs .cells))
+linesOf (Watch n) a = line 87 (n ∷ []) ++ changesText (take (a .outcome .count) (a .outputs .bytes))
+linesOf (End n) a = line 85 (n ∷ [])
 
 -- R and the number of a refusal
-unfoldable pub refusalLine : Refusal → List ℕ
-refusalLine k = line 82 (number k ∷ [])
-
--- the lines of a call with this answer
-unfoldable pub answerText : Answer → Request → Head → List ℕ → List ℕ
-answerText Accepted r h written = linesOf r h written
-answerText (Refused k) r h written = refusalLine k
+unfoldable pub refusalLine : ℕ → List ℕ
+refusalLine number = line 82 (number ∷ [])
 
 -- the lines of a call
-unfoldable pub textOf : Request → Answered → List ℕ
-textOf r a = answerText (a .answer) r (a .head) (a .written)
+unfoldable pub textOf : Call → Answered → List ℕ
+textOf c a = let number = a .outcome .number in granted number (linesOf c a) (refusalLine number)

@@ -2,18 +2,16 @@
 use mathlib.Core.Path.{_≡_}
 use Prim.Native.Nat.{ℕ, _+_, _*_, _/_}
 use mathlib.Core.List.{List}
-use lib.ListN.{length, take, replicate}
+use lib.ListN.{length, replicate}
 use Rattle.lists.specs.Lists.{laid}
 use Rattle.head.specs.declared.Head.{Head}
-use Rattle.head.specs.declared.Refusal.{Refusal}
-use Rattle.head.specs.declared.Answer.{Answer}
-use Rattle.head.specs.declared.Answer.the-variants.{Accepted, Refused}
-use Rattle.head.specs.Refusals.{number, numberOf}
+use Rattle.head.specs.Refusals.{numberOf, granted}
 use Rattle.model.specs.Rows.{Tables}
-use Rattle.model.specs.Calls.{Call, World, bookStep}
+use Rattle.model.specs.Calls.{Call, Outputs, World, bookStep}
+use Rattle.model.specs.Promises.{world}
 use Rattle.text.specs.Text.{line}
 use Rattle.turns.specs.declared.Turn.{Turn}
-use Rattle.turns.specs.Print.{Request, Answered, refusalLine, textOf}
+use Rattle.turns.specs.Print.{Answered, refusalLine, textOf}
 
 -- ---- lengths
 
@@ -31,67 +29,50 @@ textBytes = lineBytes 1025 + lineBytes 2 * (changeBytes / 7)
 
 -- ---- the player
 
--- a book that plays a tape: its head, tables and watches, and the output for changes
+-- a book that plays a tape: its head, tables and watches, and what its outputs for changes and for positions hold
 pub record Player : Type 0 where
   pub world : World
-  pub bytes : List ℕ
+  pub outputs : Outputs
 
--- the call with its output: for changes the lent bytes, for positions 1,024 cells of its own
-unfoldable pub callOf : Request → List ℕ → Call
-callOf (Request.Open d N directions) bytes = Call.Open d N directions
-callOf (Request.Quote x) bytes = Call.Quote x bytes
-callOf (Request.Look n) bytes = Call.Look n (replicate 1024 0)
-callOf (Request.Watch n) bytes = Call.Watch n bytes
-callOf (Request.End n) bytes = Call.End n
-
--- the output for changes after a call whose own output is this
-unfoldable pub bytesAfter : Request → List ℕ → List ℕ → List ℕ
-bytesAfter (Request.Open d N directions) out bytes = bytes
-bytesAfter (Request.Quote x) out bytes = out
-bytesAfter (Request.Look n) out bytes = bytes
-bytesAfter (Request.Watch n) out bytes = out
-bytesAfter (Request.End n) out bytes = bytes
-
--- a call made by the book model
-unfoldable pub bookMake : Request → Player → Answered × Player
-bookMake r k =
-    let made = bookStep (callOf r (k .bytes)) (k .world) in
-    let reply = made .0 .reply in (
-      record { answer = reply .answer; head = reply .head; written = take (reply .count) (made .0 .out) },
-      record { world = made .1; bytes = bytesAfter r (made .0 .out) (k .bytes) },
+-- a call made by the book model; each call is lent the same cells for positions
+unfoldable pub bookMake : Call → Player → Answered × Player
+bookMake c k =
+    let made = bookStep c (k .outputs) (k .world) in
+    let seen = made .0 in (
+      record { outcome = seen .outcome; outputs = seen .outputs },
+      record { world = made .1; outputs = record { bytes = seen .outputs .bytes; cells = k .outputs .cells } },
     )
 
--- the player with this head, these tables and watches, and these bytes for changes
+-- the player with this head, these tables and watches, these bytes for changes, and 1,024 cells of its own for positions
 abbrev pub player : Head → Tables → List ℕ → List ℕ → Player
-player h t ws bytes = record { world = record { head = h; lent = record { tables = t; watches = ws } }; bytes = bytes }
+player h t ws bytes = record { world = world h t ws; outputs = record { bytes = bytes; cells = replicate 1024 0 } }
 
 -- ---- lines
 
--- the line of an accepted call, or that of its refusal
-unfoldable pub answerLine : Answer → ℕ → List ℕ → List ℕ
-answerLine Accepted letter numbers = line letter numbers
-answerLine (Refused k) letter numbers = refusalLine k
+-- the line of an accepted call, or that of a refusal with this number
+unfoldable pub answerLine : ℕ → ℕ → List ℕ → List ℕ
+answerLine number letter numbers = granted number (line letter numbers) (refusalLine number)
 
 -- what a frame comes to: its number (0: accepted), its lines, and the player after it
-pub record Outcome : Type 0 where
+pub record Effect : Type 0 where
   pub number : ℕ
   pub text : List ℕ
   pub state : Player
 
 -- a call of the book model
-unfoldable pub made : Request → Player → Outcome
-made r k = let one = bookMake r k in record { number = numberOf (one .0 .answer); text = textOf r (one .0); state = one .1 }
+unfoldable pub made : Call → Player → Effect
+made c k = let one = bookMake c k in record { number = one .0 .outcome .number; text = textOf c (one .0); state = one .1 }
 
--- what is refused before any call
-unfoldable pub refusedWith : Refusal → Player → Outcome
-refusedWith refusal k = record { number = number refusal; text = refusalLine refusal; state = k }
+-- what is refused with this number before any call
+unfoldable pub refusedWith : ℕ → Player → Effect
+refusedWith number k = record { number = number; text = refusalLine number; state = k }
 
 -- what is handed back after this, and left of tables, bytes and text
-pub record Turned (one : Outcome) (before : List ℕ) (r : Turn) (t' : Tables) (bytes' after : List ℕ) : Type 0 where
+pub record Turned (one : Effect) (before : List ℕ) (r : Turn) (t' : Tables) (bytes' after : List ℕ) : Type 0 where
   pub answer : numberOf (r .answer) ≡ one .number
   pub count : r .count ≡ length (one .text)
   pub head : r .head ≡ one .state .world .head
   pub watches : r .watches ≡ one .state .world .lent .watches
   pub lent : t' ≡ one .state .world .lent .tables
-  pub bytes : bytes' ≡ one .state .bytes
+  pub bytes : bytes' ≡ one .state .outputs .bytes
   pub text : after ≡ laid (one .text) before

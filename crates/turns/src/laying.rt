@@ -1,27 +1,27 @@
 // The lines of an answer, and of a call that was made.
 ghost use mathlib.Core.Path.{_≡_};
 ghost use mathlib.Core.List.{List, _++_};
-ghost use Prim.Native.Nat.{ℕ, _+_, _*_, _/_, _≤_};
-ghost use lib.ListN.{length};
+ghost use Prim.Native.Nat.{ℕ, _+_, _*_, _≤_};
+ghost use lib.ListN.{length, take};
 ghost use Rattle.head.specs.declared.Head.{Head};
-ghost use Rattle.head.specs.Refusals.{settled};
+ghost use Rattle.head.specs.Refusals.{number, numberOf, granted};
 ghost use Rattle.model.specs.Rows.{Tables};
+ghost use Rattle.model.specs.Calls.{Call};
 ghost use Rattle.model.specs.Promises.{Opened, Quoted};
 ghost use Rattle.text.specs.Text.{Laid};
-ghost use Rattle.printed.specs.Printed.{changeLines, changesIn};
-ghost use Rattle.turns.specs.Print.{Request};
+ghost use Rattle.printed.specs.Printed.{changesText};
 ghost use Rattle.turns.specs.Turns.{changeBytes, textBytes, player, answerLine, made, refusedWith, Turned};
 use crate::Turn;
-use watches::WatchReply;
 use head::Answer;
 use head::Head;
 use head::Refusal;
 use head::Reply;
+use watches::WatchReply;
 
 // Lays the line of an accepted call, or that of its refusal, and returns how many bytes.
 pub fn put_answer(answer: Answer, letter: u8, numbers: &[u32], text: &mut [u8]) -> usize
     requires { ⌜ (13 ≤ length (now text)) × (2 + 11 * length (now numbers) ≤ length (now text)) ⌝ }
-    ensures { λ r. ⌜ Laid (answerLine answer letter (now (numbers .entry))) (now (text .entry)) r (now (text .exit)) ⌝ }
+    ensures { λ r. ⌜ Laid (answerLine (numberOf answer) letter (now (numbers .entry))) (now (text .entry)) r (now (text .exit)) ⌝ }
 {
     match answer {
         Answer::Accepted => text::put_line(letter, numbers, text),
@@ -43,7 +43,7 @@ pub fn put_changed(
 ) -> usize
     requires { ⌜ (length (now numbers) ≤ 2) × (count ≤ length (now bytes)) ⌝ }
     requires { ⌜ (length (now bytes) ≤ changeBytes) × (textBytes ≤ length (now text)) ⌝ }
-    ensures { λ r. ⌜ Laid (answerLine answer letter (now (numbers .entry)) ++ changeLines (changesIn (now (bytes .entry)) (count / 7))) (now (text .entry)) r (now (text .exit)) ⌝ }
+    ensures { λ r. ⌜ Laid (answerLine (numberOf answer) letter (now (numbers .entry)) ++ changesText (take count (now (bytes .entry)))) (now (text .entry)) r (now (text .exit)) ⌝ }
 {
     let line = put_answer(answer, letter, numbers, text);
     let lines = printed::put_changes(bytes, count, &mut text[line..]);
@@ -52,7 +52,7 @@ pub fn put_changed(
 
 // The head after an opening: the fresh one if it was accepted.
 fn opened_head(answer: Answer, fresh: Head, head: Head) -> Head
-    ensures { λ r. ⌜ r ≡ settled answer fresh head ⌝ }
+    ensures { λ r. ⌜ r ≡ granted (numberOf answer) fresh head ⌝ }
 {
     match answer {
         Answer::Accepted => fresh,
@@ -70,7 +70,7 @@ pub fn put_opening(
     text: &mut [u8],
 ) -> Turn
     requires { ⌜ textBytes ≤ length (now text) ⌝ }
-    ensures { λ r. ⌜ ((t t' : Tables) (ws bytes : List ℕ) → Opened dimensions capacity directions t ws (opened .reply) t' (opened .watches) → Turned (made (Request.Open dimensions capacity directions) (player head t ws bytes)) (now (text .entry)) r t' bytes (now (text .exit))) ⌝ }
+    ensures { λ r. ⌜ ((t t' : Tables) (ws bytes : List ℕ) → Opened dimensions capacity directions t ws (opened .reply) t' (opened .watches) → Turned (made (Call.Open dimensions capacity directions) (player head t ws bytes)) (now (text .entry)) r t' bytes (now (text .exit))) ⌝ }
 {
     let reply = opened.reply;
     let answer = reply.answer;
@@ -88,7 +88,7 @@ pub fn put_opening(
 // Lays the line of a quote that was made, and those of its changes.
 pub fn put_quote(reply: Reply, watches: [u32; 8], bytes: &[u8], text: &mut [u8]) -> Turn
     requires { ⌜ (reply .count ≤ length (now bytes)) × ((length (now bytes) ≤ changeBytes) × (textBytes ≤ length (now text))) ⌝ }
-    ensures { λ r. ⌜ ((h : Head) (x : List ℕ) (t t' : Tables) (before : List ℕ) → length (now (bytes .entry)) ≡ length before → Quoted h x t watches before reply t' (now (bytes .entry)) → Turned (made (Request.Quote x) (player h t watches before)) (now (text .entry)) r t' (now (bytes .entry)) (now (text .exit))) ⌝ }
+    ensures { λ r. ⌜ ((h : Head) (x : List ℕ) (t t' : Tables) (before : List ℕ) → Quoted h x t watches before reply t' (now (bytes .entry)) → Turned (made (Call.Quote x) (player h t watches before)) (now (text .entry)) r t' (now (bytes .entry)) (now (text .exit))) ⌝ }
 {
     let answer = reply.answer;
     let head = reply.head;
@@ -104,7 +104,7 @@ pub fn put_quote(reply: Reply, watches: [u32; 8], bytes: &[u8], text: &mut [u8])
 // Lays the line of what was refused before any call.
 pub fn put_refusal(refusal: Refusal, head: Head, watches: [u32; 8], text: &mut [u8]) -> Turn
     requires { ⌜ textBytes ≤ length (now text) ⌝ }
-    ensures { λ r. ⌜ ((t : Tables) (bytes : List ℕ) → Turned (refusedWith refusal (player head t watches bytes)) (now (text .entry)) r t bytes (now (text .exit))) ⌝ }
+    ensures { λ r. ⌜ ((t : Tables) (bytes : List ℕ) → Turned (refusedWith (number refusal) (player head t watches bytes)) (now (text .entry)) r t bytes (now (text .exit))) ⌝ }
 {
     let number = [refusal.number()];
     Turn {

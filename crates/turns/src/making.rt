@@ -1,19 +1,20 @@
-// The calls of all messages but a quote, each made and its lines laid.
+// What a frame wants, all but a quote: each call made, and its lines laid.
 ghost use mathlib.Core.List.{List};
 ghost use Prim.Native.Nat.{ℕ, _≤_};
 ghost use lib.ListN.{length};
+ghost use Rattle.model.specs.Calls.{Call};
 ghost use Rattle.model.specs.Promises.{tables};
-ghost use Rattle.turns.specs.Print.{Request};
 ghost use Rattle.turns.specs.Turns.{changeBytes, textBytes, player, made, Turned};
-ghost use Rattle.turns.specs.Messages.{observed, unquoted};
+ghost use Rattle.turns.specs.Wishes.{observed, unquoted};
 use crate::Turn;
+use crate::Wanted;
 use crate::laying::put_answer;
 use crate::laying::put_changed;
 use crate::laying::put_opening;
 use crate::laying::put_refusal;
-use frames::Message;
 use head::Answer;
 use head::Head;
+use head::Refusal;
 
 // Makes a look, and lays its line.
 fn look(
@@ -26,7 +27,7 @@ fn look(
     text: &mut [u8],
 ) -> Turn
     requires { ⌜ textBytes ≤ length (now text) ⌝ }
-    ensures { λ r. ⌜ ((bytes : List ℕ) → Turned (made (Request.Look n) (player head (tables (now (columns .entry)) (now (positions .entry)) (now («lower_ends» .entry))) watches bytes)) (now (text .entry)) r (tables (now (columns .entry)) (now (positions .entry)) (now («lower_ends» .entry))) bytes (now (text .exit))) ⌝ }
+    ensures { λ r. ⌜ ((bytes : List ℕ) → Turned (made (Call.Look n) (player head (tables (now (columns .entry)) (now (positions .entry)) (now («lower_ends» .entry))) watches bytes)) (now (text .entry)) r (tables (now (columns .entry)) (now (positions .entry)) (now («lower_ends» .entry))) bytes (now (text .exit))) ⌝ }
 {
     let mut cells = [0u32; 1025];
     let reply = looking::look(head, n, columns, positions, lower_ends, &mut cells[1..]);
@@ -53,7 +54,7 @@ fn watch(
     text: &mut [u8],
 ) -> Turn
     requires { ⌜ (length (now bytes) ≤ changeBytes) × (textBytes ≤ length (now text)) ⌝ }
-    ensures { λ r. ⌜ Turned (made (Request.Watch n) (player head (tables (now (columns .entry)) (now (positions .entry)) (now («lower_ends» .entry))) watches (now (bytes .entry)))) (now (text .entry)) r (tables (now (columns .entry)) (now (positions .entry)) (now («lower_ends» .entry))) (now (bytes .exit)) (now (text .exit)) ⌝ }
+    ensures { λ r. ⌜ Turned (made (Call.Watch n) (player head (tables (now (columns .entry)) (now (positions .entry)) (now («lower_ends» .entry))) watches (now (bytes .entry)))) (now (text .entry)) r (tables (now (columns .entry)) (now (positions .entry)) (now («lower_ends» .entry))) (now (bytes .exit)) (now (text .exit)) ⌝ }
 {
     let watched = watching::watch(head, n, columns, positions, lower_ends, watches, bytes);
     let reply = watched.reply;
@@ -80,7 +81,7 @@ fn end(
     text: &mut [u8],
 ) -> Turn
     requires { ⌜ textBytes ≤ length (now text) ⌝ }
-    ensures { λ r. ⌜ ((bytes : List ℕ) → Turned (made (Request.End n) (player head (tables (now (columns .entry)) (now (positions .entry)) (now («lower_ends» .entry))) watches bytes)) (now (text .entry)) r (tables (now (columns .entry)) (now (positions .entry)) (now («lower_ends» .entry))) bytes (now (text .exit))) ⌝ }
+    ensures { λ r. ⌜ ((bytes : List ℕ) → Turned (made (Call.End n) (player head (tables (now (columns .entry)) (now (positions .entry)) (now («lower_ends» .entry))) watches bytes)) (now (text .entry)) r (tables (now (columns .entry)) (now (positions .entry)) (now («lower_ends» .entry))) bytes (now (text .exit))) ⌝ }
 {
     let ended = watching::end(head, n, columns, positions, lower_ends, watches);
     let reply = ended.reply;
@@ -96,9 +97,9 @@ fn end(
     }
 }
 
-// Makes the call of a message that leaves the tables as they are, and lays its lines; any other message lays none.
+// Makes the call that leaves the tables as they are, or the refusal, and lays its lines; all else lays none.
 fn observe(
-    message: Message,
+    wanted: Wanted,
     head: Head,
     columns: &[u32],
     positions: &[u32],
@@ -108,10 +109,10 @@ fn observe(
     text: &mut [u8],
 ) -> Turn
     requires { ⌜ (length (now bytes) ≤ changeBytes) × (textBytes ≤ length (now text)) ⌝ }
-    ensures { λ r. ⌜ Turned (observed message (player head (tables (now (columns .entry)) (now (positions .entry)) (now («lower_ends» .entry))) watches (now (bytes .entry)))) (now (text .entry)) r (tables (now (columns .entry)) (now (positions .entry)) (now («lower_ends» .entry))) (now (bytes .exit)) (now (text .exit)) ⌝ }
+    ensures { λ r. ⌜ Turned (observed wanted (player head (tables (now (columns .entry)) (now (positions .entry)) (now («lower_ends» .entry))) watches (now (bytes .entry)))) (now (text .entry)) r (tables (now (columns .entry)) (now (positions .entry)) (now («lower_ends» .entry))) (now (bytes .exit)) (now (text .exit)) ⌝ }
 {
-    match message {
-        Message::Look(n) => look(
+    match wanted {
+        Wanted::Look(n) => look(
             head,
             n as u32,
             columns,
@@ -120,7 +121,7 @@ fn observe(
             watches,
             text,
         ),
-        Message::Watch(n) => watch(
+        Wanted::Watch(n) => watch(
             head,
             n as u32,
             columns,
@@ -130,7 +131,7 @@ fn observe(
             bytes,
             text,
         ),
-        Message::Unwatch(n) => end(
+        Wanted::End(n) => end(
             head,
             n as u32,
             columns,
@@ -139,7 +140,8 @@ fn observe(
             watches,
             text,
         ),
-        Message::Refused(refusal) => put_refusal(refusal, head, watches, text),
+        Wanted::Refused(refusal) => put_refusal(refusal, head, watches, text),
+        Wanted::Misplaced => put_refusal(Refusal::OutOfPlace, head, watches, text),
         _ => Turn {
             answer: Answer::Accepted,
             count: 0,
@@ -149,9 +151,9 @@ fn observe(
     }
 }
 
-// Makes the call of a message that is in its place and no quote, and lays its lines.
+// Makes what a frame wants, if it is no quote, and lays its lines.
 pub fn make_other(
-    message: Message,
+    wanted: Wanted,
     head: Head,
     columns: &mut [u32],
     positions: &mut [u32],
@@ -161,10 +163,10 @@ pub fn make_other(
     text: &mut [u8],
 ) -> Turn
     requires { ⌜ (length (now bytes) ≤ changeBytes) × (textBytes ≤ length (now text)) ⌝ }
-    ensures { λ r. ⌜ Turned (unquoted message (player head (tables (now (columns .entry)) (now (positions .entry)) (now («lower_ends» .entry))) watches (now (bytes .entry)))) (now (text .entry)) r (tables (now (columns .exit)) (now (positions .exit)) (now («lower_ends» .exit))) (now (bytes .exit)) (now (text .exit)) ⌝ }
+    ensures { λ r. ⌜ Turned (unquoted wanted (player head (tables (now (columns .entry)) (now (positions .entry)) (now («lower_ends» .entry))) watches (now (bytes .entry)))) (now (text .entry)) r (tables (now (columns .exit)) (now (positions .exit)) (now («lower_ends» .exit))) (now (bytes .exit)) (now (text .exit)) ⌝ }
 {
-    match message {
-        Message::Open(d, n, directions) => {
+    match wanted {
+        Wanted::Open(d, n, directions) => {
             let opened = opening::open(
                 d as u32,
                 n as u32,
@@ -177,7 +179,7 @@ pub fn make_other(
             put_opening(head, d as u32, n as u32, directions as u32, opened, text)
         }
         _ => observe(
-            message,
+            wanted,
             head,
             columns,
             positions,

@@ -16,17 +16,17 @@ settings-hold-requires c κs = search needs
 placed-requires : tie.Need-placed-requires
 placed-requires c κs = search needs
 
-enum-known-message : tie.Need-enum-known-message
-enum-known-message c = search needs
+enum-known-wanted : tie.Need-enum-known-wanted
+enum-known-wanted c = search needs
 
 cast-quote : tie.Need-cast-quote
 cast-quote c = search needs
 
 array-share-prefix-quote : tie.Need-array-share-prefix-quote
-array-share-prefix-quote c = omega (arith, columns-six _ _ (c .before .before .before .before .before .before .read-at .ensures), quote-few _ _ _ (c .before .before .before .before .before .before .read-at .ensures) (c .before .before .before .placed .ensures) (c .before .message .given .1))
+array-share-prefix-quote c = omega (arith, columns-six _ _ (c .before .before .before .before .before .before .read-at .result) (c .before .before .before .before .before .before .read-at .ensures), quote-few _ _ _ (c .before .before .before .before .before .before .read-at .result) (c .before .before .before .placed .result) (c .before .before .before .before .before .before .read-at .ensures) (c .before .before .before .placed .ensures) (c .before .wanted .given .1))
 
 slice-aggregate-quote : tie.Need-slice-aggregate-quote
-slice-aggregate-quote c = simp length-take (omega (arith, columns-six _ _ (c .before .before .before .before .before .before .before .read-at .ensures), quote-few _ _ _ (c .before .before .before .before .before .before .before .read-at .ensures) (c .before .before .before .before .placed .ensures) (c .before .before .message .given .1)))
+slice-aggregate-quote c = simp length-take (omega (arith, columns-six _ _ (c .before .before .before .before .before .before .before .read-at .result) (c .before .before .before .before .before .before .before .read-at .ensures), quote-few _ _ _ (c .before .before .before .before .before .before .before .read-at .result) (c .before .before .before .before .placed .result) (c .before .before .before .before .before .before .before .read-at .ensures) (c .before .before .before .before .placed .ensures) (c .before .before .wanted .given .1)))
 
 quote-requires : tie.Need-quote-requires
 quote-requires c κs = search needs
@@ -53,7 +53,7 @@ same-length-3 : tie.Need-same-length-3
 same-length-3 c = search needs
 
 returns : tie.Need-returns
-returns c = quote-played _ _ _ _ _ _ _ (c .before .before .before .before .before .before .before .before .before .before .before .before .before .before .before .before .before .before .before .before .before .before .before .read-at .ensures) (c .before .before .before .before .before .before .before .before .before .before .before .before .before .before .before .before .before .before .before .before .before .settings-hold .ensures) (c .before .before .before .before .before .before .before .before .before .before .before .before .before .before .before .before .before .before .before .before .placed .ensures) (c .step .ensures) (c .before .before .before .before .before .before .before .before .before .before .before .before .before .before .before .before .before .before .message .given .1) (c .before .put-quote .ensures _ _ _ _ _ (c .before .before .before .before .before .before .before .before .before .before .before .quote3 .kept .1 .1 .1 .1 .1 .1 .0) (c .before .before .before .before .before .before .before .before .before .before .before .quote3 .ensures))
+returns c = quote-played _ _ _ _ _ _ _ (c .before .before .before .before .before .before .before .before .before .before .before .before .before .before .before .before .before .before .before .before .before .before .before .read-at .result) (c .before .before .before .before .before .before .before .before .before .before .before .before .before .before .before .before .before .before .before .before .placed .result) (c .before .before .before .before .before .before .before .before .before .before .before .before .before .before .before .before .before .before .before .before .before .before .before .read-at .ensures) (c .before .before .before .before .before .before .before .before .before .before .before .before .before .before .before .before .before .before .before .before .before .settings-hold .ensures) (c .before .before .before .before .before .before .before .before .before .before .before .before .before .before .before .before .before .before .before .before .placed .ensures) (c .step .ensures) (c .before .before .before .before .before .before .before .before .before .before .before .before .before .before .before .before .before .before .wanted .given .1) (c .before .put-quote .ensures _ _ _ _ _ (c .before .before .before .before .before .before .before .before .before .before .before .quote3 .ensures))
 
 same-length-4 : tie.Need-same-length-4
 same-length-4 c = search needs
@@ -65,7 +65,7 @@ same-length-6 : tie.Need-same-length-6
 same-length-6 c = search needs
 
 returns-2 : tie.Need-returns-2
-returns-2 c = other-played _ _ _ _ _ _ _ (c .before .before .before .before .before .before .before .before .before .before .before .before .before .before .before .before .before .read-at .ensures) (c .before .before .before .before .before .before .before .before .before .before .before .before .before .before .before .settings-hold .ensures) (c .before .before .before .before .before .before .before .before .before .before .before .before .before .before .placed .ensures) (c .step2 .ensures) (c .before .before .before .before .before .before .before .before .before .before .before .before .before .match .keys2) (c .before .before .before .before .before .before .before .make-other .ensures)
+returns-2 c = other-played _ _ _ _ _ _ _ (c .before .before .before .before .before .before .before .before .before .before .before .before .before .before .before .before .before .read-at .result) (c .before .before .before .before .before .before .before .before .before .before .before .before .before .before .placed .result) (c .before .before .before .before .before .before .before .before .before .before .before .before .before .before .before .before .before .read-at .ensures) (c .before .before .before .before .before .before .before .before .before .before .before .before .before .before .before .settings-hold .ensures) (c .before .before .before .before .before .before .before .before .before .before .before .before .before .before .placed .ensures) (c .step2 .ensures) (c .before .before .before .before .before .before .before .before .before .before .before .before .before .match .keys2) (c .before .before .before .before .before .before .before .make-other .ensures)
 
 pub play-spec : {M : Type 1} → statement M
 play-spec =
@@ -74,7 +74,7 @@ play-spec =
     read-at-requires
     settings-hold-requires
     placed-requires
-    enum-known-message
+    enum-known-wanted
     cast-quote
     array-share-prefix-quote
     slice-aggregate-quote

@@ -16,17 +16,17 @@ settings-hold-requires c κs = search needs
 placed-requires : tie.Need-placed-requires
 placed-requires c κs = search needs
 
-enum-known-message : tie.Need-enum-known-message
-enum-known-message c = search needs
+enum-known-wanted : tie.Need-enum-known-wanted
+enum-known-wanted c = search needs
 
 cast-quote : tie.Need-cast-quote
 cast-quote c = search needs
 
 array-share-prefix-quote : tie.Need-array-share-prefix-quote
-array-share-prefix-quote c = omega (arith, columns-six _ _ (c .before .before .before .before .before .before .read-at .ensures), quote-few _ _ _ (c .before .before .before .before .before .before .read-at .ensures) (c .before .before .before .placed .ensures) (c .before .message .given .1))
+array-share-prefix-quote c = omega (arith, columns-six _ _ (c .before .before .before .before .before .before .read-at .result) (c .before .before .before .before .before .before .read-at .ensures), quote-few _ _ _ (c .before .before .before .before .before .before .read-at .result) (c .before .before .before .placed .result) (c .before .before .before .before .before .before .read-at .ensures) (c .before .before .before .placed .ensures) (c .before .wanted .given .1))
 
 slice-aggregate-quote-reached : tie.Need-slice-aggregate-quote-reached
-slice-aggregate-quote-reached c = simp length-take (omega (arith, columns-six _ _ (c .before .before .before .before .before .before .before .read-at .ensures), quote-few _ _ _ (c .before .before .before .before .before .before .before .read-at .ensures) (c .before .before .before .before .placed .ensures) (c .before .before .message .given .1)))
+slice-aggregate-quote-reached c = simp length-take (omega (arith, columns-six _ _ (c .before .before .before .before .before .before .before .read-at .result) (c .before .before .before .before .before .before .before .read-at .ensures), quote-few _ _ _ (c .before .before .before .before .before .before .before .read-at .result) (c .before .before .before .before .placed .result) (c .before .before .before .before .before .before .before .read-at .ensures) (c .before .before .before .before .placed .ensures) (c .before .before .wanted .given .1)))
 
 quote-reached-requires : tie.Need-quote-reached-requires
 quote-reached-requires c κs = c .before .before .before .before .before .before .before .before .before .before .before .before .before .before .before .before .before .pre .1
@@ -56,7 +56,7 @@ same-length-4 : tie.Need-same-length-4
 same-length-4 c = search needs
 
 returns : tie.Need-returns
-returns c = quote-played _ _ _ _ _ _ _ (c .before .before .before .before .before .before .before .before .before .before .before .before .before .before .before .before .before .before .before .before .before .before .before .before .before .read-at .ensures) (c .before .before .before .before .before .before .before .before .before .before .before .before .before .before .before .before .before .before .before .before .before .before .before .settings-hold .ensures) (c .before .before .before .before .before .before .before .before .before .before .before .before .before .before .before .before .before .before .before .before .before .before .placed .ensures) (c .step .ensures) (c .before .before .before .before .before .before .before .before .before .before .before .before .before .before .before .before .before .before .before .before .message .given .1) (c .before .before .before .put-quote .ensures _ _ _ _ _ (c .before .before .before .before .before .before .before .before .before .before .before .before .before .quote-reached .kept .1 .1 .1 .1 .1 .1 .0) (c .before .before .before .before .before .before .before .before .before .before .before .before .before .quote-reached .ensures))
+returns c = quote-played _ _ _ _ _ _ _ (c .before .before .before .before .before .before .before .before .before .before .before .before .before .before .before .before .before .before .before .before .before .before .before .before .before .read-at .result) (c .before .before .before .before .before .before .before .before .before .before .before .before .before .before .before .before .before .before .before .before .before .before .placed .result) (c .before .before .before .before .before .before .before .before .before .before .before .before .before .before .before .before .before .before .before .before .before .before .before .before .before .read-at .ensures) (c .before .before .before .before .before .before .before .before .before .before .before .before .before .before .before .before .before .before .before .before .before .before .before .settings-hold .ensures) (c .before .before .before .before .before .before .before .before .before .before .before .before .before .before .before .before .before .before .before .before .before .before .placed .ensures) (c .step .ensures) (c .before .before .before .before .before .before .before .before .before .before .before .before .before .before .before .before .before .before .before .before .wanted .given .1) (c .before .before .before .put-quote .ensures _ _ _ _ _ (c .before .before .before .before .before .before .before .before .before .before .before .before .before .quote-reached .ensures))
 
 same-length-5 : tie.Need-same-length-5
 same-length-5 c = search needs
@@ -71,7 +71,7 @@ same-length-8 : tie.Need-same-length-8
 same-length-8 c = search needs
 
 returns-2 : tie.Need-returns-2
-returns-2 c = other-played _ _ _ _ _ _ _ (c .before .before .before .before .before .before .before .before .before .before .before .before .before .before .before .before .before .before .before .read-at .ensures) (c .before .before .before .before .before .before .before .before .before .before .before .before .before .before .before .before .before .settings-hold .ensures) (c .before .before .before .before .before .before .before .before .before .before .before .before .before .before .before .before .placed .ensures) (c .step2 .ensures) (c .before .before .before .before .before .before .before .before .before .before .before .before .before .before .before .match .keys2) (c .before .before .before .before .before .before .before .before .before .make-other .ensures)
+returns-2 c = other-played _ _ _ _ _ _ _ (c .before .before .before .before .before .before .before .before .before .before .before .before .before .before .before .before .before .before .before .read-at .result) (c .before .before .before .before .before .before .before .before .before .before .before .before .before .before .before .before .placed .result) (c .before .before .before .before .before .before .before .before .before .before .before .before .before .before .before .before .before .before .before .read-at .ensures) (c .before .before .before .before .before .before .before .before .before .before .before .before .before .before .before .before .before .settings-hold .ensures) (c .before .before .before .before .before .before .before .before .before .before .before .before .before .before .before .before .placed .ensures) (c .step2 .ensures) (c .before .before .before .before .before .before .before .before .before .before .before .before .before .before .before .match .keys2) (c .before .before .before .before .before .before .before .before .before .make-other .ensures)
 
 pub play-reached-spec : {M : Type 1} → statement M
 play-reached-spec =
@@ -80,7 +80,7 @@ play-reached-spec =
     read-at-requires
     settings-hold-requires
     placed-requires
-    enum-known-message
+    enum-known-wanted
     cast-quote
     array-share-prefix-quote
     slice-aggregate-quote-reached

@@ -1,6 +1,5 @@
 -- `put_answer` meets its contract, by the cases of the answer.
-use Rattle.turns.specs.Print.{refusalLine}
-use Rattle.turns.specs.Turns.{answerLine}
+use Rattle.turns.proofs.Turning.{accepted-line, refused-line}
 use borrow.Author.Needs.{needs}
 use Rattle.turns.proofs.laying.put_answer.Statement.{statement}
 use Rattle.turns.proofs.laying.put_answer.Tie as tie
@@ -27,15 +26,13 @@ same-length : tie.Need-same-length
 same-length c = search needs
 
 returns : tie.Need-returns
-unfolding answerLine
-returns c = rw (c .before .before .before .before .enum-told .given .1) (c .before .before .put-line .ensures)
+returns c = rw (accepted-line _ _ (c .before .before .before .before .enum-told .given .1)) (c .before .before .put-line .ensures)
 
 same-length-2 : tie.Need-same-length-2
 same-length-2 c = search needs
 
 returns-2 : tie.Need-returns-2
-unfolding answerLine refusalLine
-returns-2 c = rw (c .before .before .before .before .before .before .before .answer .given .1, ← (c .before .before .before .before .before .number .ensures)) (c .before .before .put-line2 .ensures)
+returns-2 c = rw (refused-line _ _ _ (c .before .before .before .before .before .before .before .answer .given .1) (c .before .before .before .before .before .number .ensures)) (c .before .before .put-line2 .ensures)
 
 pub put-answer-spec : {M : Type 1} → statement M
 put-answer-spec =

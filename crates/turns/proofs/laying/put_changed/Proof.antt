@@ -31,7 +31,7 @@ put-changes-requires c κs =
 add-result : tie.Need-add-result
 add-result c =
     let known = c .before .before .before .before .before .before .before .before .before .before .before in
-    omega (arith, both-room _ _ _ _ _ (known .pre .0 .0) (known .pre .0 .1) (known .pre .1 .0) (known .pre .1 .1) (c .before .before .before .before .before .before .put-answer .ensures) (c .before .before .put-changes .ensures))
+    omega (arith, both-room _ _ _ _ _ (known .pre .0 .0) (known .pre .0 .1) (known .pre .1 .0) (known .pre .1 .1) (c .before .before .before .before .before .before .put-answer .ensures) (c .before .before .put-changes .ensures) (c .before .before .put-changes .kept .1 .1 .0) (c .before .before .before .before .before .before .put-answer .kept .1 .1 .1 .0))
 
 same-length : tie.Need-same-length
 same-length c = search needs
@@ -39,7 +39,7 @@ same-length c = search needs
 returns : tie.Need-returns
 returns c =
     let known = c .before .before .before .before .before .before .before .before .before .before .before in
-    both-laid _ _ _ _ _ (known .pre .0 .0) (known .pre .0 .1) (known .pre .1 .0) (known .pre .1 .1) (c .before .before .before .before .before .before .put-answer .ensures) (c .before .before .put-changes .ensures)
+    both-laid _ _ _ _ _ (known .pre .0 .0) (known .pre .0 .1) (known .pre .1 .0) (known .pre .1 .1) (c .before .before .before .before .before .before .put-answer .ensures) (c .before .before .put-changes .ensures) (c .before .before .put-changes .kept .1 .1 .0) (c .before .before .before .before .before .before .put-answer .kept .1 .1 .1 .0)
 
 pub put-changed-spec : {M : Type 1} → statement M
 put-changed-spec =

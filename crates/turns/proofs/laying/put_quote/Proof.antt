@@ -14,7 +14,7 @@ same-length : tie.Need-same-length
 same-length c = search needs
 
 returns : tie.Need-returns
-returns c = λ h x t t' before long q. quote-turned h t _ before x q long (c .before .before .put-changed .ensures)
+returns c = λ h x t t' before q. quote-turned h t _ before x q (c .before .before .put-changed .ensures)
 
 pub put-quote-spec : {M : Type 1} → statement M
 put-quote-spec =

@@ -1,12 +1,12 @@
 -- `make_other` meets its contract: an opening is made and its line laid, and all else is observed.
-use Rattle.turns.specs.Messages.{unquoted}
-use Rattle.turns.proofs.Messages.{other-observed}
+use Rattle.turns.specs.Wishes.{unquoted}
+use Rattle.turns.proofs.Wishes.{other-observed}
 use borrow.Author.Needs.{needs}
 use Rattle.turns.proofs.making.make_other.Statement.{statement}
 use Rattle.turns.proofs.making.make_other.Tie as tie
 
-enum-known-message : tie.Need-enum-known-message
-enum-known-message c = search needs
+enum-known-wanted : tie.Need-enum-known-wanted
+enum-known-wanted c = search needs
 
 cast-open : tie.Need-cast-open
 cast-open c = search needs
@@ -49,7 +49,7 @@ same-length-4 c = search needs
 
 returns : tie.Need-returns
 unfolding unquoted
-returns c = rw (c .before .before .before .before .before .before .before .before .before .before .before .before .before .before .before .message .given .1) (c .before .before .put-opening .ensures _ _ _ _ (c .before .before .before .before .before .before .before .before .before .before .«open» .ensures))
+returns c = rw (c .before .before .before .before .before .before .before .before .before .before .before .before .before .before .before .wanted .given .1) (c .before .before .put-opening .ensures _ _ _ _ (c .before .before .before .before .before .before .before .before .before .before .«open» .ensures))
 
 same-length-5 : tie.Need-same-length-5
 same-length-5 c = search needs
@@ -73,7 +73,7 @@ pub make-other-spec : {M : Type 1} → statement M
 make-other-spec =
     tie.close
     (tie.spec
-    enum-known-message
+    enum-known-wanted
     cast-open
     cast-open-2
     cast-open-3

@@ -1,0 +1,69 @@
+-- `asks` meets its contract, by the cases of the message.
+use borrow.Author.Needs.{needs}
+use Rattle.tape.specs.Play.{asks}
+use Rattle.tape.specs.Placing.{wants}
+use Rattle.tape.proofs.playing.asks.Statement.{statement}
+use Rattle.tape.proofs.playing.asks.Tie as tie
+
+enum-known-message : tie.Need-enum-known-message
+enum-known-message c = search needs
+
+enum-known-message-2 : tie.Need-enum-known-message-2
+enum-known-message-2 c = search needs
+
+sized-requires : tie.Need-sized-requires
+sized-requires c κs = search needs
+
+enum-told : tie.Need-enum-told
+enum-told c = search needs
+
+enum-known-message-3 : tie.Need-enum-known-message-3
+enum-known-message-3 c = search needs
+
+enum-told-2 : tie.Need-enum-told-2
+enum-told-2 c = search needs
+
+enum-known-message-4 : tie.Need-enum-known-message-4
+enum-known-message-4 c = search needs
+
+returns : tie.Need-returns
+unfolding wants asks
+returns c = λ columns. rw (c .before .message .given .1)
+
+returns-2 : tie.Need-returns-2
+unfolding asks
+returns-2 c = λ columns. rw (c .before .before .message2 .given .1) (c .sized .ensures columns)
+
+returns-3 : tie.Need-returns-3
+unfolding wants asks
+returns-3 c = λ columns. rw (c .enum-told .given .1)
+
+returns-4 : tie.Need-returns-4
+unfolding wants asks
+returns-4 c = λ columns. rw (c .before .message3 .given .1)
+
+returns-5 : tie.Need-returns-5
+unfolding wants asks
+returns-5 c = λ columns. rw (c .enum-told2 .given .1)
+
+returns-6 : tie.Need-returns-6
+unfolding wants asks
+returns-6 c = λ columns. rw (c .before .message4 .given .1)
+
+pub asks-spec : {M : Type 1} → statement M
+asks-spec =
+    tie.close
+    (tie.spec
+    enum-known-message
+    enum-known-message-2
+    sized-requires
+    enum-told
+    enum-known-message-3
+    enum-told-2
+    enum-known-message-4
+    returns
+    returns-2
+    returns-3
+    returns-4
+    returns-5
+    returns-6)
