@@ -10,23 +10,20 @@ use lib.Seq.{take-all, take-take, take-nil}
 use borrow.Author.Tests.{ltb-false}
 use Rattle.lists.specs.Lists.{insert, without, laid, padded}
 use Rattle.lists.proofs.Booleans.{none-right}
-use Rattle.head.specs.declared.Answer.{Answer}
-use Rattle.head.specs.declared.Answer.the-variants.{Accepted, Refused}
+use Rattle.head.specs.declared.Answer.the-variants.{Accepted}
 use Rattle.head.specs.declared.Head.{Head}
-use Rattle.head.specs.declared.Refusal.{Refusal}
-use Rattle.head.specs.declared.Refusal.the-variants.{Settings, ShortLoan, Torn}
 use Rattle.head.specs.declared.Reply.{Reply}
 use Rattle.head.specs.declared.Watch.{Watch}
-use Rattle.head.specs.Heads.{settingsHold}
-use Rattle.head.specs.Refusals.{settled}
-use Rattle.head.proofs.Answers.{accepted-passed}
+use Rattle.head.specs.Refusals.{granted}
+use Rattle.head.specs.Replies.{outcome}
+use Rattle.head.proofs.Numbers.{zero-passed}
 use Rattle.model.specs.Rows.{Tables}
-use Rattle.model.specs.Book.{shortTables, shortLoan, tornRows, bookRows, standing, tornWatches, watchfulAnswer, replyOf, openAnswer, openReply, openTables, openWatches, quoteRows, quoteHead, quoteBytes, quoteAnswer, quoteReply, quoteTables, quoteOut, watchBytes, watchAnswer, watchReply, watchWatches, watchOut, endAnswer, endReply, endWatches}
+use Rattle.model.specs.Book.{shortTables, shortLoan, standing, tornWatches, watchfulAnswer, replyOf, openAnswer, openReply, openTables, openWatches, quoteRows, quoteHead, quoteBytes, quoteAnswer, quoteReply, quoteTables, quoteOut, watchBytes, watchAnswer, watchReply, watchWatches, watchOut, endAnswer, endReply, endWatches}
 use Rattle.watches.specs.Records.{watched, firstEight, stored, Vacant}
 use Rattle.model.specs.Promises.{Opened, Quoted, Watched, Ended}
 use Rattle.watching.proofs.Watches.{watch-free}
 use Rattle.lending.specs.declared.Judgement.{Judgement}
-use Rattle.lending.specs.Lent.{judgement, OpenJudged, WatchJudged}
+use Rattle.lending.specs.Lent.{Judged, OpenJudged, WatchJudged}
 
 -- as many numbers as there are records, of eight that are read off them
 pub lent-front : (ws : List ℕ) → take (length ws) (firstEight ws) ≡ take 8 ws
@@ -45,15 +42,15 @@ few-in (suc n) [] = refl
 few-in (suc n) (w ∷ ws) = leb·suc-suc (suc (length (take n ws))) n ∙ few-in n ws ∙ sym (leb·suc-suc (suc (length ws)) n)
 
 -- a test of a reply that came out so
-accepted-is : (a : Answer) {b : Bool} → b ≡ settled a true false → T b → a ≡ Accepted
-unfolding settled
-accepted-is Accepted e y = refl
-accepted-is (Refused k) e y = absurd (subst T e y)
+accepted-is : (n : ℕ) {b : Bool} → b ≡ granted n true false → T b → n ≡ 0
+unfolding granted
+accepted-is zero e y = refl
+accepted-is (suc n) e y = absurd (subst T e y)
 
-refused-leaves : {A : Type 0} (a : Answer) {b : Bool} → b ≡ settled a true false → T (not b) → (x : A) {y : A} → y ≡ settled a x y
-unfolding settled
-refused-leaves Accepted e n x = absurd (subst (λ (c : Bool). T (not c)) e n)
-refused-leaves (Refused k) e n x = refl
+refused-leaves : {A : Type 0} (n : ℕ) {b : Bool} → b ≡ granted n true false → T (not b) → (x : A) {y : A} → y ≡ granted n x y
+unfolding granted
+refused-leaves zero e off x = absurd (subst (λ (c : Bool). T (not c)) e off)
+refused-leaves (suc n) e off x = refl
 
 -- a loan that is not short has eight records
 eight-of : (t : Tables) (ws : List ℕ) (d N : ℕ) → shortLoan t ws d N ≡ false → 8 ≤ length ws
@@ -61,14 +58,9 @@ unfolding shortLoan
 eight-of t ws d N e = ltb-false (length ws) 8 (none-right (shortTables t d N) (ltb (length ws) 8) e)
 
 -- an accepted call on the watches was lent eight records
-eight-lent : (h : Head) (t : Tables) (ws : List ℕ) (more : List (Bool × Refusal)) → watchfulAnswer h t ws more ≡ Accepted → 8 ≤ length ws
-unfolding watchfulAnswer shortLoan
-eight-lent h t ws more e =
-    let few = ltb (length ws) 8 in
-    let short = shortTables t (h .dimensions) (h .capacity) in
-    let s = accepted-passed (not (settingsHold (h .dimensions) (h .capacity) (h .directions))) Settings ((short || few, ShortLoan) ∷ (tornRows h (bookRows h t) || tornWatches (h .capacity) ws, Torn) ∷ more) e in
-    let l = accepted-passed (short || few) ShortLoan ((tornRows h (bookRows h t) || tornWatches (h .capacity) ws, Torn) ∷ more) (s .1) in
-    eight-of t ws (h .dimensions) (h .capacity) (l .0)
+eight-lent : (h : Head) (t : Tables) (ws : List ℕ) (more : List (Bool × ℕ)) → watchfulAnswer h t ws more ≡ 0 → 8 ≤ length ws
+unfolding watchfulAnswer
+eight-lent h t ws more e = eight-of t ws (h .dimensions) (h .capacity) (zero-passed _ _ _ (zero-passed _ _ _ e .1) .0)
 
 module _ (ws : List ℕ) where
   torn-front : (N : ℕ) → tornWatches N (take 8 ws) ≡ tornWatches N ws
@@ -83,7 +75,7 @@ module _ (ws : List ℕ) where
   unfolding shortLoan
   short-front t d N = rw (few-in 8 ws)
 
-  watchful-front : (h : Head) (t : Tables) (more : List (Bool × Refusal)) → watchfulAnswer h t (take 8 ws) more ≡ watchfulAnswer h t ws more
+  watchful-front : (h : Head) (t : Tables) (more : List (Bool × ℕ)) → watchfulAnswer h t (take 8 ws) more ≡ watchfulAnswer h t ws more
   unfolding watchfulAnswer
   watchful-front h t more = rw (short-front t (h .dimensions) (h .capacity), torn-front (h .capacity))
 
@@ -125,14 +117,14 @@ module _ (ys : List Watch) where
   unfolding watched
   as-many h = rw (← length-map ys Watch.n) h
 
-  module _ (h : Head) (n : ℕ) (t : Tables) {ns : List ℕ} (e : ns ≡ firstEight ws) (j : Judgement) (f : j ≡ judgement (endReply h n t (take (length ys) ns))) where
-    end-reply : j .reply ≡ endReply h n t ws
-    unfolding judgement endReply
-    end-reply = ap Judgement.reply f ∙ rw (front e, end-front ws h n t)
+  module _ (h : Head) (n : ℕ) (t : Tables) {ns : List ℕ} (e : ns ≡ firstEight ws) (j : Judgement) (f : Judged (endReply h n t (take (length ys) ns)) j) where
+    end-reply : outcome (j .reply) ≡ endReply h n t ws
+    unfolding endReply
+    end-reply = f .reply ∙ rw (front e, end-front ws h n t)
 
-    end-accepts : j .accepted ≡ settled (endAnswer h n t ws) true false
-    unfolding judgement endReply replyOf
-    end-accepts = ap Judgement.accepted f ∙ rw (front e, end-front ws h n t)
+    end-accepts : j .accepted ≡ granted (endAnswer h n t ws) true false
+    unfolding endReply replyOf
+    end-accepts = f .accepted ∙ rw (front e, end-front ws h n t)
 
     -- a refused end leaves the records
     pub end-left : T (not (j .accepted)) → Ended h n t ws (j .reply) ws
@@ -145,17 +137,17 @@ module _ (ys : List Watch) where
     end-enough on = as-many (eight-lent h t ws _ (accepted-is (endAnswer h n t ws) end-accepts on))
 
     pub end-removed : T (j .accepted) → (after : List ℕ) → after ≡ padded 8 (without n (standing ws)) ws → Ended h n t ws (j .reply) after
-    unfolding endWatches settled
+    unfolding endWatches granted
     end-removed on after m = record { reply = end-reply; watches = m ∙ rw (accepted-is (endAnswer h n t ws) end-accepts on) }
 
   module _ (h : Head) (n : ℕ) (t : Tables) {ns : List ℕ} (e : ns ≡ firstEight ws) {before after : List ℕ} (j : Judgement) (f : WatchJudged h n t (take (length ys) ns) before j after) where
-    watch-reply : j .reply ≡ watchReply h n t ws (length before)
-    unfolding judgement watchReply watchBytes
-    watch-reply = ap Judgement.reply (f .judged) ∙ rw (front e, watch-front ws h n t)
+    watch-reply : outcome (j .reply) ≡ watchReply h n t ws (length before)
+    unfolding watchReply watchBytes
+    watch-reply = f .judged .reply ∙ rw (front e, watch-front ws h n t)
 
-    watch-accepts : j .accepted ≡ settled (watchAnswer h n t ws (length before)) true false
-    unfolding judgement watchReply replyOf
-    watch-accepts = ap Judgement.accepted (f .judged) ∙ rw (front e, watch-front ws h n t)
+    watch-accepts : j .accepted ≡ granted (watchAnswer h n t ws (length before)) true false
+    unfolding watchReply replyOf
+    watch-accepts = f .judged .accepted ∙ rw (front e, watch-front ws h n t)
 
     watch-out : after ≡ watchOut h n t ws before
     unfolding watchOut watchBytes
@@ -167,28 +159,28 @@ module _ (ys : List Watch) where
     watch-left off = record { reply = watch-reply; watches = refused-leaves (watchAnswer h n t ws (length before)) watch-accepts off _; out = watch-out }
 
     module _ (on : T (j .accepted)) where
-      watch-is : watchAnswer h n t ws (length before) ≡ Accepted
+      watch-is : watchAnswer h n t ws (length before) ≡ 0
       watch-is = accepted-is (watchAnswer h n t ws (length before)) watch-accepts on
 
       -- an accepted one was lent eight, of which one is free, and inserts n
       pub watch-asks : (8 ≤ length ys) × Vacant ws
       unfolding watchAnswer
       watch-asks =
-          let free = watch-free h n t ws refl watch-is in
+          let free = watch-free h n t ws {a = Accepted} (sym watch-is) refl in
           (as-many (eight-lent h t ws _ watch-is), record { capacity = h .capacity; untorn = free .untorn; free = free .free })
 
       pub watch-inserted : (last : List ℕ) → last ≡ padded 8 (insert n (standing ws)) ws → Watched h n t ws before (j .reply) last after
-      unfolding watchWatches settled
+      unfolding watchWatches granted
       watch-inserted last m = record { reply = watch-reply; watches = m ∙ rw watch-is; out = watch-out }
 
   module _ (d N directions : ℕ) (t : Tables) {ns : List ℕ} (e : ns ≡ firstEight ws) {t' : Tables} (j : Judgement) (f : OpenJudged d N directions t (take (length ys) ns) j t') where
-    open-reply : j .reply ≡ openReply d N directions t ws
-    unfolding judgement openReply
-    open-reply = ap Judgement.reply (f .judged) ∙ rw (front e, open-front ws d N directions t)
+    open-reply : outcome (j .reply) ≡ openReply d N directions t ws
+    unfolding openReply
+    open-reply = f .judged .reply ∙ rw (front e, open-front ws d N directions t)
 
-    open-accepts : j .accepted ≡ settled (openAnswer d N directions t ws) true false
-    unfolding judgement openReply replyOf
-    open-accepts = ap Judgement.accepted (f .judged) ∙ rw (front e, open-front ws d N directions t)
+    open-accepts : j .accepted ≡ granted (openAnswer d N directions t ws) true false
+    unfolding openReply replyOf
+    open-accepts = f .judged .accepted ∙ rw (front e, open-front ws d N directions t)
 
     open-tables : t' ≡ openTables d N directions t ws
     unfolding openTables
@@ -201,12 +193,11 @@ module _ (ys : List Watch) where
 
     -- an accepted one empties them
     pub open-emptied : T (j .accepted) → (last : List ℕ) → last ≡ stored (replicate 8 0) ws → Opened d N directions t ws (j .reply) t' last
-    unfolding openWatches openAnswer settled
+    unfolding openWatches openAnswer granted
     open-emptied on last m =
         let a = accepted-is (openAnswer d N directions t ws) open-accepts on in
-        let s = accepted-passed (not (settingsHold d N directions)) Settings ((shortLoan t ws d N, ShortLoan) ∷ []) a in
-        let l = accepted-passed (shortLoan t ws d N) ShortLoan [] (s .1) in
-        record { reply = open-reply; lent = open-tables; watches = m ∙ cleared ws (eight-of t ws d N (l .0)) ∙ rw a }
+        let long = zero-passed _ _ _ (zero-passed _ _ _ a .1) .0 in
+        record { reply = open-reply; lent = open-tables; watches = m ∙ cleared ws (eight-of t ws d N long) ∙ rw a }
 
   -- a quote on as many numbers as records are lent is one on the records
   pub quote-records : (h : Head) (x : List ℕ) (t : Tables) {ns : List ℕ} → ns ≡ firstEight ws → {before : List ℕ} {r : Reply} {t' : Tables} {after : List ℕ} → Quoted h x t (take (length ys) ns) before r t' after → Quoted h x t ws before r t' after

@@ -3,4 +3,4 @@ pub mod Fronts
 pub mod Machines
 pub mod Deciding
 pub mod Calling
-pub mod Replay
+pub mod Records

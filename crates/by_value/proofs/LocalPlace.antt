@@ -20,9 +20,9 @@ use denote.Struct.Laws as LL
 use Rattle.frames.specs.declared.Read.{Read}
 use Rattle.frames.proofs.Read as Rd
 use Rattle.frames.proofs.Read.Laws as Rd′
-use Rattle.reading.specs.declared.Place.{Place}
-use Rattle.reading.proofs.Place as P
-use Rattle.reading.proofs.Place.Laws as P′
+use Rattle.frames.specs.declared.Place.{Place}
+use Rattle.frames.proofs.Place as P
+use Rattle.frames.proofs.Place.Laws as P′
 use Rattle.by_value.specs.declared.Found.{Found}
 use Rattle.by_value.proofs.Found as Fd
 

@@ -4,12 +4,12 @@ ghost use Rattle.lists.specs.Lists.{contains};
 ghost use Rattle.model.specs.Book.{standing};
 ghost use Rattle.model.specs.Promises.{tables, Opened, Quoted, Watched, Ended};
 ghost use Rattle.watches.specs.Records.{watched};
-ghost use Rattle.reading.specs.Reading.{Moved};
+ghost use Rattle.frames.specs.Moved.{Moved};
+use frames::Place;
 use frames::Read;
 use head::Head;
 use head::Reply;
 use head::Watch;
-use reading::Place;
 
 // What a call that may change the records hands back: its reply, and the records.
 pub struct Made {
@@ -119,6 +119,6 @@ pub fn read(tape: &[u8], place: Place) -> Found
     ensures { λ r. ⌜ Moved (now (tape .entry)) place (r .read) (r .place) ⌝ }
 {
     let mut held = place;
-    let read = reading::read(tape, &mut held);
+    let read = frames::read_next(tape, &mut held);
     Found { read, place: held }
 }

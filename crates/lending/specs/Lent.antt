@@ -4,34 +4,39 @@ use Prim.Native.Nat.{ℕ}
 use mathlib.Core.Bool.{true, false, not}
 use mathlib.Core.List.{List, [], _∷_}
 use lib.ListN.{length}
-use Rattle.head.specs.declared.Answer.{Answer}
 use Rattle.head.specs.declared.Head.{Head}
 use Rattle.head.specs.declared.Reply.{Reply}
 use Rattle.head.specs.declared.Refusal.the-variants.{Settings, ShortLoan}
 use Rattle.head.specs.Heads.{settingsHold}
-use Rattle.head.specs.Refusals.{first, settled}
+use Rattle.head.specs.Refusals.{number, numberOf, firstOf, granted}
+use Rattle.head.specs.Replies.{Outcome, outcome}
 use Rattle.model.specs.Rows.{Tables}
 use Rattle.model.specs.Book.{replyOf, openReply, openTables, watchReply, watchOut}
 use Rattle.lending.specs.declared.Judgement.{Judgement}
 
 -- a reply, and whether it accepts
 unfoldable pub judgement : Reply → Judgement
-judgement r = record { reply = r; accepted = settled (r .answer) true false }
+judgement r = record { reply = r; accepted = granted (numberOf (r .answer)) true false }
+
+-- a judgement hands this back, and says whether it accepts
+pub record Judged (o : Outcome) (j : Judgement) : Type 0 where
+  pub reply : outcome (j .reply) ≡ o
+  pub accepted : j .accepted ≡ granted (o .number) true false
 
 -- the answer of a call that is lent fewer than eight records, with the settings of h: 3, 11
-unfoldable pub fewAnswer : Head → Answer
-fewAnswer h = first ((not (settingsHold (h .dimensions) (h .capacity) (h .directions)), Settings) ∷ (true, ShortLoan) ∷ [])
+unfoldable pub fewAnswer : Head → ℕ
+fewAnswer h = firstOf ((not (settingsHold (h .dimensions) (h .capacity) (h .directions)), number Settings) ∷ (true, number ShortLoan) ∷ [])
 
--- its reply, which hands back this head
-unfoldable pub fewReply : Head → Head → Reply
+-- what it hands back, with this head
+unfoldable pub fewReply : Head → Head → Outcome
 fewReply h back = replyOf (fewAnswer h) back back 0
 
 -- an opening is answered and leaves the tables so; the records change after it
 pub record OpenJudged (d N directions : ℕ) (t : Tables) (ws : List ℕ) (j : Judgement) (t' : Tables) : Type 0 where
-  pub judged : j ≡ judgement (openReply d N directions t ws)
+  pub judged : Judged (openReply d N directions t ws) j
   pub lent : t' ≡ openTables d N directions t ws
 
 -- a watch of n is answered and leaves the output so; the records change after it
 pub record WatchJudged (h : Head) (n : ℕ) (t : Tables) (ws before : List ℕ) (j : Judgement) (after : List ℕ) : Type 0 where
-  pub judged : j ≡ judgement (watchReply h n t ws (length before))
+  pub judged : Judged (watchReply h n t ws (length before)) j
   pub out : after ≡ watchOut h n t ws before

@@ -1,9 +1,10 @@
 // The calls with the watches as the numbers of the first eight records, and how many records are lent: what `book` makes of lent records.
 ghost use mathlib.Core.Path.{_≡_};
 ghost use lib.ListN.{take};
+ghost use Rattle.head.specs.Replies.{outcome};
 ghost use Rattle.model.specs.Book.{endReply};
 ghost use Rattle.model.specs.Promises.{tables, Quoted};
-ghost use Rattle.lending.specs.Lent.{judgement, fewReply, OpenJudged, WatchJudged};
+ghost use Rattle.lending.specs.Lent.{judgement, Judged, fewReply, OpenJudged, WatchJudged};
 use head::Answer;
 use head::Head;
 use head::Refusal;
@@ -21,7 +22,7 @@ pub struct Judgement {
 
 // The reply where fewer than eight records are lent, with these settings, to a call that hands back this head: 3, 11.
 fn few(settings: Head, head: Head) -> Reply
-    ensures { λ r. ⌜ r ≡ fewReply settings head ⌝ }
+    ensures { λ r. ⌜ outcome r ≡ fewReply settings head ⌝ }
 {
     if settings.settings_hold() {
         return Reply {
@@ -65,7 +66,9 @@ pub fn open_lent(
     watches: [u32; 8],
     lent: usize,
 ) -> Judgement
-    ensures { λ r. ⌜ OpenJudged dimensions capacity directions (tables (now (columns .entry)) (now (positions .entry)) (now («lower_ends» .entry))) (take lent watches) r (tables (now (columns .exit)) (now (positions .exit)) (now («lower_ends» .exit))) ⌝ }
+    ensures { λ r. ⌜ OpenJudged dimensions capacity directions
+        (tables (now (columns .entry)) (now (positions .entry)) (now («lower_ends» .entry))) (take lent watches) r
+        (tables (now (columns .exit)) (now (positions .exit)) (now («lower_ends» .exit))) ⌝ }
 {
     if lent < 8 {
         let settings = Head::fresh(dimensions, capacity, directions);
@@ -94,7 +97,10 @@ pub fn quote_lent(
     lent: usize,
     out: &mut [u8],
 ) -> Reply
-    ensures { λ r. ⌜ Quoted head (now (quoted .entry)) (tables (now (columns .entry)) (now (positions .entry)) (now («lower_ends» .entry))) (take lent watches) (now (out .entry)) r (tables (now (columns .exit)) (now (positions .exit)) (now («lower_ends» .exit))) (now (out .exit)) ⌝ }
+    ensures { λ r. ⌜ Quoted head (now (quoted .entry))
+        (tables (now (columns .entry)) (now (positions .entry)) (now («lower_ends» .entry)))
+        (take lent watches) (now (out .entry)) r
+        (tables (now (columns .exit)) (now (positions .exit)) (now («lower_ends» .exit))) (now (out .exit)) ⌝ }
 {
     if lent < 8 {
         return few(head, head);
@@ -113,7 +119,9 @@ pub fn watch_lent(
     lent: usize,
     out: &mut [u8],
 ) -> Judgement
-    ensures { λ r. ⌜ WatchJudged head n (tables (now (columns .entry)) (now (positions .entry)) (now («lower_ends» .entry))) (take lent watches) (now (out .entry)) r (now (out .exit)) ⌝ }
+    ensures { λ r. ⌜ WatchJudged head n
+        (tables (now (columns .entry)) (now (positions .entry)) (now («lower_ends» .entry)))
+        (take lent watches) (now (out .entry)) r (now (out .exit)) ⌝ }
 {
     if lent < 8 {
         return judge(few(head, head));
@@ -132,7 +140,8 @@ pub fn end_lent(
     watches: [u32; 8],
     lent: usize,
 ) -> Judgement
-    ensures { λ r. ⌜ r ≡ judgement (endReply head n (tables (now (columns .entry)) (now (positions .entry)) (now («lower_ends» .entry))) (take lent watches)) ⌝ }
+    ensures { λ r. ⌜ Judged (endReply head n
+        (tables (now (columns .entry)) (now (positions .entry)) (now («lower_ends» .entry))) (take lent watches)) r ⌝ }
 {
     if lent < 8 {
         return judge(few(head, head));

@@ -2,13 +2,13 @@
 // refusals that the calls give, and writes and reads a frame.
 use by_value::Made;
 use frames::Message;
+use frames::Place;
 use head::Answer;
 use head::Head;
 use head::Reply;
 use head::Verdict;
 use head::Watch;
 use libc::STDOUT_FILENO;
-use reading::Place;
 
 // Prints a line of at most eleven numbers.
 fn print(letter: u8, numbers: &[u32]) {
@@ -322,15 +322,15 @@ fn tell(head: Head, n: u32) {
 // Writes the frame of a watch of n, reads it back by a reading place, and prints n and the place behind it; then the tape ends.
 fn there_and_back(n: u16) {
     let mut tape = [0u8; 3];
-    let written = frames::write(Message::Watch(n), [0; 6], &mut tape);
+    let written = frames::write(Message::Sized(frames::WATCH, n), [0; 6], &mut tape);
     let answer = written.answer;
     print_refusal(answer);
     let found = by_value::read(&tape, Place { at: 0 });
     let read = found.read;
     let place = found.place;
     let message = read.message;
-    if let Message::Watch(m) = message {
-        if place.at <= 3 {
+    if let Message::Sized(kind, m) = message {
+        if (kind == frames::WATCH) & (place.at <= 3) {
             let numbers = [m as u32, place.at as u32];
             print(b'T', &numbers);
         }

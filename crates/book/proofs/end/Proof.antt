@@ -60,7 +60,7 @@ use Rattle.watches.proofs.remove_record.Symbol.{name as #watches·remove-record
 use Rattle.watches.proofs.remove_record.Met as change-thm
 use Rattle.model.specs.Promises.{tables as lent-tables, Ended}
 use Rattle.lending.specs.declared.Judgement.{Judgement}
-use Rattle.lending.specs.Lent.{judgement}
+use Rattle.lending.specs.Lent.{Judged}
 use Rattle.book.proofs.Fronts.{end-left, end-enough, end-removed}
 use Rattle.book.proofs.Machines.{headed, machines, replied}
 use Rattle.book.proofs.Deciding.{decides, stays-last}
@@ -137,7 +137,7 @@ module _ {M : Type 1} (𝓤 : URA M) (H : Heap 𝓤) (A : Atoms 𝓤) (W : Given
   Ends = Unit {0} × (Unit {0} × (Unit {0} × (Unit {0} × (Unit {0} × (Unit {0} × (Unit {0} × Unit {0}))))))
 
   abbrev Said : List ℕ → Judgement → Ends → Type 0
-  Said r j zs = j ≡ judgement (endReply head n lent (take (length ys) r))
+  Said r j zs = Judged (endReply head n lent (take (length ys) r)) j
 
   -- what is left at the return, with what is lent at its last values
   abbrev Left : List Watch → List (Item 𝓤)

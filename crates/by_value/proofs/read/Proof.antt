@@ -39,17 +39,17 @@ use denote.Exit.{yes}
 use Rattle.frames.specs.declared.Read.{Read}
 use Rattle.frames.proofs.Read as Rd
 use Rattle.frames.proofs.Read.Laws as Rd′
-use Rattle.reading.specs.Reading.{Moved}
-use Rattle.reading.specs.declared.Place.{Place}
-use Rattle.reading.proofs.Place as P
-use Rattle.reading.proofs.Place.Laws as P′
+use Rattle.frames.specs.Moved.{Moved}
+use Rattle.frames.specs.declared.Place.{Place}
+use Rattle.frames.proofs.Place as P
+use Rattle.frames.proofs.Place.Laws as P′
 use Rattle.by_value.proofs.LocalPlace.{placed, reads, read-spelled, found, found-value, is-found, to-place, lends-place, place-back}
 use Rattle.by_value.proofs.Found as Fd
 use Rattle.by_value.proofs.Found.Laws as Fd′
-use Rattle.reading.proofs.read as callee
-use Rattle.reading.proofs.read.Symbol as callee-def
-use Rattle.reading.proofs.read.Symbol.{name as #reading·read}
-use Rattle.reading.proofs.read.Met as callee-thm
+use Rattle.frames.proofs.read_next as callee
+use Rattle.frames.proofs.read_next.Symbol as callee-def
+use Rattle.frames.proofs.read_next.Symbol.{name as #frames·read-next}
+use Rattle.frames.proofs.read_next.Met as callee-thm
 use Rattle.by_value.proofs.read.Key.{name as #by-value·read}
 use Rattle.by_value.proofs.read as f
 use Rattle.by_value.proofs.read.Statement as stated
@@ -116,7 +116,7 @@ module _ {M : Type 1} (𝓤 : URA M) (H : Heap 𝓤) (A : Atoms 𝓤) (W : Given
       owned ! Fd.the-row (Is Fd.the-row) ((LL.makes Fd.the-type Fd′.the-plain) 𝓤 H A) (found r after) _ (is-found r after is is-after) $ done !
 
   module _ (tape-fits : length (tape .now) < 2 ^ 64) (is-place : Is P.the-row place (placed place))
-      (C : Calls 𝓤 H) (Λ : Loops 𝓤 H) (fm : FmC 𝓤 H (W .laws) C) (known : Triple 𝓤 (C #reading·read) (Callee 𝓤 H A mem run)) where
+      (C : Calls 𝓤 H) (Λ : Loops 𝓤 H) (fm : FmC 𝓤 H (W .laws) C) (known : Triple 𝓤 (C #frames·read-next) (Callee 𝓤 H A mem run)) where
     walk : ent 𝓤 (onEntry 𝓤 H A f.signature (κ₀, tt) (q₀, tt) x at) (WpFn 𝓤 H C Λ code.function given Post)
     walk =
         qed W Entry ∵ enter ! C Λ code.function given _ $
@@ -141,7 +141,7 @@ module _ {M : Type 1} (𝓤 : URA M) (H : Heap 𝓤) (A : Atoms 𝓤) (W : Given
         move ! (18 ∷ 19 ∷ []) $ free1 ! $ move ! (16 ∷ 17 ∷ []) $ free1 ! $ move ! (14 ∷ 15 ∷ []) $ free1 ! $ move ! (0 ∷ 13 ∷ []) $ free1 ! $ move ! (10 ∷ 11 ∷ []) $ free1 ! $ move ! (8 ∷ 9 ∷ []) $ free1 ! $ move ! (6 ∷ 7 ∷ []) $ free1 ! $ free0 ! $
         keep ! (1 ∷ []) $ by ! (exits r (zs .1 .0) (read-spelled r c has) is-after kept))))))))))))))))
 
-module _ {M : Type 1} (𝓤 : URA M) (H : Heap 𝓤) (A : Atoms 𝓤) (W : Given 𝓤 H A) (mem : Memory → SProp 𝓤) (run : Routine → Fun 𝓤) (𝓣 : Tables 𝓤 H) (known : Triple 𝓤 (𝓣 .C #reading·read) (Callee 𝓤 H A mem run)) where
+module _ {M : Type 1} (𝓤 : URA M) (H : Heap 𝓤) (A : Atoms 𝓤) (W : Given 𝓤 H A) (mem : Memory → SProp 𝓤) (run : Routine → Fun 𝓤) (𝓣 : Tables 𝓤 H) (known : Triple 𝓤 (𝓣 .C #frames·read-next) (Callee 𝓤 H A mem run)) where
   read-walks : Walks 𝓤 H A f.ended stayed (WpFn 𝓤 H (𝓣 .C) (𝓣 .Λ) code.function) (f.clauses 𝓤 H A mem run)
   read-walks =
       walked 𝓤 H A f.ended stayed (f.clauses 𝓤 H A mem run) (WpFn 𝓤 H (𝓣 .C) (𝓣 .Λ) code.function) (λ κs. (slice-vals, (placed, tt))) (λ κs. (shr-slice-tells (named 0) (κs .0) u8, (LL.tells P.the-type P′.the-laws, tt)))
@@ -158,4 +158,4 @@ read-spec 𝓤 H 𝓜 𝓖 𝓡 =
     entered 𝓤 H (tripleOf 𝓤 H (𝓖 .A) f.signature (f.spec 𝓤 H (𝓖 .A) (𝓜 .mem) (𝓡 .run)))
     (tables 𝓤 H 𝓜 𝓡 code.env .C) (tables 𝓤 H 𝓜 𝓡 code.env .Λ) #by-value·read code.function (code.unfolded 𝓤 H 𝓜 𝓡)
     (read-meets 𝓤 H (𝓖 .A) (givenOf 𝓤 H 𝓜 𝓖) (𝓜 .mem) (𝓡 .run) (tablesOf 𝓤 H 𝓜 (tables 𝓤 H 𝓜 𝓡 code.env))
-    (cited 𝓤 H (Callee 𝓤 H (𝓖 .A) (𝓜 .mem) (𝓡 .run)) 𝓜 𝓡 code.env #reading·read callee-def.routine code.calls-reading·read (callee-thm.met 𝓤 H 𝓜 𝓖 𝓡)))
+    (cited 𝓤 H (Callee 𝓤 H (𝓖 .A) (𝓜 .mem) (𝓡 .run)) 𝓜 𝓡 code.env #frames·read-next callee-def.routine code.calls-frames·read-next (callee-thm.met 𝓤 H 𝓜 𝓖 𝓡)))

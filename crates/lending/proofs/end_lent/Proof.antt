@@ -1,8 +1,6 @@
 -- `end_lent` meets its contract: fewer than eight records are refused, and of more only eight are asked.
-use mathlib.Core.Path.{_∙_, ap}
 use native.Mathlib.Omega.{arith}
 use borrow.Author.Needs.{needs}
-use Rattle.lending.specs.Lent.{judgement}
 use Rattle.lending.proofs.Fewer.{end-eight, end-few}
 use Rattle.lending.proofs.end_lent.Statement.{statement}
 use Rattle.lending.proofs.end_lent.Tie as tie
@@ -16,7 +14,7 @@ judge-requires c κs = search needs
 returns : tie.Need-returns
 returns c =
     let a = c .before .before .before .before .before .before .args in
-    c .judge .ensures ∙ ap judgement (end-few (a .watches) (a .lent) (omega arith) _ _ _ (c .before .few .ensures))
+    end-few (a .watches) (a .lent) (omega arith) _ _ _ _ (c .before .few .ensures) (c .judge .ensures)
 
 end-requires : tie.Need-end-requires
 end-requires c κs = search needs
@@ -29,7 +27,7 @@ returns-2 c =
     let s = c .before .before .before .before .before .before in
     let a = s .args in
     let g = s .good .1 .1 .1 .1 .1 .0 in
-    c .judge2 .ensures ∙ ap judgement (end-eight (a .watches) (a .lent) _ _ _ (omega (arith, g)) (c .before .end .ensures))
+    end-eight (a .watches) (a .lent) _ _ _ (omega (arith, g)) (c .before .end .ensures) (c .judge2 .ensures)
 
 pub end-lent-spec : {M : Type 1} → statement M
 end-lent-spec = tie.close (tie.spec few-requires judge-requires returns end-requires judge-requires-2 returns-2)

@@ -1,8 +1,6 @@
 -- `open_lent` meets its contract: fewer than eight records are refused, and of more only eight are asked.
-use mathlib.Core.Path.{_∙_, ap, ap₂}
 use native.Mathlib.Omega.{arith}
 use borrow.Author.Needs.{needs}
-use Rattle.lending.specs.Lent.{judgement, fewReply}
 use Rattle.lending.proofs.Fewer.{open-eight, open-few}
 use Rattle.lending.proofs.open_lent.Statement.{statement}
 use Rattle.lending.proofs.open_lent.Tie as tie
@@ -22,8 +20,7 @@ judge-requires c κs = search needs
 returns : tie.Need-returns
 returns c =
     let a = c .before .before .before .before .before .before .before .before .args in
-    let e = c .before .few .ensures ∙ ap₂ fewReply (c .before .before .before .fresh .ensures) (c .before .before .fresh2 .ensures) in
-    open-few (a .watches) (a .lent) (omega arith) _ _ _ _ (c .judge .ensures ∙ ap judgement e)
+    open-few (a .watches) (a .lent) (omega arith) _ _ _ _ _ (c .before .before .before .fresh .ensures) (c .before .before .fresh2 .ensures) (c .before .few .ensures) (c .judge .ensures)
 
 open-requires : tie.Need-open-requires
 open-requires c κs = search needs

@@ -1,8 +1,6 @@
 -- `watch_lent` meets its contract: fewer than eight records are refused, and of more only eight are asked.
-use mathlib.Core.Path.{_∙_, ap}
 use native.Mathlib.Omega.{arith}
 use borrow.Author.Needs.{needs}
-use Rattle.lending.specs.Lent.{judgement}
 use Rattle.lending.proofs.Fewer.{watch-eight, watch-few}
 use Rattle.lending.proofs.watch_lent.Statement.{statement}
 use Rattle.lending.proofs.watch_lent.Tie as tie
@@ -16,7 +14,7 @@ judge-requires c κs = search needs
 returns : tie.Need-returns
 returns c =
     let a = c .before .before .before .before .before .before .before .args in
-    watch-few (a .watches) (a .lent) (omega arith) _ _ _ (c .judge .ensures ∙ ap judgement (c .before .few .ensures))
+    watch-few (a .watches) (a .lent) (omega arith) _ _ _ _ (c .before .few .ensures) (c .judge .ensures)
 
 watch-requires : tie.Need-watch-requires
 watch-requires c κs = search needs
