@@ -5,8 +5,8 @@ use mathlib.Core.List.{List, [], _++_, append-nil}
 use lib.ListN.{length, length-take}
 use native.Mathlib.Omega.{arith}
 use borrow.Author.Needs.{needs}
-use Rattle.worked_book.proofs.look.Statement.{statement}
-use Rattle.worked_book.proofs.look.Tie as tie
+use Rattle.judged_calls.proofs.look.Statement.{statement}
+use Rattle.judged_calls.proofs.look.Tie as tie
 
 -- n and at most eight positions fit nine cells
 fits : (k : ℕ) (l : List ℕ) → k ≤ 8 → length l ≡ 8 → k + 1 ≤ suc (length (l ++ []))

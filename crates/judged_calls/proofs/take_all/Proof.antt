@@ -4,8 +4,8 @@ use Prim.Native.Nat.{_-_, _≤_}
 use native.Mathlib.Omega.{arith}
 use lib.ListN.{length}
 use borrow.Author.Needs.{needs}
-use Rattle.worked_book.proofs.take_all.Statement.{statement}
-use Rattle.worked_book.proofs.take_all.Tie as tie
+use Rattle.judged_calls.proofs.take_all.Statement.{statement}
+use Rattle.judged_calls.proofs.take_all.Tie as tie
 
 abbrev Inv-loop : tie.InvT-loop
 Inv-loop quotes columns₀ positions₀ lower-ends₀ records out₀ now₀ i₀ columns positions lower-ends out now i =
