@@ -1,4 +1,3 @@
 -- The laws of the crate.
 pub mod Settings
-pub mod Answers
 pub mod Numbers

@@ -12,7 +12,7 @@ use Rattle.head.specs.declared.Refusal.{Refusal}
 use Rattle.head.specs.declared.Refusal.the-variants.{UnknownKind, CutFrame, Settings, ColumnCount, WindowSize, TapeFull, OutOfPlace, AlreadyWatched, NoFreeRecord, NotWatched, ShortLoan, Torn, ShortOutput}
 use Rattle.head.specs.declared.Answer.{Answer}
 use Rattle.head.specs.declared.Answer.the-variants.{Accepted, Refused}
-use Rattle.head.specs.Refusals.{number, first, settled, numberOf, firstOf, granted}
+use Rattle.head.specs.Refusals.{number, numberOf, firstOf, granted}
 
 -- ---- the first condition that holds
 
@@ -121,12 +121,6 @@ pub accepted-granted : {A : Type 0} (n : ℕ) → n ≡ 0 → (a r : A) → gran
 unfolding granted
 accepted-granted n e a r = rw e
 
--- what is granted by an answer's number is settled by the answer
-pub granted-settled : {A : Type 0} (answer : Answer) (a r : A) → granted (numberOf answer) a r ≡ settled answer a r
-unfolding granted settled
-granted-settled Accepted a r = refl
-granted-settled (Refused k) a r = refused-granted k a r
-
 -- ---- conditions behind others
 
 -- no condition has the number 0
@@ -146,20 +140,3 @@ firstOf-append (c ∷ cs) more p =
         → firstOf ((b, c .1) ∷ (cs ++ more)) ≡ granted (firstOf ((b, c .1) ∷ cs)) (firstOf more) (firstOf ((b, c .1) ∷ cs))
     go true r above = sym (granted-refused (c .1) above (firstOf more) (c .1))
     go false r above = r
-
--- ---- from refusals to their numbers
-
--- conditions with the numbers of their refusals
-abbrev pub numbered : List (Bool × Refusal) → List (Bool × ℕ)
-numbered [] = []
-numbered (c ∷ cs) = (c .0, number (c .1)) ∷ numbered cs
-
--- the number of the first refusal is the first number
-pub first-number : (cs : List (Bool × Refusal)) → numberOf (first cs) ≡ firstOf (numbered cs)
-unfolding first firstOf
-first-number [] = refl
-first-number (c ∷ cs) = go (c .0) (first-number cs)
-  where
-    go : (b : Bool) → numberOf (first cs) ≡ firstOf (numbered cs) → numberOf (first ((b, c .1) ∷ cs)) ≡ firstOf ((b, number (c .1)) ∷ numbered cs)
-    go true r = refl
-    go false r = r

@@ -23,16 +23,6 @@ number ShortLoan = 11
 number Torn = 12
 number ShortOutput = 13
 
--- the first refusal whose condition holds, or Accepted where none does
-unfoldable pub first : List (Bool × Refusal) → Answer
-first [] = Accepted
-first (c ∷ cs) = cond (c .0) (Refused (c .1)) (first cs)
-
--- a where the call is accepted, r where it is refused
-unfoldable pub settled : {A : Type 0} → Answer → A → A → A
-settled Accepted a r = a
-settled (Refused k) a r = r
-
 -- 01's number of an answer: 0 where the call is accepted
 abbrev pub numberOf : Answer → ℕ
 numberOf Accepted = 0
