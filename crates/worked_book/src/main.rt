@@ -330,9 +330,11 @@ fn there_and_back(n: u16) {
     let place = found.place;
     let message = read.message;
     if let Message::Sized(kind, m) = message {
-        if (kind == frames::WATCH) & (place.at <= 3) {
-            let numbers = [m as u32, place.at as u32];
-            print(b'T', &numbers);
+        if kind == frames::WATCH {
+            if place.at <= 3 {
+                let numbers = [m as u32, place.at as u32];
+                print(b'T', &numbers);
+            }
         }
     }
     let last = by_value::read(&tape, place);
