@@ -49,8 +49,8 @@ pub fn open(
     judged.reply
 }
 
-// Takes a quote: writes the changes of every watch, puts the quote's row into the tables, and hands back the next head and how
-// many bytes were written.
+// Takes a quote: writes the changes of every watch, puts the quote's row into the tables, and hands back the next head
+// and how many bytes were written.
 pub fn quote(
     head: Head,
     quote: &[u32],
@@ -90,7 +90,8 @@ pub fn watch(
     out: &mut [u8],
 ) -> Reply
     ensures { λ r. ⌜ Watched head n (tables (now (columns .entry)) (now (positions .entry)) (now («lower_ends» .entry)))
-        (watched (now (watches .entry))) (now (out .entry)) r (watched (now (watches .exit))) (now (out .exit)) ⌝ }
+        (watched (now (watches .entry))) (now (out .entry))
+        r (watched (now (watches .exit))) (now (out .exit)) ⌝ }
 {
     let before = numbers(&*watches);
     let lent = watches.len();

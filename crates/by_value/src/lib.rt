@@ -1,4 +1,5 @@
-// The calls of a book and the reader for callers that hold plain values: the eight records and the reading place go in and come back by value.
+// The calls of a book and the reader for callers that hold plain values: the eight records and the reading place go in
+// and come back by value.
 ghost use mathlib.Core.Path.{_≡_};
 ghost use Rattle.lists.specs.Lists.{contains};
 ghost use Rattle.model.specs.Book.{standing};

@@ -1,5 +1,5 @@
-// A worked book: opens, quotes, looks, watches, ends and audits on real buffers, and judges and prints each answer; then it draws the
-// refusals that the calls give, and writes and reads a frame.
+// A worked book: opens, quotes, looks, watches, ends and audits on real buffers, and judges and prints each answer;
+// then it draws the refusals that the calls give, and writes and reads a frame.
 use by_value::Made;
 use frames::Message;
 use frames::Place;
@@ -128,7 +128,8 @@ fn audit(head: Head, columns: &[u32], positions: &[u32], lower_ends: &[u32]) {
     }
 }
 
-// Opens the book of 01's worked example: two columns, a memory of five, lower is better. Prints its line, or the refusal.
+// Opens the book of 01's worked example: two columns, a memory of five, lower is better. Prints its line, or the
+// refusal.
 fn open(
     columns: &mut [u32],
     positions: &mut [u32],
@@ -319,7 +320,8 @@ fn tell(head: Head, n: u32) {
     }
 }
 
-// Writes the frame of a watch of n, reads it back by a reading place, and prints n and the place behind it; then the tape ends.
+// Writes the frame of a watch of n, reads it back by a reading place, and prints n and the place behind it; then the
+// tape ends.
 fn there_and_back(n: u16) {
     let mut tape = [0u8; 3];
     let written = frames::write(Message::Sized(frames::WATCH, n), [0; 6], &mut tape);
