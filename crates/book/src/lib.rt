@@ -25,7 +25,11 @@ pub fn open(
     lower_ends: &mut [u32],
     watches: &mut [Watch],
 ) -> Reply
-    ensures { λ r. ⌜ Opened dimensions capacity directions (tables (now (columns .entry)) (now (positions .entry)) (now («lower_ends» .entry))) (watched (now (watches .entry))) r (tables (now (columns .exit)) (now (positions .exit)) (now («lower_ends» .exit))) (watched (now (watches .exit))) ⌝ }
+    ensures { λ r. ⌜ Opened dimensions capacity directions
+        (tables (now (columns .entry)) (now (positions .entry)) (now («lower_ends» .entry)))
+        (watched (now (watches .entry))) r
+        (tables (now (columns .exit)) (now (positions .exit)) (now («lower_ends» .exit)))
+        (watched (now (watches .exit))) ⌝ }
 {
     let before = numbers(&*watches);
     let lent = watches.len();
@@ -45,8 +49,8 @@ pub fn open(
     judged.reply
 }
 
-// Takes a quote: writes the changes of every watch, puts the quote's row into the tables, and hands back the next head and how
-// many bytes were written.
+// Takes a quote: writes the changes of every watch, puts the quote's row into the tables, and hands back the next head
+// and how many bytes were written.
 pub fn quote(
     head: Head,
     quote: &[u32],
@@ -56,7 +60,10 @@ pub fn quote(
     watches: &[Watch],
     out: &mut [u8],
 ) -> Reply
-    ensures { λ r. ⌜ Quoted head (now (quote .entry)) (tables (now (columns .entry)) (now (positions .entry)) (now («lower_ends» .entry))) (watched (now (watches .entry))) (now (out .entry)) r (tables (now (columns .exit)) (now (positions .exit)) (now («lower_ends» .exit))) (now (out .exit)) ⌝ }
+    ensures { λ r. ⌜ Quoted head (now (quote .entry))
+        (tables (now (columns .entry)) (now (positions .entry)) (now («lower_ends» .entry)))
+        (watched (now (watches .entry))) (now (out .entry)) r
+        (tables (now (columns .exit)) (now (positions .exit)) (now («lower_ends» .exit))) (now (out .exit)) ⌝ }
 {
     let before = numbers(watches);
     let lent = watches.len();
@@ -82,7 +89,9 @@ pub fn watch(
     watches: &mut [Watch],
     out: &mut [u8],
 ) -> Reply
-    ensures { λ r. ⌜ Watched head n (tables (now (columns .entry)) (now (positions .entry)) (now («lower_ends» .entry))) (watched (now (watches .entry))) (now (out .entry)) r (watched (now (watches .exit))) (now (out .exit)) ⌝ }
+    ensures { λ r. ⌜ Watched head n (tables (now (columns .entry)) (now (positions .entry)) (now («lower_ends» .entry)))
+        (watched (now (watches .entry))) (now (out .entry))
+        r (watched (now (watches .exit))) (now (out .exit)) ⌝ }
 {
     let before = numbers(&*watches);
     let lent = watches.len();
@@ -102,7 +111,8 @@ pub fn end(
     lower_ends: &[u32],
     watches: &mut [Watch],
 ) -> Reply
-    ensures { λ r. ⌜ Ended head n (tables (now (columns .entry)) (now (positions .entry)) (now («lower_ends» .entry))) (watched (now (watches .entry))) r (watched (now (watches .exit))) ⌝ }
+    ensures { λ r. ⌜ Ended head n (tables (now (columns .entry)) (now (positions .entry)) (now («lower_ends» .entry)))
+        (watched (now (watches .entry))) r (watched (now (watches .exit))) ⌝ }
 {
     let before = numbers(&*watches);
     let lent = watches.len();

@@ -1,4 +1,5 @@
-// The book player: makes the calls that the lines of standard input ask for on real buffers, and prints what was seen of each.
+// The book player: makes the calls that the lines of standard input ask for on real buffers, and prints what was seen
+// of each.
 ghost use Prim.Native.Nat.{_≤_};
 use head::Answer;
 use head::Head;
@@ -21,8 +22,8 @@ use player_print::print_line;
 // A part of a line that is longer than any that the player can take.
 const TOO_LONG: usize = 200;
 
-// Where the player stands in its input: the line that was found, the place behind it, the end of the text that has come, whether the
-// input has ended, whether a line was found, and whether all is over.
+// Where the player stands in its input: the line that was found, the place behind it, the end of the text that has
+// come, whether the input has ended, whether a line was found, and whether all is over.
 struct Stand {
     from: usize,
     to: usize,

@@ -1,4 +1,5 @@
-// The calls of a book and the reader for callers that hold plain values: the eight records and the reading place go in and come back by value.
+// The calls of a book and the reader for callers that hold plain values: the eight records and the reading place go in
+// and come back by value.
 ghost use mathlib.Core.Path.{_≡_};
 ghost use Rattle.lists.specs.Lists.{contains};
 ghost use Rattle.model.specs.Book.{standing};
@@ -33,7 +34,10 @@ pub fn open(
     lower_ends: &mut [u32],
     records: [Watch; 8],
 ) -> Made
-    ensures { λ r. ⌜ Opened dimensions capacity directions (tables (now (columns .entry)) (now (positions .entry)) (now («lower_ends» .entry))) (watched records) (r .reply) (tables (now (columns .exit)) (now (positions .exit)) (now («lower_ends» .exit))) (watched (r .records)) ⌝ }
+    ensures { λ r. ⌜ Opened dimensions capacity directions
+        (tables (now (columns .entry)) (now (positions .entry)) (now («lower_ends» .entry)))
+        (watched records) (r .reply)
+        (tables (now (columns .exit)) (now (positions .exit)) (now («lower_ends» .exit))) (watched (r .records)) ⌝ }
 {
     let mut held = records;
     let reply = book::open(
@@ -61,7 +65,10 @@ pub fn quote(
     records: [Watch; 8],
     out: &mut [u8],
 ) -> Reply
-    ensures { λ r. ⌜ Quoted head (now (quoted .entry)) (tables (now (columns .entry)) (now (positions .entry)) (now («lower_ends» .entry))) (watched records) (now (out .entry)) r (tables (now (columns .exit)) (now (positions .exit)) (now («lower_ends» .exit))) (now (out .exit)) ⌝ }
+    ensures { λ r. ⌜ Quoted head (now (quoted .entry))
+        (tables (now (columns .entry)) (now (positions .entry)) (now («lower_ends» .entry)))
+        (watched records) (now (out .entry)) r
+        (tables (now (columns .exit)) (now (positions .exit)) (now («lower_ends» .exit))) (now (out .exit)) ⌝ }
 {
     let held = records;
     book::quote(head, quoted, columns, positions, lower_ends, &held, out)
@@ -77,7 +84,8 @@ pub fn watch(
     records: [Watch; 8],
     out: &mut [u8],
 ) -> Made
-    ensures { λ r. ⌜ Watched head n (tables (now (columns .entry)) (now (positions .entry)) (now («lower_ends» .entry))) (watched records) (now (out .entry)) (r .reply) (watched (r .records)) (now (out .exit)) ⌝ }
+    ensures { λ r. ⌜ Watched head n (tables (now (columns .entry)) (now (positions .entry)) (now («lower_ends» .entry)))
+        (watched records) (now (out .entry)) (r .reply) (watched (r .records)) (now (out .exit)) ⌝ }
 {
     let mut held = records;
     let reply = book::watch(head, n, columns, positions, lower_ends, &mut held, out);
@@ -96,7 +104,8 @@ pub fn end(
     lower_ends: &[u32],
     records: [Watch; 8],
 ) -> Made
-    ensures { λ r. ⌜ Ended head n (tables (now (columns .entry)) (now (positions .entry)) (now («lower_ends» .entry))) (watched records) (r .reply) (watched (r .records)) ⌝ }
+    ensures { λ r. ⌜ Ended head n (tables (now (columns .entry)) (now (positions .entry)) (now («lower_ends» .entry)))
+        (watched records) (r .reply) (watched (r .records)) ⌝ }
 {
     let mut held = records;
     let reply = book::end(head, n, columns, positions, lower_ends, &mut held);

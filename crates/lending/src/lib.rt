@@ -1,4 +1,5 @@
-// The calls with the watches as the numbers of the first eight records, and how many records are lent: what `book` makes of lent records.
+// The calls with the watches as the numbers of the first eight records, and how many records are lent: what `book`
+// makes of lent records.
 ghost use mathlib.Core.Path.{_≡_};
 ghost use lib.ListN.{take};
 ghost use Rattle.head.specs.Replies.{outcome};

@@ -1,4 +1,5 @@
-// The desk of the book player: a head, eight records and how much of each buffer is lent, and the calls that its lines ask for.
+// The desk of the book player: a head, eight records and how much of each buffer is lent, and the calls that its lines
+// ask for.
 mod making;
 mod poking;
 
@@ -17,7 +18,8 @@ pub use poking::play_cell;
 pub use poking::play_head;
 pub use poking::play_lend;
 
-// What is to be printed of a line: nothing, that it cannot be taken, a reply with bytes or with cells, a verdict, or the tables.
+// What is to be printed of a line: nothing, that it cannot be taken, a reply with bytes or with cells, a verdict, or
+// the tables.
 pub enum Seen {
     Nothing,
     Unread,

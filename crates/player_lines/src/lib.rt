@@ -1,4 +1,5 @@
-// The lines of the book player: a word, the name of a table where the word wants one, and numbers in decimal with one space before each.
+// The lines of the book player: a word, the name of a table where the word wants one, and numbers in decimal with one
+// space before each.
 mod words;
 
 pub use words::read_line;

@@ -15,7 +15,7 @@ slice-aggregate-line-end : tie.Need-slice-aggregate-line-end
 slice-aggregate-line-end c = simp length-take (omega arith)
 
 line-end-requires : tie.Need-line-end-requires
-line-end-requires c κs = simp length-take (omega arith)
+line-end-requires c κs = search needs
 
 add-now : tie.Need-add-now
 add-now c = search needs
