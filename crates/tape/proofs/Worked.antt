@@ -7,7 +7,7 @@ use Rattle.head.specs.Refusals.{firstOf, granted}
 use Rattle.head.specs.Heads.{settingsHold}
 use Rattle.octets.specs.Bytes.{bytes2, bytes4, number2, number4}
 use Rattle.frames.specs.Kinds.{kinds, shapeIn, shapeOf, lengthOf, bodyLength}
-use Rattle.frames.specs.Frames.{frame, messageBy, messageAt, columnsAt, stays, readAt, before, messagesFrom}
+use Rattle.frames.specs.Frames.{frame, messageBy, messageAt, columnsAt, stays, readAt, toldFirst, messagesFrom}
 use Rattle.model.specs.Changes.{missing, changesBy, changes, allChanges, frames}
 use Rattle.model.specs.Reference.{unopened, ample, quoteAt, dominatesAt, skylineOf, rowOf, rowsOf, headOf, opened, outside, withQuote, withWatched, opening, tooShort, tells, referenceStep}
 use Rattle.text.specs.Text.{digitsUpTo, digits, field, line}
@@ -20,7 +20,7 @@ use Rattle.tape.specs.Worked.{workedTape, workedText}
 pub worked-print : print opened (referenceMake ample) workedTape unopened ≡ workedText
 unfolding filter any flat run between contains insert
     higher better betterAt noWorse someBetter dominates windowStart dominatedIn skyline undominated rows lowerEnd
-    firstOf granted settingsHold bytes2 bytes4 number2 number4 kinds shapeIn shapeOf lengthOf bodyLength frame messageBy messageAt columnsAt stays readAt before messagesFrom
+    firstOf granted settingsHold bytes2 bytes4 number2 number4 kinds shapeIn shapeOf lengthOf bodyLength frame messageBy messageAt columnsAt stays readAt toldFirst messagesFrom
     missing changesBy changes allChanges frames quoteAt dominatesAt skylineOf rowOf rowsOf headOf opened outside
     withQuote withWatched opening tooShort tells referenceStep
     digitsUpTo digits field line changeLine changeLines changesText linesOf textOf
