@@ -245,3 +245,41 @@ pub fn there_and_back(n: u16) {
         print(b'E', &[]);
     }
 }
+
+// Writes the first bytes of a frame's lines, so many.
+fn write_lines(text: &[u8; 208077], count: usize) {
+    write_front(&text[..], count);
+}
+
+// Writes the first bytes of a text, so many.
+fn write_front(text: &[u8], count: usize) {
+    if count <= text.len() {
+        io::write_all(STDOUT_FILENO, &text[..count]);
+    }
+}
+
+// Plays the frame of an opening as a tape of its own, on a book of one column and two places, and prints its line.
+pub fn play_opening() {
+    let frame = [48u8, 1, 2, 0, 0];
+    let mut columns = [0u32; 2];
+    let mut positions = [0u32; 2];
+    let mut lower_ends = [0u32; 2];
+    let mut bytes = [0u8; 57400];
+    let mut text = [0u8; 208077];
+    if tape::ready(&frame, 0) {
+        let step = tape::play(
+            &frame,
+            0,
+            Head::fresh(0, 0, 0),
+            &mut columns,
+            &mut positions,
+            &mut lower_ends,
+            [0; 8],
+            &mut bytes,
+            &mut text,
+        );
+        let answer = step.answer;
+        print_refusal(answer);
+        write_lines(&text, step.count);
+    }
+}

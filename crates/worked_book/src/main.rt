@@ -1,5 +1,5 @@
 // A worked book: opens, quotes, looks, watches, ends and audits on real buffers, and judges and prints each answer; then it draws the
-// refusals that the calls give, and writes and reads a frame.
+// refusals that the calls give, writes and reads a frame, and plays one.
 use head::Head;
 use head::Watch;
 use judged_calls::audit;
@@ -7,6 +7,7 @@ use judged_calls::end;
 use judged_calls::find;
 use judged_calls::look;
 use judged_calls::open;
+use judged_calls::play_opening;
 use judged_calls::print_answer;
 use judged_calls::take;
 use judged_calls::take_all;
@@ -161,4 +162,5 @@ fn main() {
     refuse_opening();
     limits();
     there_and_back(2);
+    play_opening();
 }
