@@ -20,11 +20,22 @@ pub enum Plant {
     Window,
     /// Only the list of N is kept, and the other lists are taken from it.
     Kept,
+    /// A past list ends at M - n1 - 1, as 000 misprints it.
+    Misprint,
+    /// A past list follows lower ends alone: younger quotes that beat a row do not count.
+    Upper,
+}
+
+/// What a tape is printed by: the rules with a planted bug or none, and whether kind 23, a look at a past list, is known.
+#[derive(Clone, Copy)]
+pub struct Rules {
+    pub plant: Plant,
+    pub past: bool,
 }
 
 /// What the model holds: the settings, every quote accepted since they were taken, and the watched n, rising.
 struct Model {
-    plant: Plant,
+    rules: Rules,
     opened: bool,
     d: usize,
     memory: usize,
@@ -35,8 +46,8 @@ struct Model {
 
 impl Model {
     /// A model before any opening.
-    fn new(plant: Plant) -> Model {
-        Model { plant, opened: false, d: 0, memory: 0, directions: 0, quotes: Vec::new(), watched: Vec::new() }
+    fn new(rules: Rules) -> Model {
+        Model { rules, opened: false, d: 0, memory: 0, directions: 0, quotes: Vec::new(), watched: Vec::new() }
     }
 
     /// Whether value x is better than value y in column i.
@@ -53,32 +64,46 @@ impl Model {
         let (one, other) = (&self.quotes[p - 1], &self.quotes[q - 1]);
         let no_worse = (0..self.d).all(|i| !self.better(i, other[i], one[i]));
         let better = (0..self.d).any(|i| self.better(i, one[i], other[i]));
-        no_worse && (better || self.plant == Plant::Equal && p != q)
+        no_worse && (better || self.rules.plant == Plant::Equal && p != q)
     }
 
     /// The window of n: the larger of 1 and M - n + 1, up to M.
     fn window(&self, n: usize) -> RangeInclusive<usize> {
         let newest = self.quotes.len();
-        let start = match self.plant {
+        let start = match self.rules.plant {
             Plant::Window => (newest + 1).wrapping_sub(n),
             _ => (newest + 1).saturating_sub(n),
         };
         start.max(1)..=newest
     }
 
-    /// The positions of the window of n that no quote of that window beats, rising.
-    fn unbeaten(&self, n: usize) -> Vec<usize> {
-        let beaten = |p: usize| self.window(n).any(|q| self.beats(q, p));
-        self.window(n).filter(|&p| !beaten(p)).collect()
+    /// The positions of a range that no quote of that range beats, rising.
+    fn unbeaten(&self, range: RangeInclusive<usize>) -> Vec<usize> {
+        let beaten = |p: usize| range.clone().any(|q| self.beats(q, p));
+        range.clone().filter(|&p| !beaten(p)).collect()
     }
 
     /// The list of n, by the definition or as a planted bug has it.
     fn list(&self, n: usize) -> Vec<usize> {
-        match self.plant {
+        match self.rules.plant {
             Plant::Oldest => self.listed_by_oldest(n),
-            Plant::Kept => self.unbeaten(self.memory).into_iter().filter(|p| self.window(n).contains(p)).collect(),
-            _ => self.unbeaten(n),
+            Plant::Kept => self.unbeaten(self.window(self.memory)).into_iter().filter(|p| self.window(n).contains(p)).collect(),
+            _ => self.unbeaten(self.window(n)),
         }
+    }
+
+    /// The past list: the unbeaten positions among a to b, a the larger of 1 and M - n2 + 1, b = M - n1 + 1; empty if b is below 1.
+    fn past_list(&self, n1: usize, n2: usize) -> Vec<usize> {
+        let back = if self.rules.plant == Plant::Misprint { n1 + 1 } else { n1 - 1 };
+        let (a, b) = (*self.window(n2).start(), self.quotes.len() as isize - back as isize);
+        if b < 1 {
+            return Vec::new();
+        }
+        let b = b as usize;
+        if self.rules.plant == Plant::Upper {
+            return (a..=b).filter(|&p| !(a..p).any(|q| self.beats(q, p))).collect();
+        }
+        self.unbeaten(a..=b)
     }
 
     /// A planted bug: the rows whose oldest beating row is older than the window of n.
@@ -91,8 +116,8 @@ impl Model {
 
     /// The positions of the window of N that no younger quote beats, rising.
     fn rows(&self) -> Vec<usize> {
-        if self.plant == Plant::Kept {
-            return self.unbeaten(self.memory);
+        if self.rules.plant == Plant::Kept {
+            return self.unbeaten(self.window(self.memory));
         }
         let newest = self.quotes.len();
         let beaten = |p: usize| (p + 1..=newest).any(|q| self.beats(q, p));
@@ -158,6 +183,24 @@ impl Model {
         print.push('\n');
     }
 
+    /// A look at the past list of n1 and n2.
+    fn past(&self, n1: u16, n2: u16, print: &mut String) {
+        if !self.opened {
+            return refuse(7, print);
+        }
+        if n1 == 0 || usize::from(n2) > self.memory {
+            return refuse(5, print);
+        }
+        if n1 > n2 {
+            return refuse(14, print);
+        }
+        write!(print, "P {n1} {n2}").unwrap();
+        for p in self.past_list(n1.into(), n2.into()) {
+            write!(print, " {p}").unwrap();
+        }
+        print.push('\n');
+    }
+
     /// A watch of n set, with its joins.
     fn watch(&mut self, n: u16, print: &mut String) {
         if let Some(number) = self.refusal(n) {
@@ -198,6 +241,7 @@ impl Model {
             16 => self.look(n(), print),
             17 => self.watch(n(), print),
             18 => self.end(n(), print),
+            23 => self.past(n(), u16::from_le_bytes([body[2], body[3]]), print),
             48 => self.open(body[0], u16::from_le_bytes([body[1], body[2]]), body[3], print),
             _ => refuse(7, print),
         }
@@ -220,10 +264,11 @@ fn refuse(number: u8, print: &mut String) {
 }
 
 /// How many bytes the body of a kind has; none for an unknown kind.
-fn body_length(kind: u8) -> Option<usize> {
+fn body_length(kind: u8, rules: Rules) -> Option<usize> {
     match kind {
         1..=6 => Some(4 * usize::from(kind)),
         16..=18 => Some(2),
+        23 if rules.past => Some(4),
         32 | 33 => Some(6),
         48 => Some(4),
         _ => None,
@@ -231,12 +276,12 @@ fn body_length(kind: u8) -> Option<usize> {
 }
 
 /// The print of a tape: its frames played in turn, up to its end or the first unknown or cut frame.
-pub fn print_of(tape: &[u8], plant: Plant) -> String {
-    let mut model = Model::new(plant);
+pub fn print_of(tape: &[u8], rules: Rules) -> String {
+    let mut model = Model::new(rules);
     let mut print = String::new();
     let mut rest = tape;
     while let Some((&kind, behind)) = rest.split_first() {
-        let Some(length) = body_length(kind) else {
+        let Some(length) = body_length(kind, rules) else {
             refuse(1, &mut print);
             return print;
         };

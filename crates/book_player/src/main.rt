@@ -44,6 +44,7 @@ fn first_desk() -> Desk {
             columns: 6144,
             positions: 1024,
             lower_ends: 1024,
+            upper_ends: 1024,
             out: 57400,
         },
         seen: Seen::Nothing,
@@ -155,25 +156,28 @@ fn play(
     columns: &mut [u32],
     positions: &mut [u32],
     lower_ends: &mut [u32],
+    upper_ends: &mut [u32],
     out: &mut [u8],
     cells: &mut [u32],
 ) -> Desk {
     let mut now = player_desk::begin(desk, line);
-    now = player_desk::play_open(now, line, columns, positions, lower_ends);
-    now = player_desk::play_quote(now, line, columns, positions, lower_ends, out);
-    now = player_desk::play_look(now, line, columns, positions, lower_ends, cells);
-    now = player_desk::play_watch(now, line, columns, positions, lower_ends, out);
-    now = player_desk::play_end(now, line, columns, positions, lower_ends);
-    now = player_desk::play_audit(now, line, columns, positions, lower_ends);
+    now = player_desk::play_open(now, line, columns, positions, lower_ends, upper_ends);
+    now = player_desk::play_quote(now, line, columns, positions, lower_ends, upper_ends, out);
+    now = player_desk::play_look(now, line, columns, positions, lower_ends, upper_ends, cells);
+    now = player_desk::play_past(now, line, columns, positions, lower_ends, upper_ends, cells);
+    now = player_desk::play_watch(now, line, columns, positions, lower_ends, upper_ends, out);
+    now = player_desk::play_end(now, line, columns, positions, lower_ends, upper_ends);
+    now = player_desk::play_audit(now, line, columns, positions, lower_ends, upper_ends);
     now = player_desk::play_lend(now, line);
     now = player_desk::play_head(now, line);
-    player_desk::play_cell(now, line, columns, positions, lower_ends)
+    player_desk::play_cell(now, line, columns, positions, lower_ends, upper_ends)
 }
 
 fn main() {
     let mut columns = [0u32; 6144];
     let mut positions = [0u32; 1024];
     let mut lower_ends = [0u32; 1024];
+    let mut upper_ends = [0u32; 1024];
     let mut out = [0u8; 57400];
     let mut cells = [0u32; 57400];
     let mut text = [0u8; 65536];
@@ -206,6 +210,7 @@ fn main() {
             &mut columns,
             &mut positions,
             &mut lower_ends,
+            &mut upper_ends,
             &mut out,
             &mut cells,
         );
@@ -216,6 +221,7 @@ fn main() {
             &columns,
             &positions,
             &lower_ends,
+            &upper_ends,
             &out,
             &cells,
             &mut lines,

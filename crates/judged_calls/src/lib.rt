@@ -54,16 +54,26 @@ pub fn take(
     columns: &mut [u32],
     positions: &mut [u32],
     lower_ends: &mut [u32],
+    upper_ends: &mut [u32],
     records: [Watch; 8],
     out: &mut [u8],
 ) -> Head {
-    let reply = by_value::quote(head, &quote, columns, positions, lower_ends, records, out);
+    let reply = by_value::quote(
+        head,
+        &quote,
+        columns,
+        positions,
+        lower_ends,
+        upper_ends,
+        records,
+        out,
+    );
     let answer = reply.answer;
     let next = reply.head;
     let count = reply.count;
     match answer {
         Answer::Accepted => {
-            let numbers = [next.newest, next.rows];
+            let numbers = [next.newest, next.live];
             print(b'Q', &numbers);
             print_changes(out, count);
         }
@@ -81,6 +91,7 @@ pub fn take_all(
     columns: &mut [u32],
     positions: &mut [u32],
     lower_ends: &mut [u32],
+    upper_ends: &mut [u32],
     records: [Watch; 8],
     out: &mut [u8],
 ) -> Head {
@@ -88,16 +99,40 @@ pub fn take_all(
     let mut i = 0;
     while i + 1 < quotes.len() {
         let quote = [quotes[i], quotes[i + 1]];
-        now = take(now, quote, columns, positions, lower_ends, records, out);
+        now = take(
+            now,
+            quote,
+            columns,
+            positions,
+            lower_ends,
+            upper_ends,
+            records,
+            out,
+        );
         i += 2;
     }
     now
 }
 
 // Looks at the list of n, and prints it, or the refusal.
-pub fn look(head: Head, n: u32, columns: &[u32], positions: &[u32], lower_ends: &[u32]) {
+pub fn look(
+    head: Head,
+    n: u32,
+    columns: &[u32],
+    positions: &[u32],
+    lower_ends: &[u32],
+    upper_ends: &[u32],
+) {
     let mut cells = [0u32; 9];
-    let reply = book::look(head, n, columns, positions, lower_ends, &mut cells[1..]);
+    let reply = book::look(
+        head,
+        n,
+        columns,
+        positions,
+        lower_ends,
+        upper_ends,
+        &mut cells[1..],
+    );
     let answer = reply.answer;
     let count = reply.count;
     match answer {
@@ -114,9 +149,53 @@ pub fn look(head: Head, n: u32, columns: &[u32], positions: &[u32], lower_ends: 
     }
 }
 
+// Looks at the past list of n1 and n2, and prints it, or the refusal.
+pub fn past(
+    head: Head,
+    n1: u32,
+    n2: u32,
+    columns: &[u32],
+    positions: &[u32],
+    lower_ends: &[u32],
+    upper_ends: &[u32],
+) {
+    let mut cells = [0u32; 10];
+    let reply = book::past(
+        head,
+        n1,
+        n2,
+        columns,
+        positions,
+        lower_ends,
+        upper_ends,
+        &mut cells[2..],
+    );
+    let answer = reply.answer;
+    let count = reply.count;
+    match answer {
+        Answer::Accepted => {
+            cells[0] = n1;
+            cells[1] = n2;
+            if count <= 8 {
+                let end = count + 2;
+                print(b'P', &cells[..end]);
+            }
+        }
+        Answer::Refused(_) => {
+            print_refusal(answer);
+        }
+    }
+}
+
 // Prints what the audit says: 1 for yes, 0 for no, or the refusal.
-pub fn audit(head: Head, columns: &[u32], positions: &[u32], lower_ends: &[u32]) {
-    let verdict = audits::audit(head, columns, positions, lower_ends);
+pub fn audit(
+    head: Head,
+    columns: &[u32],
+    positions: &[u32],
+    lower_ends: &[u32],
+    upper_ends: &[u32],
+) {
+    let verdict = audits::audit(head, columns, positions, lower_ends, upper_ends);
     match verdict {
         Verdict::Yes => print(b'A', &[1]),
         Verdict::No => print(b'A', &[0]),
@@ -132,9 +211,10 @@ pub fn open(
     columns: &mut [u32],
     positions: &mut [u32],
     lower_ends: &mut [u32],
+    upper_ends: &mut [u32],
     records: [Watch; 8],
 ) -> Made {
-    let made = by_value::open(2, 5, 0, columns, positions, lower_ends, records);
+    let made = by_value::open(2, 5, 0, columns, positions, lower_ends, upper_ends, records);
     let reply = made.reply;
     let answer = reply.answer;
     match answer {
@@ -155,10 +235,20 @@ pub fn watch(
     columns: &[u32],
     positions: &[u32],
     lower_ends: &[u32],
+    upper_ends: &[u32],
     records: [Watch; 8],
     out: &mut [u8],
 ) -> [Watch; 8] {
-    let made = by_value::watch(head, n, columns, positions, lower_ends, records, out);
+    let made = by_value::watch(
+        head,
+        n,
+        columns,
+        positions,
+        lower_ends,
+        upper_ends,
+        records,
+        out,
+    );
     let reply = made.reply;
     let answer = reply.answer;
     let count = reply.count;
@@ -182,9 +272,10 @@ pub fn end(
     columns: &[u32],
     positions: &[u32],
     lower_ends: &[u32],
+    upper_ends: &[u32],
     records: [Watch; 8],
 ) -> [Watch; 8] {
-    let made = by_value::end(head, n, columns, positions, lower_ends, records);
+    let made = by_value::end(head, n, columns, positions, lower_ends, upper_ends, records);
     let reply = made.reply;
     let answer = reply.answer;
     match answer {
@@ -212,7 +303,7 @@ pub fn find(records: [Watch; 8], n: u32) {
 
 // What the head tells of itself: the first position of the window of n, and the next position.
 pub fn tell(head: Head, n: u32) {
-    let next = head.after_quote(head.rows);
+    let next = head.after_quote(head.live, head.held);
     let still = head.after_watch();
     if head.window_start(n) <= 16777215 {
         let numbers = [n, head.window_start(n) as u32, next.newest, still.newest];
@@ -247,7 +338,7 @@ pub fn there_and_back(n: u16) {
 }
 
 // Writes the first bytes of a frame's lines, so many.
-fn write_lines(text: &[u8; 208077], count: usize) {
+fn write_lines(text: &[u8; 208088], count: usize) {
     write_front(&text[..], count);
 }
 
@@ -264,8 +355,9 @@ pub fn play_opening() {
     let mut columns = [0u32; 2];
     let mut positions = [0u32; 2];
     let mut lower_ends = [0u32; 2];
+    let mut upper_ends = [0u32; 2];
     let mut bytes = [0u8; 57400];
-    let mut text = [0u8; 208077];
+    let mut text = [0u8; 208088];
     if tape::ready(&frame, 0) {
         let step = tape::play(
             &frame,
@@ -274,6 +366,7 @@ pub fn play_opening() {
             &mut columns,
             &mut positions,
             &mut lower_ends,
+            &mut upper_ends,
             [0; 8],
             &mut bytes,
             &mut text,

@@ -11,6 +11,7 @@ pub use making::play_audit;
 pub use making::play_end;
 pub use making::play_look;
 pub use making::play_open;
+pub use making::play_past;
 pub use making::play_quote;
 pub use making::play_watch;
 pub use poking::begin;
@@ -34,6 +35,7 @@ pub struct Loan {
     pub columns: usize,
     pub positions: usize,
     pub lower_ends: usize,
+    pub upper_ends: usize,
     pub out: usize,
 }
 

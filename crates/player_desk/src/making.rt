@@ -32,6 +32,7 @@ pub fn play_open(
     columns: &mut [u32],
     positions: &mut [u32],
     lower_ends: &mut [u32],
+    upper_ends: &mut [u32],
 ) -> Desk {
     let command = line.command;
     if let Command::Open = command {
@@ -41,6 +42,7 @@ pub fn play_open(
         let c = least(loan.columns, columns.len());
         let p = least(loan.positions, positions.len());
         let l = least(loan.lower_ends, lower_ends.len());
+        let u = least(loan.upper_ends, upper_ends.len());
         let made = by_value::open(
             numbers[0],
             numbers[1],
@@ -48,6 +50,7 @@ pub fn play_open(
             &mut columns[..c],
             &mut positions[..p],
             &mut lower_ends[..l],
+            &mut upper_ends[..u],
             records,
         );
         return opened(desk, made);
@@ -92,6 +95,7 @@ pub fn play_quote(
     columns: &mut [u32],
     positions: &mut [u32],
     lower_ends: &mut [u32],
+    upper_ends: &mut [u32],
     out: &mut [u8],
 ) -> Desk {
     let command = line.command;
@@ -118,6 +122,7 @@ pub fn play_quote(
         let c = least(loan.columns, columns.len());
         let p = least(loan.positions, positions.len());
         let l = least(loan.lower_ends, lower_ends.len());
+        let u = least(loan.upper_ends, upper_ends.len());
         let o = least(loan.out, out.len());
         let reply = by_value::quote(
             head,
@@ -125,6 +130,7 @@ pub fn play_quote(
             &mut columns[..c],
             &mut positions[..p],
             &mut lower_ends[..l],
+            &mut upper_ends[..u],
             records,
             &mut out[..o],
         );
@@ -140,6 +146,7 @@ pub fn play_look(
     columns: &[u32],
     positions: &[u32],
     lower_ends: &[u32],
+    upper_ends: &[u32],
     cells: &mut [u32],
 ) -> Desk {
     let command = line.command;
@@ -150,6 +157,7 @@ pub fn play_look(
         let c = least(loan.columns, columns.len());
         let p = least(loan.positions, positions.len());
         let l = least(loan.lower_ends, lower_ends.len());
+        let u = least(loan.upper_ends, upper_ends.len());
         let o = least(loan.out, cells.len());
         let reply = book::look(
             head,
@@ -157,6 +165,42 @@ pub fn play_look(
             &columns[..c],
             &positions[..p],
             &lower_ends[..l],
+            &upper_ends[..u],
+            &mut cells[..o],
+        );
+        return replied(desk, reply, Seen::Cells);
+    }
+    desk
+}
+
+// A look at a past list, with as many cells as bytes are lent.
+pub fn play_past(
+    desk: Desk,
+    line: Line,
+    columns: &[u32],
+    positions: &[u32],
+    lower_ends: &[u32],
+    upper_ends: &[u32],
+    cells: &mut [u32],
+) -> Desk {
+    let command = line.command;
+    if let Command::Past = command {
+        let numbers = line.numbers;
+        let head = desk.head;
+        let loan = desk.loan;
+        let c = least(loan.columns, columns.len());
+        let p = least(loan.positions, positions.len());
+        let l = least(loan.lower_ends, lower_ends.len());
+        let u = least(loan.upper_ends, upper_ends.len());
+        let o = least(loan.out, cells.len());
+        let reply = book::past(
+            head,
+            numbers[0],
+            numbers[1],
+            &columns[..c],
+            &positions[..p],
+            &lower_ends[..l],
+            &upper_ends[..u],
             &mut cells[..o],
         );
         return replied(desk, reply, Seen::Cells);
@@ -171,6 +215,7 @@ pub fn play_watch(
     columns: &[u32],
     positions: &[u32],
     lower_ends: &[u32],
+    upper_ends: &[u32],
     out: &mut [u8],
 ) -> Desk {
     let command = line.command;
@@ -182,6 +227,7 @@ pub fn play_watch(
         let c = least(loan.columns, columns.len());
         let p = least(loan.positions, positions.len());
         let l = least(loan.lower_ends, lower_ends.len());
+        let u = least(loan.upper_ends, upper_ends.len());
         let o = least(loan.out, out.len());
         let made = by_value::watch(
             head,
@@ -189,6 +235,7 @@ pub fn play_watch(
             &columns[..c],
             &positions[..p],
             &lower_ends[..l],
+            &upper_ends[..u],
             records,
             &mut out[..o],
         );
@@ -204,6 +251,7 @@ pub fn play_end(
     columns: &[u32],
     positions: &[u32],
     lower_ends: &[u32],
+    upper_ends: &[u32],
 ) -> Desk {
     let command = line.command;
     if let Command::End = command {
@@ -214,12 +262,14 @@ pub fn play_end(
         let c = least(loan.columns, columns.len());
         let p = least(loan.positions, positions.len());
         let l = least(loan.lower_ends, lower_ends.len());
+        let u = least(loan.upper_ends, upper_ends.len());
         let made = by_value::end(
             head,
             numbers[0],
             &columns[..c],
             &positions[..p],
             &lower_ends[..l],
+            &upper_ends[..u],
             records,
         );
         return recorded(desk, made);
@@ -234,6 +284,7 @@ pub fn play_audit(
     columns: &[u32],
     positions: &[u32],
     lower_ends: &[u32],
+    upper_ends: &[u32],
 ) -> Desk {
     let command = line.command;
     if let Command::Audit = command {
@@ -242,7 +293,14 @@ pub fn play_audit(
         let c = least(loan.columns, columns.len());
         let p = least(loan.positions, positions.len());
         let l = least(loan.lower_ends, lower_ends.len());
-        let verdict = audits::audit(head, &columns[..c], &positions[..p], &lower_ends[..l]);
+        let u = least(loan.upper_ends, upper_ends.len());
+        let verdict = audits::audit(
+            head,
+            &columns[..c],
+            &positions[..p],
+            &lower_ends[..l],
+            &upper_ends[..u],
+        );
         return desk.judged(verdict);
     }
     desk

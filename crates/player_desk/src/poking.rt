@@ -29,6 +29,7 @@ fn full(name: Name) -> usize {
         Name::Columns => 6144,
         Name::Positions => 1024,
         Name::Lower => 1024,
+        Name::Upper => 1024,
         Name::Out => 57400,
         _ => 0,
     }
@@ -55,6 +56,9 @@ fn lent(loan: Loan, name: Name, k: usize) -> Loan {
         }
         Name::Lower => {
             now.lower_ends = k;
+        }
+        Name::Upper => {
+            now.upper_ends = k;
         }
         _ => {
             now.out = k;
@@ -93,7 +97,8 @@ pub fn play_head(desk: Desk, line: Line) -> Desk {
             capacity: numbers[1],
             directions: numbers[2],
             newest: numbers[3],
-            rows: numbers[4],
+            live: numbers[4],
+            held: numbers[5],
         };
         return desk.holding(head, records);
     }
@@ -128,6 +133,7 @@ pub fn play_cell(
     columns: &mut [u32],
     positions: &mut [u32],
     lower_ends: &mut [u32],
+    upper_ends: &mut [u32],
 ) -> Desk {
     let command = line.command;
     let name = line.name;
@@ -139,6 +145,7 @@ pub fn play_cell(
             Name::Columns => poked(desk, columns, i, v),
             Name::Positions => poked(desk, positions, i, v),
             Name::Lower => poked(desk, lower_ends, i, v),
+            Name::Upper => poked(desk, upper_ends, i, v),
             Name::Watches => marked(desk, i, v),
             _ => desk.showing(Seen::Unread),
         };

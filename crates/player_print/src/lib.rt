@@ -144,7 +144,8 @@ fn put_reply(print: Print, desk: Desk, gathered: &mut [u8]) -> Print {
         head.capacity,
         head.directions,
         head.newest,
-        head.rows,
+        head.live,
+        head.held,
     ];
     put_short(print, b'A', &numbers, gathered)
 }
@@ -216,6 +217,7 @@ fn put_tables(
     columns: &[u32],
     positions: &[u32],
     lower_ends: &[u32],
+    upper_ends: &[u32],
     gathered: &mut [u8],
 ) -> Print {
     let head = desk.head;
@@ -223,6 +225,7 @@ fn put_tables(
     let mut now = put_cells(print, b'C', columns, column_cells(head), gathered);
     now = put_cells(now, b'P', positions, n, gathered);
     now = put_cells(now, b'E', lower_ends, n, gathered);
+    now = put_cells(now, b'U', upper_ends, n, gathered);
     put_records(now, desk, gathered)
 }
 
@@ -260,6 +263,7 @@ pub fn print_line(
     columns: &[u32],
     positions: &[u32],
     lower_ends: &[u32],
+    upper_ends: &[u32],
     out: &[u8],
     cells: &[u32],
     gathered: &mut [u8],
@@ -276,6 +280,14 @@ pub fn print_line(
         Seen::Bytes => put_bytes_reply(now, desk, out, gathered),
         Seen::Cells => put_cells_reply(now, desk, cells, gathered),
         Seen::Verdict => put_verdict(now, desk, gathered),
-        Seen::Tables => put_tables(now, desk, columns, positions, lower_ends, gathered),
+        Seen::Tables => put_tables(
+            now,
+            desk,
+            columns,
+            positions,
+            lower_ends,
+            upper_ends,
+            gathered,
+        ),
     }
 }

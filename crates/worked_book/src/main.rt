@@ -1,4 +1,4 @@
-// A worked book: opens, quotes, looks, watches, ends and audits on real buffers, and judges and prints each answer; then it draws the
+// A worked book: opens, quotes, looks, looks back, watches, ends and audits on real buffers, and judges and prints each answer; then it draws the
 // refusals that the calls give, writes and reads a frame, and plays one.
 use head::Head;
 use head::Watch;
@@ -7,6 +7,7 @@ use judged_calls::end;
 use judged_calls::find;
 use judged_calls::look;
 use judged_calls::open;
+use judged_calls::past;
 use judged_calls::play_opening;
 use judged_calls::print_answer;
 use judged_calls::take;
@@ -15,27 +16,47 @@ use judged_calls::tell;
 use judged_calls::there_and_back;
 use judged_calls::watch;
 
-// Refusals of calls that only read the tables, 5, 8, 10, 11, 12, 13, and the watch of 2 ended.
+// Refusals of calls that only read the tables, 5, 8, 10, 11, 12, 13, 14, and the watch of 2 ended.
 fn refusals(
     head: Head,
     columns: &[u32],
     positions: &[u32],
     lower_ends: &[u32],
+    upper_ends: &[u32],
     records: [Watch; 8],
 ) {
     let mut out = [0u8; 6];
     let mut wide = head;
     wide.capacity = 6;
     let mut torn = head;
-    torn.rows = 0;
-    look(head, 6, columns, positions, lower_ends);
-    watch(head, 2, columns, positions, lower_ends, records, &mut out);
-    end(head, 3, columns, positions, lower_ends, records);
-    look(wide, 1, columns, positions, lower_ends);
-    look(torn, 1, columns, positions, lower_ends);
-    watch(head, 5, columns, positions, lower_ends, records, &mut out);
+    torn.held = 0;
+    look(head, 6, columns, positions, lower_ends, upper_ends);
+    watch(
+        head,
+        2,
+        columns,
+        positions,
+        lower_ends,
+        upper_ends,
+        records,
+        &mut out,
+    );
+    end(head, 3, columns, positions, lower_ends, upper_ends, records);
+    look(wide, 1, columns, positions, lower_ends, upper_ends);
+    look(torn, 1, columns, positions, lower_ends, upper_ends);
+    watch(
+        head,
+        5,
+        columns,
+        positions,
+        lower_ends,
+        upper_ends,
+        records,
+        &mut out,
+    );
+    past(head, 3, 2, columns, positions, lower_ends, upper_ends);
     find(records, 2);
-    let ended = end(head, 2, columns, positions, lower_ends, records);
+    let ended = end(head, 2, columns, positions, lower_ends, upper_ends, records);
     find(ended, 2);
 }
 
@@ -44,6 +65,7 @@ fn refuse_opening() {
     let mut columns = [0u32; 63];
     let mut positions = [0u32; 9];
     let mut lower_ends = [0u32; 9];
+    let mut upper_ends = [0u32; 9];
     let records = [Watch { n: 0 }; 8];
     let made = by_value::open(
         7,
@@ -52,6 +74,7 @@ fn refuse_opening() {
         &mut columns,
         &mut positions,
         &mut lower_ends,
+        &mut upper_ends,
         records,
     );
     let reply = made.reply;
@@ -75,20 +98,32 @@ fn all_watched() -> [Watch; 8] {
 // Refusals on a book of one column at its limits, the last position and eight watches: 4, 9, 6.
 fn limits() {
     let mut columns = [0u32; 9];
-    let mut positions = [0u32; 9];
+    let mut positions = [
+        16777207,
+        16777208,
+        16777209,
+        16777210,
+        16777211,
+        16777212,
+        16777213,
+        16777214,
+        16777215,
+    ];
     let mut lower_ends = [0u32; 9];
+    let mut upper_ends = [0u32; 9];
     let mut out = [0u8; 100];
     let records = all_watched();
-    positions[0] = Head::MAX_POSITION;
     let mut head = Head::fresh(1, 9, 0);
     head.newest = Head::MAX_POSITION;
-    head.rows = 1;
+    head.live = 9;
+    head.held = 9;
     take(
         head,
         [1, 2],
         &mut columns,
         &mut positions,
         &mut lower_ends,
+        &mut upper_ends,
         records,
         &mut out,
     );
@@ -98,6 +133,7 @@ fn limits() {
         &columns,
         &positions,
         &lower_ends,
+        &upper_ends,
         records,
         &mut out,
     );
@@ -108,6 +144,7 @@ fn limits() {
         &mut columns,
         &mut positions,
         &mut lower_ends,
+        &mut upper_ends,
         records,
         &mut out,
     ));
@@ -118,9 +155,16 @@ fn main() {
     let mut columns = [0u32; 10];
     let mut positions = [0u32; 5];
     let mut lower_ends = [0u32; 5];
+    let mut upper_ends = [0u32; 5];
     let mut out = [0u8; 57400];
     let none = [Watch { n: 0 }; 8];
-    let opened = open(&mut columns, &mut positions, &mut lower_ends, none);
+    let opened = open(
+        &mut columns,
+        &mut positions,
+        &mut lower_ends,
+        &mut upper_ends,
+        none,
+    );
     let reply = opened.reply;
     let empty = opened.records;
     let first = [5, 5, 3, 8, 4, 4, 7, 2, 4, 4];
@@ -130,10 +174,20 @@ fn main() {
         &mut columns,
         &mut positions,
         &mut lower_ends,
+        &mut upper_ends,
         empty,
         &mut out,
     );
-    let records = watch(five, 2, &columns, &positions, &lower_ends, empty, &mut out);
+    let records = watch(
+        five,
+        2,
+        &columns,
+        &positions,
+        &lower_ends,
+        &upper_ends,
+        empty,
+        &mut out,
+    );
     let sixth = [6, 6];
     let six = take_all(
         five,
@@ -141,10 +195,11 @@ fn main() {
         &mut columns,
         &mut positions,
         &mut lower_ends,
+        &mut upper_ends,
         records,
         &mut out,
     );
-    look(six, 5, &columns, &positions, &lower_ends);
+    look(six, 5, &columns, &positions, &lower_ends, &upper_ends);
     let last = [2, 9, 4, 3];
     let eight = take_all(
         six,
@@ -152,13 +207,22 @@ fn main() {
         &mut columns,
         &mut positions,
         &mut lower_ends,
+        &mut upper_ends,
         records,
         &mut out,
     );
-    look(eight, 3, &columns, &positions, &lower_ends);
-    audit(eight, &columns, &positions, &lower_ends);
+    look(eight, 3, &columns, &positions, &lower_ends, &upper_ends);
+    past(eight, 2, 5, &columns, &positions, &lower_ends, &upper_ends);
+    audit(eight, &columns, &positions, &lower_ends, &upper_ends);
     tell(eight, 3);
-    refusals(eight, &columns, &positions, &lower_ends, records);
+    refusals(
+        eight,
+        &columns,
+        &positions,
+        &lower_ends,
+        &upper_ends,
+        records,
+    );
     refuse_opening();
     limits();
     there_and_back(2);

@@ -1,16 +1,11 @@
 -- `look` meets its contract: n and the positions fit the cells that are printed.
-use mathlib.Core.Path.{_≡_}
-use Prim.Native.Nat.{ℕ, suc, _+_, _≤_}
-use mathlib.Core.List.{List, [], _++_, append-nil}
-use lib.ListN.{length, length-take}
+use mathlib.Core.List.{append-nil}
+use lib.ListN.{length-take}
 use native.Mathlib.Omega.{arith}
 use borrow.Author.Needs.{needs}
+use Rattle.judged_calls.proofs.Cells.{fits}
 use Rattle.judged_calls.proofs.look.Statement.{statement}
 use Rattle.judged_calls.proofs.look.Tie as tie
-
--- n and at most eight positions fit nine cells
-fits : (k : ℕ) (l : List ℕ) → k ≤ 8 → length l ≡ 8 → k + 1 ≤ suc (length (l ++ []))
-fits k l h e = rw (append-nil l) (omega arith)
 
 sub-look : tie.Need-sub-look
 sub-look c = search needs
@@ -34,10 +29,10 @@ add-end : tie.Need-add-end
 add-end c = search needs
 
 array-share-prefix-cells : tie.Need-array-share-prefix-cells
-array-share-prefix-cells c = fits (c .before .before .before .before .look .result .count) (c .before .before .before .before .look .last .1 .1 .1 .1 .1 .0) (c .if1 .taken) (c .before .before .before .before .look .kept .1 .1 .1 .1 .1 .0)
+array-share-prefix-cells c = let l = c .before .before .before .before .look in omega (arith, fits (l .result .count) (l .last .1 .1 .1 .1 .1 .1 .0) (c .if1 .taken) (l .kept .1 .1 .1 .1 .1 .1 .0))
 
 slice-aggregate-print : tie.Need-slice-aggregate-print
-slice-aggregate-print c = simp (append-nil, length-take) (omega (arith, c .before .before .before .before .before .look .kept .1 .1 .1 .1 .1 .0))
+slice-aggregate-print c = simp (append-nil, length-take) (omega (arith, c .before .before .before .before .before .look .kept .1 .1 .1 .1 .1 .1 .0))
 
 print-requires : tie.Need-print-requires
 print-requires c κs = search needs

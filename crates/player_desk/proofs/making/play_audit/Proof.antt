@@ -17,6 +17,9 @@ least-requires-2 c κs = search needs
 least-requires-3 : tie.Need-least-requires-3
 least-requires-3 c κs = search needs
 
+least-requires-4 : tie.Need-least-requires-4
+least-requires-4 c κs = search needs
+
 slice-aggregate-audit : tie.Need-slice-aggregate-audit
 slice-aggregate-audit c = simp length-take (omega arith)
 
@@ -25,6 +28,9 @@ slice-aggregate-audit-2 c = simp length-take (omega arith)
 
 slice-aggregate-audit-3 : tie.Need-slice-aggregate-audit-3
 slice-aggregate-audit-3 c = simp length-take (omega arith)
+
+slice-aggregate-audit-4 : tie.Need-slice-aggregate-audit-4
+slice-aggregate-audit-4 c = simp length-take (omega arith)
 
 audit-requires : tie.Need-audit-requires
 audit-requires c κs = search needs
@@ -46,9 +52,11 @@ play-audit-spec =
     least-requires
     least-requires-2
     least-requires-3
+    least-requires-4
     slice-aggregate-audit
     slice-aggregate-audit-2
     slice-aggregate-audit-3
+    slice-aggregate-audit-4
     audit-requires
     judged-requires
     returns

@@ -17,6 +17,9 @@ least-requires-2 c κs = search needs
 least-requires-3 : tie.Need-least-requires-3
 least-requires-3 c κs = search needs
 
+least-requires-4 : tie.Need-least-requires-4
+least-requires-4 c κs = search needs
+
 array-read-end : tie.Need-array-read-end
 array-read-end c = search needs
 
@@ -28,6 +31,9 @@ slice-aggregate-end-2 c = simp length-take (omega arith)
 
 slice-aggregate-end-3 : tie.Need-slice-aggregate-end-3
 slice-aggregate-end-3 c = simp length-take (omega arith)
+
+slice-aggregate-end-4 : tie.Need-slice-aggregate-end-4
+slice-aggregate-end-4 c = simp length-take (omega arith)
 
 end-requires : tie.Need-end-requires
 end-requires c κs = search needs
@@ -49,10 +55,12 @@ play-end-spec =
     least-requires
     least-requires-2
     least-requires-3
+    least-requires-4
     array-read-end
     slice-aggregate-end
     slice-aggregate-end-2
     slice-aggregate-end-3
+    slice-aggregate-end-4
     end-requires
     recorded-requires
     returns

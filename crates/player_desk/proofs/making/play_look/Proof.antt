@@ -20,6 +20,9 @@ least-requires-3 c κs = search needs
 least-requires-4 : tie.Need-least-requires-4
 least-requires-4 c κs = search needs
 
+least-requires-5 : tie.Need-least-requires-5
+least-requires-5 c κs = search needs
+
 array-read-look : tie.Need-array-read-look
 array-read-look c = search needs
 
@@ -32,11 +35,14 @@ slice-aggregate-look-2 c = simp length-take (omega arith)
 slice-aggregate-look-3 : tie.Need-slice-aggregate-look-3
 slice-aggregate-look-3 c = simp length-take (omega arith)
 
+slice-aggregate-look-4 : tie.Need-slice-aggregate-look-4
+slice-aggregate-look-4 c = simp length-take (omega arith)
+
 slice-relend-prefix-look : tie.Need-slice-relend-prefix-look
 slice-relend-prefix-look c = search needs
 
-slice-aggregate-look-4 : tie.Need-slice-aggregate-look-4
-slice-aggregate-look-4 c = simp length-take (omega arith)
+slice-aggregate-look-5 : tie.Need-slice-aggregate-look-5
+slice-aggregate-look-5 c = simp length-take (omega arith)
 
 look-requires : tie.Need-look-requires
 look-requires c κs = search needs
@@ -62,12 +68,14 @@ play-look-spec =
     least-requires-2
     least-requires-3
     least-requires-4
+    least-requires-5
     array-read-look
     slice-aggregate-look
     slice-aggregate-look-2
     slice-aggregate-look-3
-    slice-relend-prefix-look
     slice-aggregate-look-4
+    slice-relend-prefix-look
+    slice-aggregate-look-5
     look-requires
     replied-requires
     same-length

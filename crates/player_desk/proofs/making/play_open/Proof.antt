@@ -17,6 +17,9 @@ least-requires-2 c κs = search needs
 least-requires-3 : tie.Need-least-requires-3
 least-requires-3 c κs = search needs
 
+least-requires-4 : tie.Need-least-requires-4
+least-requires-4 c κs = search needs
+
 array-read-open : tie.Need-array-read-open
 array-read-open c = search needs
 
@@ -44,6 +47,12 @@ slice-relend-prefix-open-3 c = search needs
 slice-aggregate-open-3 : tie.Need-slice-aggregate-open-3
 slice-aggregate-open-3 c = simp length-take (omega arith)
 
+slice-relend-prefix-open-4 : tie.Need-slice-relend-prefix-open-4
+slice-relend-prefix-open-4 c = search needs
+
+slice-aggregate-open-4 : tie.Need-slice-aggregate-open-4
+slice-aggregate-open-4 c = simp length-take (omega arith)
+
 open-requires : tie.Need-open-requires
 open-requires c κs = search needs
 
@@ -59,6 +68,9 @@ same-length-2 c = search needs
 same-length-3 : tie.Need-same-length-3
 same-length-3 c = search needs
 
+same-length-4 : tie.Need-same-length-4
+same-length-4 c = search needs
+
 returns : tie.Need-returns
 returns c = search needs
 
@@ -73,6 +85,7 @@ play-open-spec =
     least-requires
     least-requires-2
     least-requires-3
+    least-requires-4
     array-read-open
     array-read-open-2
     array-read-open-3
@@ -82,10 +95,13 @@ play-open-spec =
     slice-aggregate-open-2
     slice-relend-prefix-open-3
     slice-aggregate-open-3
+    slice-relend-prefix-open-4
+    slice-aggregate-open-4
     open-requires
     opened-requires
     same-length
     same-length-2
     same-length-3
+    same-length-4
     returns
     returns-2)

@@ -20,6 +20,9 @@ least-requires-3 c κs = search needs
 least-requires-4 : tie.Need-least-requires-4
 least-requires-4 c κs = search needs
 
+least-requires-5 : tie.Need-least-requires-5
+least-requires-5 c κs = search needs
+
 array-read-watch : tie.Need-array-read-watch
 array-read-watch c = search needs
 
@@ -32,11 +35,14 @@ slice-aggregate-watch-2 c = simp length-take (omega arith)
 slice-aggregate-watch-3 : tie.Need-slice-aggregate-watch-3
 slice-aggregate-watch-3 c = simp length-take (omega arith)
 
+slice-aggregate-watch-4 : tie.Need-slice-aggregate-watch-4
+slice-aggregate-watch-4 c = simp length-take (omega arith)
+
 slice-relend-prefix-watch : tie.Need-slice-relend-prefix-watch
 slice-relend-prefix-watch c = search needs
 
-slice-aggregate-watch-4 : tie.Need-slice-aggregate-watch-4
-slice-aggregate-watch-4 c = simp length-take (omega arith)
+slice-aggregate-watch-5 : tie.Need-slice-aggregate-watch-5
+slice-aggregate-watch-5 c = simp length-take (omega arith)
 
 watch-requires : tie.Need-watch-requires
 watch-requires c κs = search needs
@@ -62,12 +68,14 @@ play-watch-spec =
     least-requires-2
     least-requires-3
     least-requires-4
+    least-requires-5
     array-read-watch
     slice-aggregate-watch
     slice-aggregate-watch-2
     slice-aggregate-watch-3
-    slice-relend-prefix-watch
     slice-aggregate-watch-4
+    slice-relend-prefix-watch
+    slice-aggregate-watch-5
     watch-requires
     recorded-requires
     same-length
