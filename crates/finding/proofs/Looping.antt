@@ -145,22 +145,10 @@ module _ (s : Rows) where
       )
 
 -- where d is k, what is asked and said of rows of d columns is asked and said of rows of k
-module _ {d k directions : ℕ} {columns uppers quote : List ℕ} (e : d ≡ k) where
-  pub asked-at : {from to : ℕ} {places : List ℕ} {at : ℕ}
-      → (from ≤ to) × (Fits (rows d directions columns uppers quote) to × Room (rows d directions columns uppers quote) to places at)
-      → (from ≤ to) × (Fits (rows k directions columns uppers quote) to × Room (rows k directions columns uppers quote) to places at)
-  asked-at v = rw (← e) v
+pub dull-asked-at : {d k directions : ℕ} {columns uppers quote : List ℕ} {n : ℕ} → d ≡ k
+    → Fits (rows d directions columns uppers quote) n → Fits (rows k directions columns uppers quote) n
+dull-asked-at e v = rw (← e) v
 
-  pub said-at : {from to : ℕ} {places places' : List ℕ} {at : ℕ} {r : Found}
-      → Room (rows k directions columns uppers quote) from places' (r .at)
-      × ((b : ℕ) (rest : List ℕ) → to ≤ b → Scan (rows k directions columns uppers quote) to b rest places at → Outcome (rows k directions columns uppers quote) from b rest places' r)
-      → Room (rows d directions columns uppers quote) from places' (r .at)
-      × ((b : ℕ) (rest : List ℕ) → to ≤ b → Scan (rows d directions columns uppers quote) to b rest places at → Outcome (rows d directions columns uppers quote) from b rest places' r)
-  said-at v = rw e v
-
-  pub seek-asked-at : {from to : ℕ} → (from ≤ to) × Fits (rows d directions columns uppers quote) to → (from ≤ to) × Fits (rows k directions columns uppers quote) to
-  seek-asked-at v = rw (← e) v
-
-pub seek-said-at : {d k : ℕ} (directions : ℕ) (columns uppers quote : List ℕ) (from to : ℕ) {r : ℕ} → d ≡ k
-    → r ≡ youngest (rows k directions columns uppers quote) from to → r ≡ youngest (rows d directions columns uppers quote) from to
-seek-said-at directions columns uppers quote from to e v = rw e v
+pub dull-said-at : {d k : ℕ} (directions : ℕ) (columns uppers quote : List ℕ) (from : ℕ) {r : Bool} → d ≡ k
+    → r ≡ dullIn (rows k directions columns uppers quote) from 16 → r ≡ dullIn (rows d directions columns uppers quote) from 16
+dull-said-at directions columns uppers quote from e v = rw e v

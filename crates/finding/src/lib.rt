@@ -69,6 +69,88 @@ fn dull(
     all
 }
 
+// The same of rows of one column.
+fn dull_one(directions: u32, columns: &[u32], uppers: &[u32], quote: &[u32], from: usize) -> bool
+    requires { ⌜ Fits (rows 1 directions (now columns) (now uppers) (now quote)) (from + 16) ⌝ }
+    ensures { λ r. ⌜ r ≡ dullIn (rows 1 directions (now (columns .entry)) (now (uppers .entry)) (now (quote .entry))) from 16 ⌝ }
+{
+    dull(directions, 1, columns, uppers, quote, from)
+}
+
+// The same of rows of two columns.
+fn dull_two(directions: u32, columns: &[u32], uppers: &[u32], quote: &[u32], from: usize) -> bool
+    requires { ⌜ Fits (rows 2 directions (now columns) (now uppers) (now quote)) (from + 16) ⌝ }
+    ensures { λ r. ⌜ r ≡ dullIn (rows 2 directions (now (columns .entry)) (now (uppers .entry)) (now (quote .entry))) from 16 ⌝ }
+{
+    dull(directions, 2, columns, uppers, quote, from)
+}
+
+// The same of rows of three columns.
+fn dull_three(directions: u32, columns: &[u32], uppers: &[u32], quote: &[u32], from: usize) -> bool
+    requires { ⌜ Fits (rows 3 directions (now columns) (now uppers) (now quote)) (from + 16) ⌝ }
+    ensures { λ r. ⌜ r ≡ dullIn (rows 3 directions (now (columns .entry)) (now (uppers .entry)) (now (quote .entry))) from 16 ⌝ }
+{
+    dull(directions, 3, columns, uppers, quote, from)
+}
+
+// The same of rows of four columns.
+fn dull_four(directions: u32, columns: &[u32], uppers: &[u32], quote: &[u32], from: usize) -> bool
+    requires { ⌜ Fits (rows 4 directions (now columns) (now uppers) (now quote)) (from + 16) ⌝ }
+    ensures { λ r. ⌜ r ≡ dullIn (rows 4 directions (now (columns .entry)) (now (uppers .entry)) (now (quote .entry))) from 16 ⌝ }
+{
+    dull(directions, 4, columns, uppers, quote, from)
+}
+
+// The same of rows of five columns.
+fn dull_five(directions: u32, columns: &[u32], uppers: &[u32], quote: &[u32], from: usize) -> bool
+    requires { ⌜ Fits (rows 5 directions (now columns) (now uppers) (now quote)) (from + 16) ⌝ }
+    ensures { λ r. ⌜ r ≡ dullIn (rows 5 directions (now (columns .entry)) (now (uppers .entry)) (now (quote .entry))) from 16 ⌝ }
+{
+    dull(directions, 5, columns, uppers, quote, from)
+}
+
+// The same of rows of six columns.
+fn dull_six(directions: u32, columns: &[u32], uppers: &[u32], quote: &[u32], from: usize) -> bool
+    requires { ⌜ Fits (rows 6 directions (now columns) (now uppers) (now quote)) (from + 16) ⌝ }
+    ensures { λ r. ⌜ r ≡ dullIn (rows 6 directions (now (columns .entry)) (now (uppers .entry)) (now (quote .entry))) from 16 ⌝ }
+{
+    dull(directions, 6, columns, uppers, quote, from)
+}
+
+// The same, where the number of columns is one of 01's by a function of its own: the loop over the columns is then unrolled, and rows are
+// compared side by side.
+fn dull_columns(
+    directions: u32,
+    d: usize,
+    columns: &[u32],
+    uppers: &[u32],
+    quote: &[u32],
+    from: usize,
+) -> bool
+    requires { ⌜ Fits (rows d directions (now columns) (now uppers) (now quote)) (from + 16) ⌝ }
+    ensures { λ r. ⌜ r ≡ dullIn (rows d directions (now (columns .entry)) (now (uppers .entry)) (now (quote .entry))) from 16 ⌝ }
+{
+    if d == 1 {
+        return dull_one(directions, columns, uppers, quote, from);
+    }
+    if d == 2 {
+        return dull_two(directions, columns, uppers, quote, from);
+    }
+    if d == 3 {
+        return dull_three(directions, columns, uppers, quote, from);
+    }
+    if d == 4 {
+        return dull_four(directions, columns, uppers, quote, from);
+    }
+    if d == 5 {
+        return dull_five(directions, columns, uppers, quote, from);
+    }
+    if d == 6 {
+        return dull_six(directions, columns, uppers, quote, from);
+    }
+    dull(directions, d, columns, uppers, quote, from)
+}
+
 // Lists a place in front of those listed from at on, if the test passed. Returns from where on they are listed.
 fn push(places: &mut [u16], at: usize, place: usize, test: bool) -> usize
     requires { ⌜ 0 < at ⌝ }
@@ -162,7 +244,7 @@ fn scan_block(
         return Found { at, last: 0 };
     }
     if 8 < live {
-        if dull(directions, d, columns, uppers, quote, from) {
+        if dull_columns(directions, d, columns, uppers, quote, from) {
             return Found { at, last: 0 };
         }
     }
@@ -210,46 +292,6 @@ fn scan_blocks(
     scan(directions, d, columns, uppers, quote, from, i, places, left)
 }
 
-// Goes through the rows as above, with the number of columns known where it is one of 01's: the comparison of a row is then without a
-// loop.
-fn scan_columns(
-    directions: u32,
-    d: usize,
-    columns: &[u32],
-    uppers: &[u32],
-    quote: &[u32],
-    from: usize,
-    to: usize,
-    places: &mut [u16],
-    at: usize,
-) -> Found
-    requires { ⌜ from ≤ to ⌝ }
-    requires { ⌜ Fits (rows d directions (now columns) (now uppers) (now quote)) to ⌝ }
-    requires { ⌜ Room (rows d directions (now columns) (now uppers) (now quote)) to (now places) at ⌝ }
-    ensures { λ r. ⌜ Room (rows d directions (now (columns .entry)) (now (uppers .entry)) (now (quote .entry))) from (now (places .exit)) (r .at) ⌝ }
-    ensures { λ r. ⌜ ((b : ℕ) (rest : List ℕ) → to ≤ b → Scan (rows d directions (now (columns .entry)) (now (uppers .entry)) (now (quote .entry))) to b rest (now (places .entry)) at → Outcome (rows d directions (now (columns .entry)) (now (uppers .entry)) (now (quote .entry))) from b rest (now (places .exit)) r) ⌝ }
-{
-    if d == 1 {
-        return scan_blocks(directions, 1, columns, uppers, quote, from, to, places, at);
-    }
-    if d == 2 {
-        return scan_blocks(directions, 2, columns, uppers, quote, from, to, places, at);
-    }
-    if d == 3 {
-        return scan_blocks(directions, 3, columns, uppers, quote, from, to, places, at);
-    }
-    if d == 4 {
-        return scan_blocks(directions, 4, columns, uppers, quote, from, to, places, at);
-    }
-    if d == 5 {
-        return scan_blocks(directions, 5, columns, uppers, quote, from, to, places, at);
-    }
-    if d == 6 {
-        return scan_blocks(directions, 6, columns, uppers, quote, from, to, places, at);
-    }
-    scan_blocks(directions, d, columns, uppers, quote, from, to, places, at)
-}
-
 // Finds which of the rows from a place on and below another a quote retires, and the youngest of them over it, where the rows are as
 // calls leave them: no row need be gone through beyond the youngest live one over the quote.
 pub fn find_sound(
@@ -269,7 +311,7 @@ pub fn find_sound(
     ensures { λ r. ⌜ Finds (rows d directions (now (columns .entry)) (now (uppers .entry)) (now (quote .entry))) from to (now (places .exit)) r ⌝ }
 {
     let end = places.len();
-    scan_columns(directions, d, columns, uppers, quote, from, to, places, end)
+    scan_blocks(directions, d, columns, uppers, quote, from, to, places, end)
 }
 
 // The number of the youngest of the rows from a place on and below another that is over the quote, counted from 1, or 0.
@@ -309,7 +351,7 @@ fn seek_block(
     requires { ⌜ Fits (rows d directions (now columns) (now uppers) (now quote)) (from + 16) ⌝ }
     ensures { λ r. ⌜ r ≡ youngest (rows d directions (now (columns .entry)) (now (uppers .entry)) (now (quote .entry))) from (from + 16) ⌝ }
 {
-    if dull(directions, d, columns, uppers, quote, from) {
+    if dull_columns(directions, d, columns, uppers, quote, from) {
         return 0;
     }
     seek(directions, d, columns, uppers, quote, from, from + 16)
@@ -340,41 +382,6 @@ fn seek_blocks(
     seek(directions, d, columns, uppers, quote, from, i)
 }
 
-// The same, with the number of columns known where it is one of 01's.
-fn seek_columns(
-    directions: u32,
-    d: usize,
-    columns: &[u32],
-    uppers: &[u32],
-    quote: &[u32],
-    from: usize,
-    to: usize,
-) -> usize
-    requires { ⌜ from ≤ to ⌝ }
-    requires { ⌜ Fits (rows d directions (now columns) (now uppers) (now quote)) to ⌝ }
-    ensures { λ r. ⌜ r ≡ youngest (rows d directions (now (columns .entry)) (now (uppers .entry)) (now (quote .entry))) from to ⌝ }
-{
-    if d == 1 {
-        return seek_blocks(directions, 1, columns, uppers, quote, from, to);
-    }
-    if d == 2 {
-        return seek_blocks(directions, 2, columns, uppers, quote, from, to);
-    }
-    if d == 3 {
-        return seek_blocks(directions, 3, columns, uppers, quote, from, to);
-    }
-    if d == 4 {
-        return seek_blocks(directions, 4, columns, uppers, quote, from, to);
-    }
-    if d == 5 {
-        return seek_blocks(directions, 5, columns, uppers, quote, from, to);
-    }
-    if d == 6 {
-        return seek_blocks(directions, 6, columns, uppers, quote, from, to);
-    }
-    seek_blocks(directions, d, columns, uppers, quote, from, to)
-}
-
 // Where the rows that are left to go through end: at the row that was found, or at the first.
 fn end_of(last: usize, from: usize) -> usize
     ensures { λ r. ⌜ r ≡ cond (eqb last 0) from (last - 1) ⌝ }
@@ -402,7 +409,7 @@ fn retire(
     let mut end = to;
     let mut at = places.len();
     while from < end {
-        let found = scan_columns(directions, d, columns, uppers, quote, from, end, places, at);
+        let found = scan_blocks(directions, d, columns, uppers, quote, from, end, places, at);
         at = found.at;
         end = end_of(found.last, from);
     }
@@ -426,6 +433,6 @@ pub fn find_any(
     ensures { λ r. ⌜ Finds (rows d directions (now (columns .entry)) (now (uppers .entry)) (now (quote .entry))) from to (now (places .exit)) r ⌝ }
 {
     let at = retire(directions, d, columns, uppers, quote, from, to, places);
-    let last = seek_columns(directions, d, columns, uppers, quote, from, to);
+    let last = seek_blocks(directions, d, columns, uppers, quote, from, to);
     Found { at, last }
 }

@@ -18,17 +18,17 @@ abbrev μ-loop : tie.MeasureT-loop
 loop-holds : tie.Need-loop-holds Inv-loop μ-loop
 loop-holds c = retire-start _ (c .before .before .before .before .pre .0) (c .before .before .before .before .pre .1 .1)
 
-scan-columns-requires : tie.Need-scan-columns-requires Inv-loop μ-loop
-scan-columns-requires c κs = (c .before .before .loop .inv .least, (fits-less _ (c .before .before .loop .inv .most) (c .before .before .before .before .before .before .before .pre .1 .0), c .before .before .loop .inv .room))
+scan-blocks-requires : tie.Need-scan-blocks-requires Inv-loop μ-loop
+scan-blocks-requires c κs = (c .before .before .loop .inv .least, (fits-less _ (c .before .before .loop .inv .most) (c .before .before .before .before .before .before .before .pre .1 .0), c .before .before .loop .inv .room))
 
 end-of-requires : tie.Need-end-of-requires Inv-loop μ-loop
 end-of-requires c κs = search needs
 
 loop-less : tie.Need-loop-less Inv-loop μ-loop
-loop-less c = retire-turn _ (c .before .before .before .before .before .before .loop .inv) _ _ (c .before .before .before .scan-columns .ensures .0) (c .before .before .before .scan-columns .kept .1 .1 .1 .1 .1 .1 .1 .0) (c .before .before .before .scan-columns .ensures .1 _ _ (le-refl _) (retire-asked _ (c .before .before .before .before .before .before .loop .inv))) (c .end-of .ensures) (c .before .before .before .before .before .loop-test .taken) .1
+loop-less c = retire-turn _ (c .before .before .before .before .before .before .loop .inv) _ _ (c .before .before .before .scan-blocks .ensures .0) (c .before .before .before .scan-blocks .kept .1 .1 .1 .1 .1 .1 .1 .0) (c .before .before .before .scan-blocks .ensures .1 _ _ (le-refl _) (retire-asked _ (c .before .before .before .before .before .before .loop .inv))) (c .end-of .ensures) (c .before .before .before .before .before .loop-test .taken) .1
 
 loop-again : tie.Need-loop-again Inv-loop μ-loop
-loop-again c = retire-turn _ (c .before .before .before .before .before .before .loop .inv) _ _ (c .before .before .before .scan-columns .ensures .0) (c .before .before .before .scan-columns .kept .1 .1 .1 .1 .1 .1 .1 .0) (c .before .before .before .scan-columns .ensures .1 _ _ (le-refl _) (retire-asked _ (c .before .before .before .before .before .before .loop .inv))) (c .end-of .ensures) (c .before .before .before .before .before .loop-test .taken) .0
+loop-again c = retire-turn _ (c .before .before .before .before .before .before .loop .inv) _ _ (c .before .before .before .scan-blocks .ensures .0) (c .before .before .before .scan-blocks .kept .1 .1 .1 .1 .1 .1 .1 .0) (c .before .before .before .scan-blocks .ensures .1 _ _ (le-refl _) (retire-asked _ (c .before .before .before .before .before .before .loop .inv))) (c .end-of .ensures) (c .before .before .before .before .before .loop-test .taken) .0
 
 same-length : tie.Need-same-length Inv-loop μ-loop
 same-length c = c .before .loop .inv .same-length
@@ -43,7 +43,7 @@ retire-spec =
     Inv-loop
     μ-loop
     loop-holds
-    scan-columns-requires
+    scan-blocks-requires
     end-of-requires
     loop-less
     loop-again

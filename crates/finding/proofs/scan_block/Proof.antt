@@ -14,11 +14,11 @@ count-live-requires c κs = search needs
 returns : tie.Need-returns
 returns c = block-passed _ _ refl refl (c .before .before .before .before .before .before .pre .1) (none-in-block _ _ (sym (c .before .count-live .ensures) ∙ c .if1 .taken))
 
-dull-requires : tie.Need-dull-requires
-dull-requires c κs = search needs
+dull-columns-requires : tie.Need-dull-columns-requires
+dull-columns-requires c κs = search needs
 
 returns-2 : tie.Need-returns-2
-returns-2 c = block-passed _ _ refl refl (c .before .before .before .before .before .before .before .before .before .pre .1) (λ q u l t. dull-apart _ _ 16 (sym (c .before .dull .ensures) ∙ c .if3 .taken) q u l)
+returns-2 c = block-passed _ _ refl refl (c .before .before .before .before .before .before .before .before .before .pre .1) (λ q u l t. dull-apart _ _ 16 (sym (c .before .dull-columns .ensures) ∙ c .if3 .taken) q u l)
 
 add-scan : tie.Need-add-scan
 add-scan c = search needs
@@ -38,7 +38,7 @@ scan-block-spec =
     (tie.spec
     count-live-requires
     returns
-    dull-requires
+    dull-columns-requires
     returns-2
     add-scan
     scan-requires

@@ -6,11 +6,11 @@ use Rattle.finding.proofs.Seeking.{dull-youngest}
 use Rattle.finding.proofs.seek_block.Statement.{statement}
 use Rattle.finding.proofs.seek_block.Tie as tie
 
-dull-requires : tie.Need-dull-requires
-dull-requires c κs = search needs
+dull-columns-requires : tie.Need-dull-columns-requires
+dull-columns-requires c κs = search needs
 
 returns : tie.Need-returns
-returns c = dull-youngest _ _ (sym (c .before .dull .ensures) ∙ c .if1 .taken)
+returns c = dull-youngest _ _ (sym (c .before .dull-columns .ensures) ∙ c .if1 .taken)
 
 add-seek : tie.Need-add-seek
 add-seek c = search needs
@@ -22,4 +22,4 @@ returns-2 : tie.Need-returns-2
 returns-2 c = c .seek .ensures
 
 pub seek-block-spec : {M : Type 1} → statement M
-seek-block-spec = tie.close (tie.spec dull-requires returns add-seek seek-requires returns-2)
+seek-block-spec = tie.close (tie.spec dull-columns-requires returns add-seek seek-requires returns-2)
