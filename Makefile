@@ -13,7 +13,7 @@ TAPES ?= 20000
 LISTS ?= 20000
 RUNS ?= 9
 PLANTS := equal oldest window kept misprint upper
-CALL_PLANTS := renamed torn-first past early
+CALL_PLANTS := renamed torn-first past-memory early live-lower overwritten retired-lower fourteen-first live-zeros upper-free
 SAMPLES := $(basename $(wildcard tapes/*.txt))
 RUSTC := rustc --edition 2021 -O -D warnings
 
@@ -53,7 +53,7 @@ plants: build/plain_model build/random_calls $(PRINTER) $(PLAYER)
 	@for plant in $(CALL_PLANTS); do \
 	  tests/planted.sh $$plant 'the answers differ' build/random_calls --plant $$plant $(PLAYER) $(SEED) 1000; \
 	done
-	@tests/planted.sh worst 'the rules differ' build/random_calls --plant worst --rules
+	@tests/planted.sh upper-free-rules 'the rules differ' build/random_calls --plant upper-free --rules
 
 # the yardstick of make bench against the plain model, without the judgement and with it
 yardstick: build/plain_model build/yardstick
