@@ -12,9 +12,8 @@ SEED ?= 1
 TAPES ?= 20000
 LISTS ?= 20000
 RUNS ?= 9
-PAST := --past
 PLANTS := equal oldest window kept misprint upper
-CALL_PLANTS := renamed torn-first past early
+CALL_PLANTS := renamed torn-first past-memory early live-lower overwritten retired-lower fourteen-first live-zeros upper-free
 SAMPLES := $(basename $(wildcard tapes/*.txt))
 RUSTC := rustc --edition 2021 -O -D warnings
 
@@ -36,7 +35,7 @@ host:
 
 # the printer against the plain model on random and damaged tapes
 random: build/plain_model $(PRINTER)
-	@build/plain_model $(PAST) $(PRINTER) $(SEED) $(TAPES)
+	@build/plain_model $(PRINTER) $(SEED) $(TAPES)
 
 # the book player against the plain model of the calls, on random lists of calls and any tables
 random-calls: build/random_calls $(PLAYER)
@@ -49,17 +48,17 @@ rules: build/random_calls
 # a model with a bug planted must not agree with the printer, the player or the tapes
 plants: build/plain_model build/random_calls $(PRINTER) $(PLAYER)
 	@for plant in $(PLANTS); do \
-	  tests/planted.sh $$plant 'the prints differ' build/plain_model $(PAST) --plant $$plant $(PRINTER) $(SEED) 1000; \
+	  tests/planted.sh $$plant 'the prints differ' build/plain_model --plant $$plant $(PRINTER) $(SEED) 1000; \
 	done
 	@for plant in $(CALL_PLANTS); do \
 	  tests/planted.sh $$plant 'the answers differ' build/random_calls --plant $$plant $(PLAYER) $(SEED) 1000; \
 	done
-	@tests/planted.sh worst 'the rules differ' build/random_calls --plant worst --rules
+	@tests/planted.sh upper-free-rules 'the rules differ' build/random_calls --plant upper-free --rules
 
 # the yardstick of make bench against the plain model, without the judgement and with it
 yardstick: build/plain_model build/yardstick
-	build/plain_model --past build/yardstick $(SEED) $(TAPES)
-	build/plain_model --past 'build/yardstick --judged' $(SEED) $(TAPES)
+	build/plain_model build/yardstick $(SEED) $(TAPES)
+	build/plain_model 'build/yardstick --judged' $(SEED) $(TAPES)
 
 # the tape writer against a plain reading of the notation, and on the notation of each sample tape
 notation: build/notation $(WRITER)

@@ -26,16 +26,9 @@ pub enum Plant {
     Upper,
 }
 
-/// What a tape is printed by: the rules with a planted bug or none, and whether kind 23, a look at a past list, is known.
-#[derive(Clone, Copy)]
-pub struct Rules {
-    pub plant: Plant,
-    pub past: bool,
-}
-
 /// What the model holds: the settings, every quote accepted since they were taken, and the watched n, rising.
 struct Model {
-    rules: Rules,
+    plant: Plant,
     opened: bool,
     d: usize,
     memory: usize,
@@ -46,8 +39,8 @@ struct Model {
 
 impl Model {
     /// A model before any opening.
-    fn new(rules: Rules) -> Model {
-        Model { rules, opened: false, d: 0, memory: 0, directions: 0, quotes: Vec::new(), watched: Vec::new() }
+    fn new(plant: Plant) -> Model {
+        Model { plant, opened: false, d: 0, memory: 0, directions: 0, quotes: Vec::new(), watched: Vec::new() }
     }
 
     /// Whether value x is better than value y in column i.
@@ -64,13 +57,13 @@ impl Model {
         let (one, other) = (&self.quotes[p - 1], &self.quotes[q - 1]);
         let no_worse = (0..self.d).all(|i| !self.better(i, other[i], one[i]));
         let better = (0..self.d).any(|i| self.better(i, one[i], other[i]));
-        no_worse && (better || self.rules.plant == Plant::Equal && p != q)
+        no_worse && (better || self.plant == Plant::Equal && p != q)
     }
 
     /// The window of n: the larger of 1 and M - n + 1, up to M.
     fn window(&self, n: usize) -> RangeInclusive<usize> {
         let newest = self.quotes.len();
-        let start = match self.rules.plant {
+        let start = match self.plant {
             Plant::Window => (newest + 1).wrapping_sub(n),
             _ => (newest + 1).saturating_sub(n),
         };
@@ -85,7 +78,7 @@ impl Model {
 
     /// The list of n, by the definition or as a planted bug has it.
     fn list(&self, n: usize) -> Vec<usize> {
-        match self.rules.plant {
+        match self.plant {
             Plant::Oldest => self.listed_by_oldest(n),
             Plant::Kept => self.unbeaten(self.window(self.memory)).into_iter().filter(|p| self.window(n).contains(p)).collect(),
             _ => self.unbeaten(self.window(n)),
@@ -94,13 +87,13 @@ impl Model {
 
     /// The past list: the unbeaten positions among a to b, a the larger of 1 and M - n2 + 1, b = M - n1 + 1; empty if b is below 1.
     fn past_list(&self, n1: usize, n2: usize) -> Vec<usize> {
-        let back = if self.rules.plant == Plant::Misprint { n1 + 1 } else { n1 - 1 };
+        let back = if self.plant == Plant::Misprint { n1 + 1 } else { n1 - 1 };
         let (a, b) = (*self.window(n2).start(), self.quotes.len() as isize - back as isize);
         if b < 1 {
             return Vec::new();
         }
         let b = b as usize;
-        if self.rules.plant == Plant::Upper {
+        if self.plant == Plant::Upper {
             return (a..=b).filter(|&p| !(a..p).any(|q| self.beats(q, p))).collect();
         }
         self.unbeaten(a..=b)
@@ -116,7 +109,7 @@ impl Model {
 
     /// The positions of the window of N that no younger quote beats, rising.
     fn rows(&self) -> Vec<usize> {
-        if self.rules.plant == Plant::Kept {
+        if self.plant == Plant::Kept {
             return self.unbeaten(self.window(self.memory));
         }
         let newest = self.quotes.len();
@@ -264,24 +257,23 @@ fn refuse(number: u8, print: &mut String) {
 }
 
 /// How many bytes the body of a kind has; none for an unknown kind.
-fn body_length(kind: u8, rules: Rules) -> Option<usize> {
+fn body_length(kind: u8) -> Option<usize> {
     match kind {
         1..=6 => Some(4 * usize::from(kind)),
         16..=18 => Some(2),
-        23 if rules.past => Some(4),
+        23 | 48 => Some(4),
         32 | 33 => Some(6),
-        48 => Some(4),
         _ => None,
     }
 }
 
 /// The print of a tape: its frames played in turn, up to its end or the first unknown or cut frame.
-pub fn print_of(tape: &[u8], rules: Rules) -> String {
-    let mut model = Model::new(rules);
+pub fn print_of(tape: &[u8], plant: Plant) -> String {
+    let mut model = Model::new(plant);
     let mut print = String::new();
     let mut rest = tape;
     while let Some((&kind, behind)) = rest.split_first() {
-        let Some(length) = body_length(kind, rules) else {
+        let Some(length) = body_length(kind) else {
             refuse(1, &mut print);
             return print;
         };

@@ -1,10 +1,10 @@
 //! Plays random and damaged tapes through the tape printer and through a plain model of the format, and compares what they print,
 //! byte for byte.
 //!
-//! usage: plain_model [--past] [--plant equal|oldest|window|kept|misprint|upper] PRINTER [SEED [TAPES]]
-//!                                            compare the printer, a command with its arguments, with the model, or with a model that has
-//!                                            a bug planted, on random tapes; with --past they have looks at past lists, kind 23
-//!        plain_model [--past] --print < TAPE print a tape by the model alone
+//! usage: plain_model [--plant equal|oldest|window|kept|misprint|upper] PRINTER [SEED [TAPES]]
+//!                                       compare the printer, a command with its arguments, with the model, or with a model that has a bug
+//!                                       planted, on random tapes
+//!        plain_model --print < TAPE     print a tape by the model alone
 
 mod frames;
 mod model;
@@ -12,21 +12,21 @@ mod piped;
 mod random;
 mod random_tapes;
 
-use model::{print_of, Plant, Rules};
+use model::{print_of, Plant};
 use std::io::Read;
 use std::sync::atomic::{AtomicBool, AtomicUsize, Ordering};
 use std::time::Instant;
 
 const THREADS: usize = 2;
-/// The letters of lines; the last one is that of a past list.
+/// The letters of lines.
 const LETTERS: &str = "OQLWU-+RP";
-/// The refusals that a tape of some quotes can bring, 6 asks for 16,777,215 of them; the last one is that of a past list.
+/// The refusals that a tape of some quotes can bring; 6 asks for 16,777,215 of them.
 const REFUSALS: [usize; 10] = [1, 2, 3, 4, 5, 7, 8, 9, 10, 14];
 
 /// What is compared: the printer and the model with a planted bug or none, on the tapes of a seed; the label names failing tapes.
 struct Comparison {
     printer: String,
-    rules: Rules,
+    plant: Plant,
     seed: u64,
     label: String,
 }
@@ -65,15 +65,13 @@ impl Tally {
         }
     }
 
-    /// Says how often each letter and each refusal came, and whether every one did; those of past lists only where there are any.
-    fn covers(&self, past: bool) -> bool {
-        let known = |all: usize| if past { all } else { all - 1 };
-        let letters = &self.letters[..known(LETTERS.len())];
-        let refusals: Vec<_> = REFUSALS[..known(REFUSALS.len())].iter().map(|&number| (number, self.refusals[number])).collect();
-        let said: Vec<_> = LETTERS.chars().zip(letters).map(|(letter, times)| format!("{letter} {times}")).collect();
+    /// Says how often each letter and each refusal came, and whether every one did.
+    fn covers(&self) -> bool {
+        let refusals: Vec<_> = REFUSALS.iter().map(|&number| (number, self.refusals[number])).collect();
+        let said: Vec<_> = LETTERS.chars().zip(self.letters).map(|(letter, times)| format!("{letter} {times}")).collect();
         let refused: Vec<_> = refusals.iter().map(|(number, times)| format!("R {number} {times}")).collect();
         println!("plain_model: lines printed: {}; of them {}", said.join(", "), refused.join(", "));
-        let covered = letters.iter().all(|&times| times > 0) && refusals.iter().all(|&(_, times)| times > 0);
+        let covered = self.letters.iter().all(|&times| times > 0) && refusals.iter().all(|&(_, times)| times > 0);
         if !covered {
             eprintln!("plain_model: a letter or a refusal never came: more tapes are needed");
         }
@@ -95,7 +93,7 @@ fn report(name: &str, tape: &[u8], want: &str, got: &[u8]) {
 impl Comparison {
     /// Compares printer and model on one tape.
     fn compare(&self, name: &str, tape: &[u8], tally: &mut Tally) -> bool {
-        let want = print_of(tape, self.rules);
+        let want = print_of(tape, self.plant);
         tally.count(&want);
         let (got, well) = piped::printed(&self.printer, tape);
         let alike = got == want.as_bytes() && well;
@@ -138,16 +136,16 @@ impl Comparison {
 
 /// Compares printer and model on all sorts of tapes; yes if no print differs and every line and refusal came.
 fn compare_all(comparison: &Comparison, tapes: usize) -> bool {
-    let (seed, past) = (comparison.seed, comparison.rules.past);
-    let edges = random_tapes::edge_tapes(seed, past);
+    let seed = comparison.seed;
+    let edges = random_tapes::edge_tapes(seed);
     let mut total = comparison.run("edge", edges.len(), |i| edges[i].clone());
     if total.unlike == 0 {
-        total.add(&comparison.run("random", tapes, |i| random_tapes::random_tape(seed, i as u64, past)));
+        total.add(&comparison.run("random", tapes, |i| random_tapes::random_tape(seed, i as u64)));
     }
     if total.unlike == 0 {
-        total.add(&comparison.run("flipped", tapes / 4, |i| random_tapes::flipped_tape(seed, i as u64, past)));
+        total.add(&comparison.run("flipped", tapes / 4, |i| random_tapes::flipped_tape(seed, i as u64)));
     }
-    total.unlike == 0 && total.covers(past)
+    total.unlike == 0 && total.covers()
 }
 
 /// The planted bug with a name.
@@ -166,31 +164,30 @@ fn plant_named(name: &str) -> Plant {
 /// Panics if the model does not print the worked tape of past lists as it is worked out by hand.
 fn check_example() {
     let (tape, print) = random_tapes::past_example();
-    assert_eq!(print_of(&tape, Rules { plant: Plant::Nothing, past: true }), print, "the model prints the worked tape otherwise");
+    assert_eq!(print_of(&tape, Plant::Nothing), print, "the model prints the worked tape otherwise");
 }
 
 /// Prints the tape on standard input by the model.
-fn print_by_model(past: bool) {
+fn print_by_model() {
     let mut tape = Vec::new();
     std::io::stdin().read_to_end(&mut tape).expect("the tape is read");
-    print!("{}", print_of(&tape, Rules { plant: Plant::Nothing, past }));
+    print!("{}", print_of(&tape, Plant::Nothing));
 }
 
 fn main() {
     let mut arguments = std::env::args().skip(1).peekable();
-    let past = arguments.next_if_eq("--past").is_some();
     if arguments.next_if_eq("--print").is_some() {
-        return print_by_model(past);
+        return print_by_model();
     }
     check_example();
     let name = arguments.next_if_eq("--plant").map(|_| arguments.next().expect("the name of a planted bug"));
-    let printer = arguments.next().expect("usage: plain_model [--past] [--plant NAME] PRINTER [SEED [TAPES]]");
+    let printer = arguments.next().expect("usage: plain_model [--plant NAME] PRINTER [SEED [TAPES]]");
     let seed: u64 = arguments.next().map_or(1, |s| s.parse().expect("a seed"));
     let tapes = arguments.next().map_or(20_000, |s| s.parse().expect("a number of tapes"));
     let label = name.iter().map(|name| format!("planted_{name}_")).collect::<String>() + &format!("seed_{seed}");
     let plant = name.map_or(Plant::Nothing, |name| plant_named(&name));
     let start = Instant::now();
-    let right = compare_all(&Comparison { printer, rules: Rules { plant, past }, seed, label }, tapes);
+    let right = compare_all(&Comparison { printer, plant, seed, label }, tapes);
     println!("plain_model: {:.1} s", start.elapsed().as_secs_f64());
     if !right {
         std::process::exit(1);

@@ -1,5 +1,4 @@
-//! Tapes made at random from a seed: good ones, cut ones, odd kinds, random bytes, and good ones with bits flipped. They have looks at past
-//! lists where that is asked for.
+//! Tapes made at random from a seed: good ones, cut ones, odd kinds, random bytes, and good ones with bits flipped.
 
 use crate::frames;
 use crate::random::Random;
@@ -24,20 +23,18 @@ enum Values {
     Crossing,
 }
 
-/// What a tape's frames are drawn by: the settings, the sort of values, how often a watch or its end comes, and whether past lists are
-/// looked at.
+/// What a tape's frames are drawn by: the settings, the sort of values, and how often a watch or its end comes.
 struct Style {
     d: u8,
     memory: u16,
     directions: u8,
     values: Values,
     watching: u64,
-    past: bool,
 }
 
 impl Style {
     /// A style; the settings go round with the tape's index, so that every pair of d and directions comes.
-    fn new(r: &mut Random, index: u64, past: bool) -> Style {
+    fn new(r: &mut Random, index: u64) -> Style {
         let (d, directions) = settings(index % SETTINGS);
         let memory = match r.below(8) {
             0 => 1,
@@ -54,7 +51,7 @@ impl Style {
             4 => Values::Crossing,
             _ => Values::Few(1 + r.below(5)),
         };
-        Style { d, memory, directions, values, watching: [1, 2, 12][r.below(3) as usize], past }
+        Style { d, memory, directions, values, watching: [1, 2, 12][r.below(3) as usize] }
     }
 
     /// A value of column i at a step of the tape.
@@ -128,7 +125,7 @@ impl Style {
             1..=3 => look(tape, self.window_size(r)),
             4 if r.below(3) == 0 => any_opening(r, tape),
             5 if r.below(3) == 0 => change(r, tape),
-            6..=8 if self.past => self.past_look(r, tape),
+            6..=8 => self.past_look(r, tape),
             24.. if r.below(3) == 0 => end(tape, self.window_size(r)),
             24.. => frames::watch(tape, self.window_size(r)),
             _ => self.quote(r, step, tape),
@@ -192,8 +189,8 @@ fn any_opening(r: &mut Random, tape: &mut Vec<u8>) {
 }
 
 /// A good tape: frames that come too early at times, an opening, then frames that are mostly accepted.
-fn good_tape(r: &mut Random, index: u64, past: bool) -> Vec<u8> {
-    let style = Style::new(r, index, past);
+fn good_tape(r: &mut Random, index: u64) -> Vec<u8> {
+    let style = Style::new(r, index);
     let mut tape = Vec::new();
     if r.below(6) == 0 {
         let early = 1 + r.below(3);
@@ -209,8 +206,8 @@ fn good_tape(r: &mut Random, index: u64, past: bool) -> Vec<u8> {
 }
 
 /// A tape longer than a reader's buffer, of a book with a short memory.
-fn long_tape(r: &mut Random, index: u64, past: bool) -> Vec<u8> {
-    let style = Style { memory: 1 + r.below(9) as u16, watching: 2, ..Style::new(r, index, past) };
+fn long_tape(r: &mut Random, index: u64) -> Vec<u8> {
+    let style = Style { memory: 1 + r.below(9) as u16, watching: 2, ..Style::new(r, index) };
     let mut tape = Vec::new();
     style.open(&mut tape);
     let count = 2_000 + r.below(8_000);
@@ -219,9 +216,9 @@ fn long_tape(r: &mut Random, index: u64, past: bool) -> Vec<u8> {
 }
 
 /// A tape that fills a long memory and goes on with watches once rows age out.
-fn deep_tape(r: &mut Random, index: u64, past: bool) -> Vec<u8> {
+fn deep_tape(r: &mut Random, index: u64) -> Vec<u8> {
     let memory = if index % 2 == 0 { 1_024 } else { 100 + r.below(900) as u16 };
-    let style = Style { memory, watching: 6, ..Style::new(r, index, past) };
+    let style = Style { memory, watching: 6, ..Style::new(r, index) };
     let mut tape = Vec::new();
     style.open(&mut tape);
     for step in 0..u32::from(memory) - 20 {
@@ -232,23 +229,23 @@ fn deep_tape(r: &mut Random, index: u64, past: bool) -> Vec<u8> {
 }
 
 /// Random bytes, by themselves or behind an opening.
-fn random_bytes(r: &mut Random, index: u64, past: bool) -> Vec<u8> {
+fn random_bytes(r: &mut Random, index: u64) -> Vec<u8> {
     let mut tape = Vec::new();
     if r.below(2) == 0 {
-        Style::new(r, index, past).open(&mut tape);
+        Style::new(r, index).open(&mut tape);
     }
     tape.extend((0..r.below(60)).map(|_| r.next() as u8).collect::<Vec<_>>());
     tape
 }
 
 /// Frames of known kinds with random bodies behind an opening.
-fn random_bodies(r: &mut Random, index: u64, past: bool) -> Vec<u8> {
-    let style = Style::new(r, index, past);
+fn random_bodies(r: &mut Random, index: u64) -> Vec<u8> {
+    let style = Style::new(r, index);
     let mut tape = Vec::new();
     style.open(&mut tape);
     for _ in 0..r.below(30) {
         let kinds = [(style.d, 4 * style.d), (16, 2), (17, 2), (18, 2), (32, 6), (33, 6), (48, 4), (23, 4)];
-        let (kind, length) = kinds[r.below(7 + u64::from(past)) as usize];
+        let (kind, length) = kinds[r.below(8) as usize];
         tape.push(kind);
         tape.extend((0..length).map(|_| (r.next() as u8) >> r.below(9).min(7)).collect::<Vec<_>>());
     }
@@ -256,29 +253,29 @@ fn random_bodies(r: &mut Random, index: u64, past: bool) -> Vec<u8> {
 }
 
 /// The tape with an index: most are good, the others cut, ended by odd bytes, random, long or deep.
-pub fn random_tape(seed: u64, index: u64, past: bool) -> Vec<u8> {
+pub fn random_tape(seed: u64, index: u64) -> Vec<u8> {
     let mut r = Random::new(seed, index);
     if index % 2_000 == 1_999 {
-        return long_tape(&mut r, index, past);
+        return long_tape(&mut r, index);
     }
     if index % 2_500 == 999 {
-        return deep_tape(&mut r, index / 2_500, past);
+        return deep_tape(&mut r, index / 2_500);
     }
-    let mut tape = good_tape(&mut r, index, past);
+    let mut tape = good_tape(&mut r, index);
     match r.below(10) {
         0 => tape.truncate(r.below(tape.len() as u64 + 1) as usize),
         1 => tape.extend((0..1 + r.below(8)).map(|_| r.next() as u8).collect::<Vec<_>>()),
-        2 => tape = random_bytes(&mut r, index, past),
-        3 => tape = random_bodies(&mut r, index, past),
+        2 => tape = random_bytes(&mut r, index),
+        3 => tape = random_bodies(&mut r, index),
         _ => {}
     }
     tape
 }
 
 /// A good tape with one to four of its bits flipped.
-pub fn flipped_tape(seed: u64, index: u64, past: bool) -> Vec<u8> {
+pub fn flipped_tape(seed: u64, index: u64) -> Vec<u8> {
     let mut r = Random::new(!seed, index);
-    let mut tape = good_tape(&mut r, index, past);
+    let mut tape = good_tape(&mut r, index);
     for _ in 0..1 + r.below(4) {
         let at = r.below(tape.len() as u64) as usize;
         tape[at] ^= 1 << r.below(8);
@@ -287,8 +284,8 @@ pub fn flipped_tape(seed: u64, index: u64, past: bool) -> Vec<u8> {
 }
 
 /// A short tape with a frame of every known kind for a column count.
-fn tape_of_every_kind(r: &mut Random, d: u8, past: bool) -> Vec<u8> {
-    let style = Style { d, memory: 4, directions: 0, values: Values::Few(3), watching: 4, past };
+fn tape_of_every_kind(r: &mut Random, d: u8) -> Vec<u8> {
+    let style = Style { d, memory: 4, directions: 0, values: Values::Few(3), watching: 4 };
     let mut tape = Vec::new();
     style.open(&mut tape);
     for n in [2, 4] {
@@ -299,9 +296,7 @@ fn tape_of_every_kind(r: &mut Random, d: u8, past: bool) -> Vec<u8> {
     style.steps(r, 0, 12, &mut tape);
     change(r, &mut tape);
     end(&mut tape, 2);
-    if style.past {
-        style.past_look(r, &mut tape);
-    }
+    style.past_look(r, &mut tape);
     tape
 }
 
@@ -331,15 +326,12 @@ pub fn past_example() -> (Vec<u8>, &'static str) {
     (tape, print)
 }
 
-/// Tapes cut at every byte, for every column count, and every kind byte before bodies of several lengths, alone and behind an opening; the
-/// worked tape of past lists where they are asked for.
-pub fn edge_tapes(seed: u64, past: bool) -> Vec<Vec<u8>> {
-    let mut tapes = vec![Vec::new()];
-    if past {
-        tapes.push(past_example().0);
-    }
+/// The worked tape of past lists, tapes cut at every byte, for every column count, and every kind byte before bodies of several lengths,
+/// alone and behind an opening.
+pub fn edge_tapes(seed: u64) -> Vec<Vec<u8>> {
+    let mut tapes = vec![Vec::new(), past_example().0];
     for d in 1..=6 {
-        let whole = tape_of_every_kind(&mut Random::new(seed, d), d as u8, past);
+        let whole = tape_of_every_kind(&mut Random::new(seed, d), d as u8);
         tapes.extend((0..=whole.len()).map(|keep| whole[..keep].to_vec()));
     }
     for kind in 0..=255 {
