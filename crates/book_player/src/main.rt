@@ -1,15 +1,8 @@
 // The book player: makes the calls that the lines of standard input ask for on real buffers, and prints what was seen
 // of each.
 ghost use Prim.Native.Nat.{_≤_};
-use head::Answer;
-use head::Head;
-use head::Reply;
-use head::Verdict;
-use head::Watch;
 use notation::line_end;
 use player_desk::Desk;
-use player_desk::Loan;
-use player_desk::Seen;
 use player_lines::Command;
 use player_lines::Line;
 use player_lines::Name;
@@ -18,6 +11,7 @@ use player_print::Print;
 use player_print::flush;
 use player_print::flush_unless;
 use player_print::print_line;
+use player_turns::play;
 
 // A part of a line that is longer than any that the player can take.
 const TOO_LONG: usize = 200;
@@ -32,29 +26,6 @@ struct Stand {
     ended: bool,
     found: bool,
     over: bool,
-}
-
-// The desk before the first line.
-fn first_desk() -> Desk {
-    let zeros = Head::fresh(0, 0, 0);
-    Desk {
-        head: zeros,
-        records: [Watch { n: 0 }; 8],
-        loan: Loan {
-            columns: 6144,
-            positions: 1024,
-            lower_ends: 1024,
-            upper_ends: 1024,
-            out: 57400,
-        },
-        seen: Seen::Nothing,
-        reply: Reply {
-            answer: Answer::Accepted,
-            head: zeros,
-            count: 0,
-        },
-        verdict: Verdict::No,
-    }
 }
 
 // Finds the next line of the text that has come; the begun line at its end is one where the input has ended.
@@ -149,30 +120,6 @@ fn line_of(stand: Stand, text: &[u8]) -> Line {
     read_line(&text[from..to])
 }
 
-// Plays a line: each of these does what it is for where the line asks for it.
-fn play(
-    desk: Desk,
-    line: Line,
-    columns: &mut [u32],
-    positions: &mut [u32],
-    lower_ends: &mut [u32],
-    upper_ends: &mut [u32],
-    out: &mut [u8],
-    cells: &mut [u32],
-) -> Desk {
-    let mut now = player_desk::begin(desk, line);
-    now = player_desk::play_open(now, line, columns, positions, lower_ends, upper_ends);
-    now = player_desk::play_quote(now, line, columns, positions, lower_ends, upper_ends, out);
-    now = player_desk::play_look(now, line, columns, positions, lower_ends, upper_ends, cells);
-    now = player_desk::play_past(now, line, columns, positions, lower_ends, upper_ends, cells);
-    now = player_desk::play_watch(now, line, columns, positions, lower_ends, upper_ends, out);
-    now = player_desk::play_end(now, line, columns, positions, lower_ends, upper_ends);
-    now = player_desk::play_audit(now, line, columns, positions, lower_ends, upper_ends);
-    now = player_desk::play_lend(now, line);
-    now = player_desk::play_head(now, line);
-    player_desk::play_cell(now, line, columns, positions, lower_ends, upper_ends)
-}
-
 fn main() {
     let mut columns = [0u32; 6144];
     let mut positions = [0u32; 1024];
@@ -182,7 +129,7 @@ fn main() {
     let mut cells = [0u32; 57400];
     let mut text = [0u8; 65536];
     let mut lines = [0u8; 65536];
-    let mut desk = first_desk();
+    let mut desk = Desk::first();
     let mut print = Print {
         lines: 0,
         used: 0,

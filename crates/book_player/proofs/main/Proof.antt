@@ -14,8 +14,8 @@ abbrev μ-loop : tie.MeasureT-loop
 μ-loop columns₀ positions₀ lower-ends₀ upper-ends₀ out₀ cells₀ text₀ lines₀ desk₀ print₀ stand₀ turns₀ columns positions lower-ends upper-ends out cells text lines desk print stand turns =
     turns
 
-first-desk-requires : tie.Need-first-desk-requires Inv-loop μ-loop
-first-desk-requires c κs = search needs
+first-requires : tie.Need-first-requires Inv-loop μ-loop
+first-requires c κs = search needs
 
 loop-holds : tie.Need-loop-holds Inv-loop μ-loop
 loop-holds c = (refl, refl, refl, refl, refl, refl, refl, refl)
@@ -113,7 +113,7 @@ main-spec =
     (tie.spec
     Inv-loop
     μ-loop
-    first-desk-requires
+    first-requires
     loop-holds
     sub-turns
     slice-aggregate-find-line
