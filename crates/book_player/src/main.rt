@@ -2,12 +2,9 @@
 // of each.
 use player_desk::Desk;
 use player_input::Stand;
-use player_input::find_line;
-use player_input::line_of;
-use player_input::read_on;
+use player_input::next_line;
 use player_print::Print;
 use player_print::flush;
-use player_print::flush_unless;
 use player_print::print_line;
 use player_turns::play;
 
@@ -28,12 +25,11 @@ fn main() {
     };
     let mut stand = Stand::first();
     let mut turns = u64::MAX;
-    while 0 < turns && !stand.over {
+    while 0 < turns && !(stand.over | print.failed) {
         turns -= 1;
-        stand = find_line(stand, &text);
-        let found = stand.found;
-        print = flush_unless(found, print, &lines);
-        let line = line_of(stand, &text);
+        let next = next_line(stand, &mut text);
+        let line = next.line;
+        stand = next.stand;
         desk = play(
             desk,
             line,
@@ -46,7 +42,7 @@ fn main() {
         );
         print = print_line(
             print,
-            found,
+            stand.found,
             desk,
             &columns,
             &positions,
@@ -56,8 +52,6 @@ fn main() {
             &cells,
             &mut lines,
         );
-        let failed = print.failed;
-        stand = read_on(stand, failed, &mut text);
     }
     flush(print, &lines);
 }

@@ -12,13 +12,19 @@ const TOO_LONG: usize = 200;
 // Where the player stands in its input: the line that was found, the place behind it, the end of the text that has
 // come, whether the input has ended, whether a line was found, and whether all is over.
 pub struct Stand {
-    pub from: usize,
-    pub to: usize,
-    pub place: usize,
-    pub end: usize,
-    pub ended: bool,
+    from: usize,
+    to: usize,
+    place: usize,
+    end: usize,
+    ended: bool,
     pub found: bool,
     pub over: bool,
+}
+
+// Where the player stands at the next line, and the line; none where none was found.
+pub struct Next {
+    pub stand: Stand,
+    pub line: Line,
 }
 
 impl Stand {
@@ -37,7 +43,7 @@ impl Stand {
 }
 
 // Finds the next line of the text that has come; the begun line at its end is one where the input has ended.
-pub fn find_line(stand: Stand, text: &[u8]) -> Stand {
+fn find_line(stand: Stand, text: &[u8]) -> Stand {
     let mut now = stand;
     let place = stand.place;
     let end = stand.end;
@@ -77,13 +83,12 @@ fn kept_end(place: usize, end: usize) -> usize
     end
 }
 
-// Reads on behind the begun line, where no line was found; it is over where the output has failed.
-pub fn read_on(stand: Stand, failed: bool, text: &mut [u8]) -> Stand {
+// Reads on behind the begun line, where no line was found.
+fn read_on(stand: Stand, text: &mut [u8]) -> Stand {
     let mut now = stand;
     let place = stand.place;
     let end = stand.end;
-    now.over = stand.over | failed;
-    if stand.found | now.over {
+    if stand.found {
         return now;
     }
     if text.len() < end {
@@ -113,7 +118,7 @@ fn no_line() -> Line {
 }
 
 // The line that was found; none where there is none.
-pub fn line_of(stand: Stand, text: &[u8]) -> Line {
+fn line_of(stand: Stand, text: &[u8]) -> Line {
     let from = stand.from;
     let to = stand.to;
     if !stand.found {
@@ -126,4 +131,12 @@ pub fn line_of(stand: Stand, text: &[u8]) -> Line {
         return no_line();
     }
     read_line(&text[from..to])
+}
+
+// Goes on to the next line of the text, and reads more text first where no line was found before.
+pub fn next_line(stand: Stand, text: &mut [u8]) -> Next {
+    let there = read_on(stand, text);
+    let stand = find_line(there, text);
+    let line = line_of(stand, text);
+    Next { stand, line }
 }
