@@ -25,14 +25,6 @@ pub fn flush(print: Print, gathered: &[u8]) -> Print {
     now
 }
 
-// Writes out what is gathered, unless a line was found.
-pub fn flush_unless(found: bool, print: Print, gathered: &[u8]) -> Print {
-    if found {
-        return print;
-    }
-    flush(print, gathered)
-}
-
 // What is gathered where there is this much room behind it; else it is written out.
 fn with_room(print: Print, room: usize, gathered: &[u8]) -> Print {
     let used = print.used;
@@ -255,7 +247,7 @@ fn put_unread(print: Print, gathered: &mut [u8]) -> Print {
     put_short(print, b'?', &numbers, gathered)
 }
 
-// Prints what was seen of the line that was found.
+// Prints what was seen of the line that was found; where none was found, writes out what is gathered.
 pub fn print_line(
     print: Print,
     found: bool,
@@ -269,7 +261,7 @@ pub fn print_line(
     gathered: &mut [u8],
 ) -> Print {
     if !found {
-        return print;
+        return flush(print, gathered);
     }
     let mut now = print;
     now.lines = std::num::wrapping_add_u32(print.lines, 1);

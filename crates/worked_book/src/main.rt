@@ -8,13 +8,13 @@ use judged_calls::find;
 use judged_calls::look;
 use judged_calls::open;
 use judged_calls::past;
-use judged_calls::play_opening;
-use judged_calls::print_answer;
 use judged_calls::take;
 use judged_calls::take_all;
 use judged_calls::tell;
-use judged_calls::there_and_back;
 use judged_calls::watch;
+use judged_frames::play_opening;
+use judged_frames::there_and_back;
+use judged_lines::print_answer;
 
 // Refusals of calls that only read the tables, 5, 8, 10, 11, 12, 13, 14, and the watch of 2 ended.
 fn refusals(

@@ -2,8 +2,8 @@
 use native.Mathlib.Omega.{arith}
 use lib.ListN.{length-take}
 use borrow.Author.Needs.{needs}
-use Rattle.book_player.proofs.find_line.Statement.{statement}
-use Rattle.book_player.proofs.find_line.Tie as tie
+use Rattle.player_input.proofs.find_line.Statement.{statement}
+use Rattle.player_input.proofs.find_line.Tie as tie
 
 returns : tie.Need-returns
 returns c = search needs

@@ -2,8 +2,8 @@
 use lib.ListN.{length-take}
 use native.Mathlib.Omega.{arith}
 use borrow.Author.Needs.{needs}
-use Rattle.judged_calls.proofs.write_front.Statement.{statement}
-use Rattle.judged_calls.proofs.write_front.Tie as tie
+use Rattle.judged_frames.proofs.write_front.Statement.{statement}
+use Rattle.judged_frames.proofs.write_front.Tie as tie
 
 slice-aggregate-write-all : tie.Need-slice-aggregate-write-all
 slice-aggregate-write-all c = simp length-take (omega arith)

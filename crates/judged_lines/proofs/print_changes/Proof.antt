@@ -2,8 +2,8 @@
 use lib.ListN.{length-take}
 use native.Mathlib.Omega.{arith}
 use borrow.Author.Needs.{needs}
-use Rattle.judged_calls.proofs.print_changes.Statement.{statement}
-use Rattle.judged_calls.proofs.print_changes.Tie as tie
+use Rattle.judged_lines.proofs.print_changes.Statement.{statement}
+use Rattle.judged_lines.proofs.print_changes.Tie as tie
 
 slice-aggregate-put-changes : tie.Need-slice-aggregate-put-changes
 slice-aggregate-put-changes c = search needs

@@ -2,8 +2,8 @@
 use lib.ListN.{length-take}
 use native.Mathlib.Omega.{arith}
 use borrow.Author.Needs.{needs}
-use Rattle.judged_calls.proofs.print.Statement.{statement}
-use Rattle.judged_calls.proofs.print.Tie as tie
+use Rattle.judged_lines.proofs.print.Statement.{statement}
+use Rattle.judged_lines.proofs.print.Tie as tie
 
 slice-aggregate-put-line : tie.Need-slice-aggregate-put-line
 slice-aggregate-put-line c = search needs
