@@ -3,9 +3,9 @@ use mathlib.Core.List.{append-nil}
 use lib.ListN.{length-take}
 use native.Mathlib.Omega.{arith}
 use borrow.Author.Needs.{needs}
-use Rattle.judged_calls.proofs.Cells.{fits}
-use Rattle.judged_calls.proofs.past.Statement.{statement}
-use Rattle.judged_calls.proofs.past.Tie as tie
+use Rattle.judged_reads.proofs.Cells.{fits}
+use Rattle.judged_reads.proofs.past.Statement.{statement}
+use Rattle.judged_reads.proofs.past.Tie as tie
 
 sub-past : tie.Need-sub-past
 sub-past c = search needs
