@@ -2,7 +2,7 @@
 # What rt prints goes to a log under build/; standard error gets a line for each crate.
 SHELL := /bin/bash
 .SHELLFLAGS := -euo pipefail -c
-.PHONY: test run host random random-calls rules plants notation citations tapes test-slow bench
+.PHONY: test run host random random-calls rules plants yardstick notation citations tapes test-slow bench
 
 PRINTER ?= target/bin/tape_printer
 WRITER ?= target/bin/tape_writer
@@ -12,8 +12,8 @@ SEED ?= 1
 TAPES ?= 20000
 LISTS ?= 20000
 RUNS ?= 9
-PLANTS := equal oldest window kept
-CALL_PLANTS := renamed torn-first past early
+PLANTS := equal oldest window kept misprint upper
+CALL_PLANTS := renamed torn-first past-memory early live-lower overwritten retired-lower fourteen-first live-zeros upper-free
 SAMPLES := $(basename $(wildcard tapes/*.txt))
 RUSTC := rustc --edition 2021 -O -D warnings
 
@@ -53,7 +53,12 @@ plants: build/plain_model build/random_calls $(PRINTER) $(PLAYER)
 	@for plant in $(CALL_PLANTS); do \
 	  tests/planted.sh $$plant 'the answers differ' build/random_calls --plant $$plant $(PLAYER) $(SEED) 1000; \
 	done
-	@tests/planted.sh worst 'the rules differ' build/random_calls --plant worst --rules
+	@tests/planted.sh upper-free-rules 'the rules differ' build/random_calls --plant upper-free --rules
+
+# the yardstick of make bench against the plain model, without the judgement and with it
+yardstick: build/plain_model build/yardstick
+	build/plain_model build/yardstick $(SEED) $(TAPES)
+	build/plain_model 'build/yardstick --judged' $(SEED) $(TAPES)
 
 # the tape writer against a plain reading of the notation, and on the notation of each sample tape
 notation: build/notation $(WRITER)

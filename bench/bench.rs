@@ -1,4 +1,5 @@
-//! Measures printers of tapes, and what a user would pick instead, on the same tapes in one run, and prints one table.
+//! Measures printers of tapes, and what a user would pick instead, on the same tapes in one run, and prints one table; then what it costs
+//! to move the rows of full tables down at each quote, and nothing else, in another.
 //!
 //! usage: bench PRINTER [RUNS]     PRINTER is ours; the other programs stand in build/, and so do the tapes made here
 
@@ -7,8 +8,9 @@ use std::io::BufRead;
 use std::process::{Command, Stdio};
 use std::time::Instant;
 
-const YARDSTICK: &str = "build/yardstick";
-const PLAIN: &str = "build/plain_model";
+const YARDSTICK: &[&str] = &["build/yardstick"];
+const JUDGED: &[&str] = &["build/yardstick", "--judged"];
+const PLAIN: &[&str] = &["build/plain_model", "--print"];
 const MAKER: &str = "build/make_tape";
 const FOLDER: &str = "build/bench_tapes";
 const SHAPES: [&str; 4] = ["uniform", "frontier", "drift", "duplicates"];
@@ -23,6 +25,8 @@ const COUNTED: usize = 5_000;
 const EMOA: usize = 50;
 /// The quotes that the plain model is timed on, from the opening.
 const SHORT: usize = 512;
+/// The quotes that moves alone are timed on.
+const MOVES: usize = 200_000;
 
 /// A tape's shape, memory and number of quotes.
 #[derive(Clone, Copy)]
@@ -83,16 +87,20 @@ fn median(mut times: Vec<f64>) -> f64 {
     times[times.len() / 2]
 }
 
-/// The nanoseconds a quote of ours, the yardstick and, where the memory is the longest, the plain model and emoa on each tape: medians of
-/// runs that go round all of them in turn.
-fn times(ours: &str, tapes: &[Tape], runs: usize) -> Vec<[Option<f64>; 4]> {
-    let mut all = vec![[const { Vec::new() }; 4]; tapes.len()];
+/// What is timed on each tape, in this order: ours, the yardstick, the yardstick with the judgement and, where the memory is the longest,
+/// the plain model and emoa.
+const CONTENDERS: usize = 5;
+
+/// The nanoseconds a quote of each contender on each tape: medians of runs that go round all of them in turn.
+fn times(ours: &str, tapes: &[Tape], runs: usize) -> Vec<[Option<f64>; CONTENDERS]> {
+    let mut all = vec![[const { Vec::new() }; CONTENDERS]; tapes.len()];
     for _ in 0..runs {
-        for (&tape, [our, yardstick, plain, emoa]) in tapes.iter().zip(&mut all) {
+        for (&tape, [our, yardstick, judged, plain, emoa]) in tapes.iter().zip(&mut all) {
             our.push(a_quote(&[ours], tape));
-            yardstick.push(a_quote(&[YARDSTICK], tape));
+            yardstick.push(a_quote(YARDSTICK, tape));
+            judged.push(a_quote(JUDGED, tape));
             if tape.memory == MEMORIES[0] {
-                plain.push(a_quote(&[PLAIN, "--print"], tape.with(SHORT)));
+                plain.push(a_quote(PLAIN, tape.with(SHORT)));
                 emoa.extend(emoa_time(ours, tape));
             }
         }
@@ -105,13 +113,15 @@ fn a_quote(command: &[&str], tape: Tape) -> f64 {
     seconds(command, tape) * 1e9 / tape.quotes as f64
 }
 
-/// Panics where the prints of a tape differ: the yardstick's and, on a tape's first quotes where the memory is the longest, the plain
-/// model's.
+/// Panics where the prints of a tape differ: the yardstick's, with the judgement or without, and, on a tape's first quotes where the
+/// memory is the longest, the plain model's.
 fn compare_prints(ours: &str, tape: Tape) {
-    assert!(print_of(&[ours], tape) == print_of(&[YARDSTICK], tape), "ours and the yardstick differ on {}", tape.path());
+    for yardstick in [YARDSTICK, JUDGED] {
+        assert!(print_of(&[ours], tape) == print_of(yardstick, tape), "ours and the yardstick differ on {}", tape.path());
+    }
     if tape.memory == MEMORIES[0] {
         let tape = tape.with(SHORT);
-        assert!(print_of(&[ours], tape) == print_of(&[PLAIN, "--print"], tape), "ours and the plain model differ on {}", tape.path());
+        assert!(print_of(&[ours], tape) == print_of(PLAIN, tape), "ours and the plain model differ on {}", tape.path());
     }
 }
 
@@ -143,19 +153,35 @@ fn emoa_time(ours: &str, tape: Tape) -> Option<f64> {
     Some(time)
 }
 
-/// The instructions that a printer takes for a whole tape; none where valgrind is not installed.
-fn instructions(printer: &str, tape: Tape) -> Option<f64> {
-    let valgrind = ["valgrind", "--tool=callgrind", "--callgrind-out-file=/dev/null", printer];
-    let output = playing(&valgrind, tape).stdout(Stdio::null()).stderr(Stdio::piped()).output().ok()?;
+/// The instructions that a command takes, which is given an input; none where valgrind is not installed.
+fn instructions(command: &[&str], input: Stdio) -> Option<f64> {
+    let mut valgrind = Command::new("valgrind");
+    valgrind.args(["--tool=callgrind", "--callgrind-out-file=/dev/null"]).args(command).stdin(input);
+    let output = valgrind.stdout(Stdio::null()).stderr(Stdio::piped()).output().ok()?;
     let said = String::from_utf8_lossy(&output.stderr).into_owned();
     let line = said.lines().find(|line| line.contains("Collected :"))?;
     line.rsplit(' ').next()?.parse().ok()
 }
 
-/// The instructions a quote once the window is full: a run with some more quotes less one without them.
-fn instructions_a_quote(printer: &str, tape: Tape) -> Option<f64> {
-    let more = instructions(printer, tape.with(FILL + COUNTED))? - instructions(printer, tape.with(FILL))?;
-    Some(more / COUNTED as f64)
+/// The instructions a quote of a printer once the window is full: a run with some more quotes less one without them.
+fn instructions_a_quote(printer: &[&str], tape: Tape) -> Option<f64> {
+    let whole = |quotes: usize| instructions(printer, tape.with(quotes).file().into());
+    Some((whole(FILL + COUNTED)? - whole(FILL)?) / COUNTED as f64)
+}
+
+/// The nanoseconds and the instructions that it takes to move the rows of full tables down once, for a memory and a column count.
+fn moves(memory: usize, d: usize, runs: usize) -> (f64, Option<f64>) {
+    let (memory, d) = (memory.to_string(), d.to_string());
+    let command = |quotes: usize| [YARDSTICK[0].to_string(), "--moves".to_string(), memory.clone(), d.clone(), quotes.to_string()];
+    let time = |_| {
+        let start = Instant::now();
+        let words = command(MOVES);
+        assert!(Command::new(&words[0]).args(&words[1..]).status().expect("the yardstick runs").success());
+        start.elapsed().as_nanos() as f64 / MOVES as f64
+    };
+    let counted = |quotes: usize| instructions(&command(quotes).each_ref().map(String::as_str), Stdio::null());
+    let count = || Some((counted(2 * COUNTED)? - counted(COUNTED)?) / COUNTED as f64);
+    (median((0..runs).map(time).collect()), count())
 }
 
 /// A number with a comma between thousands.
@@ -194,45 +220,43 @@ fn machine() -> String {
     format!("{}, {} cores, load {load}", name.trim_start_matches([' ', '\t', ':']), cpu.matches("model name").count())
 }
 
-/// One row of the table: nanoseconds and instructions a quote on one tape.
+/// One row of the table: nanoseconds of each contender, and instructions a quote of ours and the two yardsticks, on one tape.
 struct Row {
     tape: Tape,
-    ours: f64,
-    yardstick: f64,
-    plain: Option<f64>,
-    emoa: Option<f64>,
-    our_instructions: Option<f64>,
-    yardstick_instructions: Option<f64>,
+    times: [Option<f64>; CONTENDERS],
+    instructions: [Option<f64>; 3],
 }
 
 impl Row {
     /// The times, and the instructions, counted here.
-    fn new(ours: &str, tape: Tape, times: [Option<f64>; 4]) -> Row {
-        let [our, yardstick, plain, emoa] = times;
-        Row {
-            tape,
-            ours: our.expect("ours is timed"),
-            yardstick: yardstick.expect("the yardstick is timed"),
-            plain,
-            emoa,
-            our_instructions: instructions_a_quote(ours, tape),
-            yardstick_instructions: instructions_a_quote(YARDSTICK, tape),
-        }
+    fn new(ours: &str, tape: Tape, times: [Option<f64>; CONTENDERS]) -> Row {
+        let instructions = [&[ours], YARDSTICK, JUDGED].map(|printer| instructions_a_quote(printer, tape));
+        Row { tape, times, instructions }
     }
 
-    /// The row in print.
+    /// The row in print: the first number of each sort is ours, the others stand beside it.
     fn print(&self) {
-        println!(
-            "| {} | {} | {} | {} | {} | {} | {} | {} |",
-            self.tape.shape,
-            number(self.tape.memory as f64),
-            number(self.ours),
-            beside(Some(self.yardstick), self.ours),
-            beside(self.plain, self.ours),
-            beside(self.emoa, self.ours),
-            self.our_instructions.map_or("-".to_string(), number),
-            beside(self.yardstick_instructions, self.our_instructions.unwrap_or(f64::NAN))
-        );
+        let fields = |values: &[Option<f64>]| -> Vec<String> {
+            let ours = values[0].map_or("-".to_string(), number);
+            let others = values[1..].iter().map(|&value| beside(value, values[0].unwrap_or(f64::NAN)));
+            std::iter::once(ours).chain(others).collect()
+        };
+        let (times, instructions) = (fields(&self.times).join(" | "), fields(&self.instructions).join(" | "));
+        println!("| {} | {} | {times} | {instructions} |", self.tape.shape, number(self.tape.memory as f64));
+    }
+}
+
+/// The table of moves alone.
+fn print_moves(runs: usize) {
+    println!();
+    println!("| moves alone, N | {} |", [1, 2, 3, 4, 5, 6].map(|d| format!("d = {d}, ns | instr")).join(" | "));
+    println!("|---|{}", "---|".repeat(12));
+    for memory in MEMORIES {
+        let cells = [1, 2, 3, 4, 5, 6].map(|d| {
+            let (time, count) = moves(memory, d, runs);
+            format!("{} | {}", number(time), count.map_or("-".to_string(), number))
+        });
+        println!("| {} | {} |", number(memory as f64), cells.join(" | "));
     }
 }
 
@@ -240,15 +264,16 @@ impl Row {
 fn notes(rows: &[Row], runs: usize) {
     println!();
     println!("ns: nanoseconds a quote; x: times ours; instr: instructions a quote by callgrind.");
-    println!("Ours and the yardstick: median of {runs} runs over {QUOTES} quotes and eight watches, in turn; their prints are equal.");
+    println!("Ours and the yardstick, without the judgement of 11 and 12 at every call and with it (judged): median of {runs} runs over");
+    println!("{QUOTES} quotes and eight watches, in turn; their prints are equal.");
     println!("Plain model: median of {runs} runs over the first {SHORT} quotes, in turn with them, when longer windows are not full yet;");
     println!("its print is equal to ours.");
-    if rows[0].emoa.is_some() {
+    if rows[0].times[4].is_some() {
         println!("emoa: median of {runs} runs over {EMOA} quotes after {FILL}, in turn with them; its lists are as long as ours.");
     } else {
         println!("emoa is skipped: Rscript or its package emoa (Debian's r-cran-emoa) is not installed.");
     }
-    if rows[0].our_instructions.is_some() {
+    if rows[0].instructions[0].is_some() {
         println!("Instructions: {COUNTED} quotes after {FILL}.");
     } else {
         println!("Instructions are skipped: valgrind is not installed.");
@@ -268,8 +293,9 @@ fn main() {
     }
     println!("{}, {}", date(), machine());
     println!();
-    println!("| tape | N | ours ns | yardstick ns | x | plain ns | x | emoa ns | x | ours instr | yardstick instr | x |");
-    println!("|---|---|---|---|---|---|---|---|---|---|---|---|");
+    let clocked = "ours ns | yardstick ns | x | judged ns | x | plain ns | x | emoa ns | x";
+    println!("| tape | N | {clocked} | ours instr | yardstick instr | x | judged instr | x |");
+    println!("|{}", "---|".repeat(16));
     let times = times(&ours, &tapes, runs);
     let mut rows = Vec::new();
     for (&tape, &times) in tapes.iter().zip(&times) {
@@ -277,5 +303,6 @@ fn main() {
         row.print();
         rows.push(row);
     }
+    print_moves(runs);
     notes(&rows, runs);
 }

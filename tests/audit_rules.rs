@@ -1,137 +1,256 @@
-//! The model's audit held against the paper's other way of saying it, 'some tape leaves this book', by trying every
-//! tape: one column, N up to 3, few values.
+//! The model's audit held against the paper's other way of saying it, 'some tape leaves this book', and its quotes and
+//! looks against the definitions of rows and lists, by trying every tape of small settings.
 
 use crate::call_model::{Head, Model, Plant};
 use std::collections::HashSet;
+use std::ops::Range;
 
-/// One column, N and whether higher is better.
+/// The settings of a book, and the values that its columns take.
 #[derive(Clone, Copy)]
 struct Settings {
+    d: usize,
     memory: usize,
-    higher: bool,
+    directions: u32,
+    values: &'static [u32],
 }
 
-/// The quotes of a tape; or a book: the count, then the N places of values, positions and lower ends.
+/// Which books are tried beside those that tapes leave.
+#[derive(Clone, Copy)]
+enum Tried {
+    /// Both counts and the N places of each table in every way, with values one step out of range.
+    AllCells,
+    /// The right positions with every live count, all columns and ends in every way, and zeros and ones behind them.
+    AllEnds,
+    /// Every book that differs in one count or cell from one that a tape leaves.
+    OneOff,
+}
+
+/// The quotes of a tape, columns behind columns; or a book: live and held count, then the N places of columns,
+/// positions, lower ends and upper ends.
 type Cells = Vec<u32>;
 
+/// How many books were compared, how many of them tapes leave, and how many of these have a retired row.
+#[derive(Default)]
+struct Compared {
+    books: usize,
+    left: usize,
+    retired: usize,
+}
+
 impl Settings {
-    /// Whether value x beats value y.
-    fn beats(self, x: u32, y: u32) -> bool {
-        if self.higher {
-            x > y
-        } else {
-            x < y
-        }
-    }
-
-    /// What a tape leaves, by the definition of rows: count, values, positions, lower ends, zeros behind each.
-    fn left_by(self, quotes: &[u32]) -> Cells {
-        let first = quotes.len().saturating_sub(self.memory);
-        let kept = |&i: &usize| quotes[i + 1..].iter().all(|&younger| !self.beats(younger, quotes[i]));
-        let rows: Vec<usize> = (first..quotes.len()).filter(kept).collect();
-        let lower = |k: usize| {
-            let beats = |&&j: &&usize| self.beats(quotes[j], quotes[rows[k]]);
-            rows[..k].iter().rev().find(beats).map_or(0, |&j| j as u32 + 1)
+    /// Whether the quote with one index beats the one with another.
+    fn beats(self, quotes: &[u32], i: usize, j: usize) -> bool {
+        let better = |i: usize, j: usize, column: usize| {
+            let (x, y) = (quotes[i * self.d + column], quotes[j * self.d + column]);
+            if self.directions >> column & 1 == 1 {
+                x > y
+            } else {
+                x < y
+            }
         };
-        let mut cells = vec![0; 1 + 3 * self.memory];
-        cells[0] = rows.len() as u32;
-        for (k, &i) in rows.iter().enumerate() {
-            cells[1 + k] = quotes[i];
-            cells[1 + self.memory + k] = i as u32 + 1;
-            cells[1 + 2 * self.memory + k] = lower(k);
-        }
-        cells
+        (0..self.d).all(|column| !better(j, i, column)) && (0..self.d).any(|column| better(i, j, column))
     }
 
-    /// The list of n after a tape, by its definition.
-    fn list(self, quotes: &[u32], n: usize) -> Vec<u32> {
-        let window = quotes.len().saturating_sub(n)..quotes.len();
-        let unbeaten = |&i: &usize| window.clone().all(|j| !self.beats(quotes[j], quotes[i]));
-        window.clone().filter(unbeaten).map(|i| i as u32 + 1).collect()
+    /// The positions of a range of quotes that no quote of that range beats.
+    fn unbeaten(self, quotes: &[u32], range: Range<usize>) -> Vec<u32> {
+        let beaten = |i: usize| range.clone().any(|j| self.beats(quotes, j, i));
+        range.clone().filter(|&i| !beaten(i)).map(|i| i as u32 + 1).collect()
+    }
+
+    /// What a tape leaves, by the definitions of rows and their ends, with zeros behind them.
+    fn left_by(self, quotes: &[u32]) -> Cells {
+        let newest = quotes.len() / self.d;
+        let window = newest.saturating_sub(self.memory)..newest;
+        let position = |index: Option<usize>| index.map_or(0, |i| i as u32 + 1);
+        let lower = |i: usize| position((window.start..i).rev().find(|&j| self.beats(quotes, j, i)));
+        let upper = |i: usize| position((i + 1..newest).find(|&j| self.beats(quotes, j, i)));
+        let filled = |cell: &dyn Fn(usize) -> u32| {
+            let mut cells: Cells = window.clone().map(cell).collect();
+            cells.resize(self.memory, 0);
+            cells
+        };
+        let mut columns = quotes[window.start * self.d..].to_vec();
+        columns.resize(self.memory * self.d, 0);
+        let live = window.clone().filter(|&i| upper(i) == 0).count() as u32;
+        let counts = vec![live, window.len() as u32];
+        [counts, columns, filled(&|i| i as u32 + 1), filled(&lower), filled(&upper)].concat()
     }
 
     /// Puts a book of M quotes into a model.
     fn put(self, model: &mut Model, newest: u32, cells: &[u32]) {
-        let (memory, n) = (self.memory as u32, self.memory);
-        model.head = Head { d: 1, memory, directions: self.higher.into(), newest, rows: cells[0] };
-        model.columns[..n].copy_from_slice(&cells[1..1 + n]);
-        model.positions[..n].copy_from_slice(&cells[1 + n..1 + 2 * n]);
-        model.lower[..n].copy_from_slice(&cells[1 + 2 * n..]);
+        let (n, d) = (self.memory, self.d as u32);
+        let (live, held) = (cells[0], cells[1]);
+        model.head = Head { d, memory: n as u32, directions: self.directions, newest, live, held };
+        let (columns, ends) = cells[2..].split_at(n * self.d);
+        model.columns[..columns.len()].copy_from_slice(columns);
+        model.positions[..n].copy_from_slice(&ends[..n]);
+        model.lower[..n].copy_from_slice(&ends[n..2 * n]);
+        model.upper[..n].copy_from_slice(&ends[2 * n..]);
     }
 
-    /// Whether the calls of a tape leave the model with the book, and every list, that the definitions give.
+    /// Whether the calls of a tape leave the model with the book, and every list and past list, that the definitions
+    /// give.
     fn called_alike(self, plant: Plant, quotes: &[u32]) -> bool {
         let (mut model, mut print) = (Model::new(plant), String::new());
-        model.play(&format!("open 1 {} {}", self.memory, u8::from(self.higher)), &mut print);
-        for value in quotes {
-            model.play(&format!("quote {value}"), &mut print);
+        model.play(&format!("open {} {} {}", self.d, self.memory, self.directions), &mut print);
+        for quote in quotes.chunks(self.d) {
+            model.play(&format!("quote{}", fields(quote)), &mut print);
         }
-        let (n, cells) = (self.memory, self.left_by(quotes));
-        let tables = [&model.columns[..n], &model.positions[..n], &model.lower[..n]].concat();
-        let listed = (1..=n).all(|n| {
-            let list: String = self.list(quotes, n).iter().map(|p| format!(" {p}")).collect();
+        let (n, newest) = (self.memory, quotes.len() / self.d);
+        let mut alike = |call: String, list: &[u32]| {
             print.clear();
-            model.play(&format!("look {n}"), &mut print);
-            print.lines().nth(1).unwrap_or("X") == format!("X{list}")
-        });
-        model.head.rows == cells[0] && tables == cells[1..] && listed
+            model.play(&call, &mut print);
+            print.lines().nth(1).unwrap_or("X") == format!("X{}", fields(list))
+        };
+        let since = |n: usize| newest.saturating_sub(n);
+        let listed = (1..=n).all(|n| alike(format!("look {n}"), &self.unbeaten(quotes, since(n)..newest)));
+        let closed = |n1: usize, n2: usize| self.unbeaten(quotes, since(n2)..(newest + 1).saturating_sub(n1));
+        let mut pairs = (1..=n).flat_map(|n1| (n1..=n).map(move |n2| (n1, n2)));
+        let past = pairs.all(|(n1, n2)| alike(format!("past {n1} {n2}"), &closed(n1, n2)));
+        let counts = [model.head.live, model.head.held];
+        let ends = [&model.positions[..n], &model.lower[..n], &model.upper[..n]].concat();
+        let cells = [&counts[..], &model.columns[..n * self.d], &ends].concat();
+        listed && past && cells == self.left_by(quotes)
     }
 
-    /// Compares the audit with the tapes on every book of M quotes with small cells; a message if they differ.
-    fn compare(self, plant: Plant, values: &[u32], newest: usize) -> Result<usize, String> {
-        let columns = vec![values.to_vec(); newest];
-        let tapes: Vec<Cells> = (0..ways(&columns)).map(|number| way(&columns, number)).collect();
+    /// The values that the counts and cells of a book of M quotes are given, each by itself.
+    fn all_cells(self, newest: u32) -> Vec<Vec<u32>> {
+        let (n, up_to) = (self.memory, |most: u32| (0..=most).collect::<Vec<_>>());
+        let counts = vec![up_to(n as u32 + 1); 2];
+        let columns = vec![self.values.to_vec(); n * self.d];
+        [counts, columns, vec![up_to(newest + 1); n], vec![up_to(newest); n], vec![up_to(newest + 1); n]].concat()
+    }
+
+    /// The same where the positions and the held count are right.
+    fn all_ends(self, newest: u32) -> Vec<Vec<u32>> {
+        let memory = self.memory as u32;
+        let held = memory.min(newest);
+        let row = |place: u32| (place < held).then_some(newest + 1 - held + place);
+        let odd = vec![0, 1];
+        let cells = |cell: &dyn Fn(u32) -> Vec<u32>| -> Vec<Vec<u32>> {
+            (0..memory).map(|place| row(place).map_or(odd.clone(), cell)).collect()
+        };
+        let columns = (0..memory).flat_map(|place| {
+            let column = row(place).map_or(odd.clone(), |_| self.values.to_vec());
+            vec![column; self.d]
+        });
+        let counts = vec![(0..=memory + 1).collect(), vec![held]];
+        let lower = cells(&|position| (0..=position).collect());
+        let upper = cells(&|position| [0].into_iter().chain(position..=newest + 1).collect());
+        [counts, columns.collect(), cells(&|position| vec![position]), lower, upper].concat()
+    }
+
+    /// Calls a function on every book that is tried, as long as it says to go on.
+    fn each_tried(self, tried: Tried, newest: u32, left: &HashSet<Cells>, go_on: impl FnMut(&Cells) -> bool) {
+        match tried {
+            Tried::AllCells => each_way(&self.all_cells(newest), go_on),
+            Tried::AllEnds => each_way(&self.all_ends(newest), go_on),
+            Tried::OneOff => each_one_off(&self.all_cells(newest + 1), left, go_on),
+        }
+    }
+
+    /// Every tape of M quotes.
+    fn tapes(self, newest: u32) -> Vec<Cells> {
+        let mut tapes = Vec::new();
+        each_way(&vec![self.values.to_vec(); newest as usize * self.d], |tape| {
+            tapes.push(tape.clone());
+            true
+        });
+        tapes
+    }
+
+    /// Compares the audit with the tapes on books of M quotes; a message if they differ.
+    fn compare(self, plant: Plant, newest: u32, tried: Tried, compared: &mut Compared) -> Result<(), String> {
+        let tapes = self.tapes(newest);
         if let Some(tape) = tapes.iter().find(|tape| !self.called_alike(plant, tape)) {
-            return Err(format!("the calls of the tape {tape:?} leave another book than the definitions"));
+            return Err(format!("the calls of the tape {tape:?} leave another book or list than the definitions"));
         }
         let left: HashSet<Cells> = tapes.iter().map(|tape| self.left_by(tape)).collect();
-        let (n, up_to) = (self.memory, |most: usize| (0..=most as u32).collect::<Vec<_>>());
-        let (counts, positions, lower) = (up_to(n + 1), up_to(newest + 1), up_to(newest));
-        let choices = [vec![counts], vec![values.to_vec(); n], vec![positions; n], vec![lower; n]].concat();
         let mut model = Model::new(plant);
-        for cells in (0..ways(&choices)).map(|number| way(&choices, number)) {
-            self.put(&mut model, newest as u32, &cells);
-            if model.audit() != Ok(left.contains(&cells)) {
-                let tape = if left.contains(&cells) { "some tape leaves" } else { "no tape leaves" };
-                return Err(format!("{tape} M {newest}, N {n}, {cells:?}; the audit says {:?}", model.audit()));
-            }
+        let mut passes = |cells: &Cells| {
+            self.put(&mut model, newest, cells);
+            model.audit() == Ok(true)
+        };
+        if let Some(cells) = left.iter().find(|cells| !passes(cells)) {
+            return Err(format!("some tape leaves M {newest}, {cells:?}; the audit does not say yes"));
         }
-        Ok(ways(&choices))
+        let mut wrong = None;
+        self.each_tried(tried, newest, &left, |cells| {
+            compared.books += 1;
+            if passes(cells) && !left.contains(cells) {
+                wrong = Some(format!("no tape leaves M {newest}, {cells:?}; the audit says yes"));
+            }
+            wrong.is_none()
+        });
+        compared.left += left.len();
+        compared.retired += left.iter().filter(|cells| cells[0] < cells[1]).count();
+        wrong.map_or(Ok(()), Err)
     }
 }
 
-/// In how many ways one of each of some lists can be chosen.
-fn ways(choices: &[Vec<u32>]) -> usize {
-    choices.iter().map(Vec::len).product()
+/// Numbers with a space before each.
+fn fields(numbers: &[u32]) -> String {
+    numbers.iter().map(|number| format!(" {number}")).collect()
 }
 
-/// The way with a number of choosing one of each of some lists.
-fn way(choices: &[Vec<u32>], number: usize) -> Cells {
-    let mut rest = number;
-    let choose = |choice: &Vec<u32>| {
-        let chosen = choice[rest % choice.len()];
-        rest /= choice.len();
-        chosen
-    };
-    choices.iter().map(choose).collect()
+/// Calls a function on every book that has another value in one cell of a book that a tape leaves, as long as it says
+/// to go on.
+fn each_one_off(choices: &[Vec<u32>], left: &HashSet<Cells>, mut go_on: impl FnMut(&Cells) -> bool) {
+    let changes = || (0..).zip(choices).flat_map(|(i, choice)| choice.iter().map(move |&value| (i, value)));
+    for book in left {
+        for (i, value) in changes() {
+            let mut cells = book.clone();
+            cells[i] = value;
+            if !go_on(&cells) {
+                return;
+            }
+        }
+    }
+}
+
+/// Calls a function on every way of choosing one of each of some lists, as long as it says to go on.
+fn each_way(choices: &[Vec<u32>], mut go_on: impl FnMut(&Cells) -> bool) {
+    let mut chosen = vec![0; choices.len()];
+    let mut cells: Cells = choices.iter().map(|choice| choice[0]).collect();
+    while go_on(&cells) {
+        let Some(i) = (0..choices.len()).find(|&i| chosen[i] + 1 < choices[i].len()) else {
+            return;
+        };
+        chosen[..i].fill(0);
+        chosen[i] += 1;
+        for j in 0..=i {
+            cells[j] = choices[j][chosen[j]];
+        }
+    }
 }
 
 /// Tries the audit and the calls on all books and tapes of small settings; yes if nothing differs.
 pub fn hold(plant: Plant) -> bool {
-    let many = [0, 1, u32::MAX - 1, u32::MAX];
-    let few = [0, u32::MAX];
-    let mut books = 0;
-    for (memory, values, most) in [(1, &many[..], 4), (2, &many[..], 4), (3, &few[..], 4)] {
-        for (higher, newest) in (0..=most).flat_map(|newest| [(false, newest), (true, newest)]) {
-            match (Settings { memory, higher }).compare(plant, values, newest) {
-                Ok(more) => books += more,
-                Err(message) => {
-                    println!("random_calls: the rules differ: {message}");
-                    return false;
-                }
+    const EDGES: &[u32] = &[0, 1, u32::MAX - 1, u32::MAX];
+    const TWO: &[u32] = &[0, u32::MAX];
+    const THREE: &[u32] = &[0, 1, u32::MAX];
+    let settings = |d, memory, directions, values| Settings { d, memory, directions, values };
+    let runs = [
+        (settings(1, 1, 0, EDGES), Tried::AllCells, 4),
+        (settings(1, 2, 0, TWO), Tried::AllCells, 4),
+        (settings(1, 2, 1, TWO), Tried::AllCells, 3),
+        (settings(1, 3, 0, THREE), Tried::AllEnds, 5),
+        (settings(1, 3, 1, THREE), Tried::AllEnds, 4),
+        (settings(2, 3, 1, TWO), Tried::AllEnds, 4),
+        (settings(1, 4, 0, THREE), Tried::OneOff, 6),
+        (settings(2, 4, 2, TWO), Tried::OneOff, 6),
+    ];
+    let mut compared = Compared::default();
+    for (settings, tried, most) in runs {
+        for newest in 0..=most {
+            if let Err(message) = settings.compare(plant, newest, tried, &mut compared) {
+                println!("random_calls: the rules differ: N {}, {message}", settings.memory);
+                return false;
             }
         }
     }
+    let Compared { books, left, retired } = compared;
     println!("random_calls: the audit's rules and 'some tape leaves it' agree on {books} books");
+    println!("random_calls: tapes leave {left} of them, {retired} with a retired row");
     true
 }

@@ -1,5 +1,5 @@
-//! Lists of calls made at random from a seed: sound books, made-up tables, torn ones, short loans, outputs around the
-//! answer's length, heads of any values; and small lists that go through settings, n and counts of watches one by one.
+//! Lists of calls made at random from a seed: sound books, made-up tables with any ends, torn ones, short loans,
+//! outputs around the answer's length, heads of any values.
 
 use crate::call_model::{settings_hold, Head, Model, Plant, COLUMN_CELLS, LAST_POSITION, OUTPUT, PLACES, RECORDS};
 use crate::random::Random;
@@ -25,28 +25,35 @@ const EDGES: [u32; 16] = [
 ];
 
 /// Lines that cannot be taken.
-const BAD_LINES: [&str; 16] = [
+pub const BAD_LINES: [&str; 23] = [
     "",
     "quoted 1",
     "open 1 2",
     "open 1 2 0 0",
     "look",
     "look 1 2",
+    "past 1",
+    "past 1 2 3",
+    "past 1 x",
     "watch x",
     "end -1",
     "audit 1",
     "look 4294967296",
+    "head 1 2 0 0 0",
     "lend columns 6145",
+    "lend upper 1025",
+    "lend ends 1",
     "lend out 57401",
     "lend watches 8",
     "cell watches 8 1",
     "cell lower 1024 1",
+    "cell upper 1024 1",
     "cell columns 6144 0",
 ];
 
 /// How the columns of a list's quotes are drawn.
 #[derive(Clone, Copy)]
-enum Values {
+pub enum Values {
     /// One of so many distinct values, so that equal quotes abound.
     Few(u64),
     /// Any value.
@@ -60,20 +67,20 @@ enum Values {
 }
 
 /// A list being made: its lines, and the model that has played them.
-struct List {
+pub struct List {
     r: Random,
     model: Model,
-    lines: Vec<String>,
-    d: u32,
-    memory: u32,
-    directions: u32,
-    values: Values,
+    pub lines: Vec<String>,
+    pub d: u32,
+    pub memory: u32,
+    pub directions: u32,
+    pub values: Values,
     steps: u32,
 }
 
 impl List {
     /// A list that begins by lending everything and setting everything to zeros; settings in range are drawn for it.
-    fn new(mut r: Random) -> List {
+    pub fn new(mut r: Random) -> List {
         let d = 1 + r.below(6) as u32;
         let memory = match r.below(40) {
             0 => 1_024,
@@ -94,12 +101,12 @@ impl List {
             List { r, model: Model::new(Plant::Nothing), lines: Vec::new(), d, memory, directions, values, steps: 0 };
         list.lend_all();
         list.say("open 6 1024 0".into());
-        list.say("head 0 0 0 0 0".into());
+        list.say("head 0 0 0 0 0 0".into());
         list
     }
 
     /// Adds a line, and has the model play it.
-    fn say(&mut self, line: String) {
+    pub fn say(&mut self, line: String) {
         self.model.play(&line, &mut String::new());
         self.lines.push(line);
     }
@@ -142,8 +149,24 @@ impl List {
         }
     }
 
+    /// The line of a past look: mostly of two window sizes in order, alike at times, at times the wrong way round, both
+    /// above N, or one of them out of range.
+    fn past(&mut self) -> String {
+        let (one, other) = (self.window_size(), self.window_size());
+        let (n1, n2) = match self.r.below(10) {
+            0 => (one, one),
+            1 => (one.max(other), one.min(other)),
+            2 => (0, one),
+            3 => (one, self.one_of(&[0, self.memory, self.memory + 1])),
+            4 => (self.memory + self.between(1, 3), self.memory + self.between(1, 3)),
+            5 => (self.between(1, self.memory), self.memory),
+            _ => (one.min(other), one.max(other)),
+        };
+        format!("past {n1} {n2}")
+    }
+
     /// The line of a quote, once in 30 with a column count of its own.
-    fn quote(&mut self) -> String {
+    pub fn quote(&mut self) -> String {
         let count = if self.once_in(30) { self.between(0, 8) } else { self.d };
         self.steps += 1;
         (0..count).fold("quote".into(), |line, _| format!("{line} {}", self.value()))
@@ -151,9 +174,10 @@ impl List {
 
     /// The line of some call that can have an output.
     fn writing_call(&mut self) -> String {
-        match self.r.below(4) {
+        match self.r.below(5) {
             0 => format!("look {}", self.window_size()),
             1 => format!("watch {}", self.window_size()),
+            2 => self.past(),
             _ => self.quote(),
         }
     }
@@ -169,13 +193,15 @@ impl List {
 
     /// Lends all of every buffer.
     fn lend_all(&mut self) {
-        for (name, length) in [("columns", COLUMN_CELLS), ("positions", PLACES), ("lower", PLACES), ("out", OUTPUT)] {
-            self.say(format!("lend {name} {length}"));
+        for name in ["positions", "lower", "upper"] {
+            self.say(format!("lend {name} {PLACES}"));
         }
+        self.say(format!("lend columns {COLUMN_CELLS}"));
+        self.say(format!("lend out {OUTPUT}"));
     }
 
     /// An opening with the list's settings.
-    fn open(&mut self) {
+    pub fn open(&mut self) {
         self.say(format!("open {} {} {}", self.d, self.memory, self.directions));
     }
 
@@ -196,17 +222,35 @@ impl List {
         }
     }
 
-    /// The head with the list's settings, and these M and row count.
-    fn head(&mut self, newest: u32, rows: u32) {
-        self.say(format!("head {} {} {} {newest} {rows}", self.d, self.memory, self.directions));
+    /// The head with the list's settings, and these M, live and held counts.
+    pub fn head(&mut self, newest: u32, live: u32, held: u32) {
+        self.say(format!("head {} {} {} {newest} {live} {held}", self.d, self.memory, self.directions));
+    }
+
+    /// The head that it was, with as many live rows as held ones have an upper end of 0.
+    fn recount(&mut self) {
+        let Head { newest, held, .. } = self.model.head;
+        let live = self.model.upper.iter().take(held as usize).filter(|&&upper| upper == 0).count();
+        self.head(newest, live as u32, held);
+    }
+
+    /// A row at a place of the tables.
+    pub fn row(&mut self, place: u32, position: u32, lower: u32, upper: u32, columns: &[u32]) {
+        self.say(format!("cell positions {place} {position}"));
+        self.say(format!("cell lower {place} {lower}"));
+        self.say(format!("cell upper {place} {upper}"));
+        for (i, value) in columns.iter().enumerate() {
+            self.say(format!("cell columns {} {value}", place as usize * columns.len() + i));
+        }
     }
 
     /// Lends a table one cell too short or just long enough for the settings, and says the call.
     fn short_loan(&mut self) {
-        let (name, asked, longest) = match self.r.below(3) {
+        let (name, asked, longest) = match self.r.below(4) {
             0 => ("columns", self.memory * self.d, COLUMN_CELLS as u32),
             1 => ("positions", self.memory, PLACES as u32),
-            _ => ("lower", self.memory, PLACES as u32),
+            2 => ("lower", self.memory, PLACES as u32),
+            _ => ("upper", self.memory, PLACES as u32),
         };
         let length = match self.r.below(6) {
             0 => 0,
@@ -225,7 +269,7 @@ impl List {
     }
 
     /// How many bytes or cells the answer of a call has, were the output long enough.
-    fn answer_length(&self, call: &str) -> usize {
+    pub fn answer_length(&self, call: &str) -> usize {
         let mut trial = self.model.clone();
         let mut print = String::new();
         trial.lent.out = OUTPUT;
@@ -234,7 +278,7 @@ impl List {
     }
 
     /// A call with an output that is one too short, just long enough, or one longer.
-    fn tight_output(&mut self) {
+    pub fn tight_output(&mut self) {
         let call = self.writing_call();
         let length = self.answer_length(&call);
         if length > 0 && !self.once_in(4) {
@@ -250,10 +294,11 @@ impl List {
     /// A cell of a table or a record gets an odd value; after a call or two it is mostly put back.
     fn poke(&mut self) {
         let places = self.memory.min(PLACES as u32 - 2) + 2;
-        let (name, i) = match self.r.below(4) {
+        let (name, i) = match self.r.below(5) {
             0 => ("columns", self.between(0, places * self.d - 1)),
             1 => ("positions", self.between(0, places - 1)),
             2 => ("lower", self.between(0, places - 1)),
+            3 => ("upper", self.between(0, places - 1)),
             _ => ("watches", self.between(0, RECORDS as u32 - 1)),
         };
         let at = i as usize;
@@ -261,6 +306,7 @@ impl List {
             "columns" => self.model.columns[at],
             "positions" => self.model.positions[at],
             "lower" => self.model.lower[at],
+            "upper" => self.model.upper[at],
             _ => self.model.watches[at],
         };
         let near = [old.wrapping_sub(1), old.wrapping_add(1), self.model.head.newest, 0, 1, u32::MAX];
@@ -278,12 +324,12 @@ impl List {
     /// Shows tables and records, and sometimes some places past N too.
     fn show(&mut self) {
         self.say("show".into());
-        let Head { d, memory, directions, newest, rows } = self.model.head;
+        let Head { d, memory, directions, newest, live, held } = self.model.head;
         let more = self.between(1, 2);
         if self.once_in(2) && settings_hold(d, memory.saturating_add(more), 0) {
-            self.say(format!("head {d} {} 0 0 0", memory + more));
+            self.say(format!("head {d} {} 0 0 0 0", memory + more));
             self.say("show".into());
-            self.say(format!("head {d} {memory} {directions} {newest} {rows}"));
+            self.say(format!("head {d} {memory} {directions} {newest} {live} {held}"));
         }
     }
 
@@ -330,10 +376,11 @@ impl List {
         let places = self.memory.min(30) + 3;
         for _ in 0..self.r.below(12) {
             let value = self.one_of(&EDGES);
-            let line = match self.r.below(4) {
+            let line = match self.r.below(5) {
                 0 => format!("cell columns {} {value}", self.between(0, places * self.d)),
                 1 => format!("cell positions {} {value}", self.between(0, places)),
                 2 => format!("cell lower {} {value}", self.between(0, places)),
+                3 => format!("cell upper {} {value}", self.between(0, places)),
                 _ => format!("cell watches {} {value}", self.between(0, 7)),
             };
             self.say(line);
@@ -341,6 +388,7 @@ impl List {
         if self.memory < PLACES as u32 {
             self.say(format!("cell positions {} {}", self.memory, u32::MAX));
             self.say(format!("cell lower {} 7", self.memory));
+            self.say(format!("cell upper {} 8", self.memory));
             self.say(format!("cell columns {} 9", self.memory * self.d));
         }
     }
@@ -369,31 +417,40 @@ impl List {
         }
     }
 
-    /// Tables whoever left them: any rows of the window with the newest, any lower ends below them.
+    /// A lower end below a position, of a window from its start on: none, an older position, or one before the window.
+    fn some_lower(&mut self, start: u32, position: u32) -> u32 {
+        match self.r.below(6) {
+            0 => 0,
+            1 => start - 1,
+            2 => self.between(0, position - 1),
+            3 => position - 1,
+            4 => start.min(position - 1),
+            _ => self.between(start.min(position - 1), position - 1),
+        }
+    }
+
+    /// An upper end of a position where so many in four are retired: none, or a younger position up to the newest.
+    fn some_upper(&mut self, position: u32, newest: u32, retired: u64) -> u32 {
+        if position == newest || self.r.below(4) >= retired {
+            return 0;
+        }
+        self.between(position + 1, newest)
+    }
+
+    /// Tables whoever left them: a row for every position of the window, any lower ends below and upper ends above it.
     fn made_up_book(&mut self) {
         self.litter();
         let newest = self.some_newest();
         let start = (newest + 1).saturating_sub(self.memory).max(1);
-        let density = 1 + self.r.below(4);
-        let mut positions: Vec<u32> = (start..newest).filter(|_| self.r.below(4) < density).collect();
-        positions.extend((newest > 0).then_some(newest));
-        for (i, &position) in positions.iter().enumerate() {
-            let lower = match self.r.below(6) {
-                0 => 0,
-                1 => start.saturating_sub(1),
-                2 => self.between(0, position - 1),
-                3 => position - 1,
-                4 => start.min(position - 1),
-                _ => positions[self.r.below(i as u64 + 1) as usize].min(position - 1),
-            };
-            self.say(format!("cell positions {i} {position}"));
-            self.say(format!("cell lower {i} {lower}"));
-            for column in i as u32 * self.d..(i as u32 + 1) * self.d {
-                let value = self.value();
-                self.say(format!("cell columns {column} {value}"));
-            }
+        let retired = self.r.below(4);
+        for position in start..=newest {
+            let lower = self.some_lower(start, position);
+            let upper = self.some_upper(position, newest, retired);
+            let columns: Vec<u32> = (0..self.d).map(|_| self.value()).collect();
+            self.row(position - start, position, lower, upper, &columns);
         }
-        self.head(newest, positions.len() as u32);
+        self.head(newest, 0, newest + 1 - start);
+        self.recount();
         self.made_up_watches();
     }
 
@@ -408,37 +465,79 @@ impl List {
         }
     }
 
-    /// Tears head or rows in one of the ways that the paper names.
+    /// Tears head or rows in one of the ways that the papers name.
     fn tear_rows(&mut self) {
-        let head = self.model.head;
-        let last = head.rows.max(1) - 1;
-        let any = self.between(0, last);
-        let start = (head.newest + 1).saturating_sub(self.memory).max(1);
-        match self.r.below(9) {
-            0 => self.head(head.newest, self.memory + 1),
-            1 => self.head(head.newest, u32::MAX),
-            2 => self.head(LAST_POSITION + 1, head.rows),
-            3 => self.head(head.newest.max(1), 0),
-            4 => self.head(0, head.rows.max(1)),
-            5 => {
-                let before = self.model.positions[any as usize];
-                self.say(format!("cell positions {} {before}", (any + 1).min(last)));
-                self.say(format!("cell positions {any} {}", before.saturating_add(u32::from(any == last))));
+        let Head { newest, live, held, .. } = self.model.head;
+        match self.r.below(12) {
+            0 => self.head(newest, live, self.memory + 1),
+            1 => self.head(newest, live, u32::MAX),
+            2 => self.head(LAST_POSITION + 1, live, held),
+            3 => self.head(newest.max(1), live, 0),
+            4 => self.head(0, live, held.max(1)),
+            5 | 6 => self.tear_positions(),
+            7 => self.tear_gap(),
+            8 => {
+                let wrong = self.one_of(&[live.wrapping_sub(1), live + 1, u32::MAX]);
+                self.head(newest, wrong, held);
             }
-            6 => self.say(format!("cell positions 0 {}", start - 1)),
-            7 => {
-                let wrong = if self.once_in(2) { head.newest + 1 } else { head.newest.max(1) - 1 };
-                self.say(format!("cell positions {last} {wrong}"));
-            }
-            _ => {
+            9 => {
+                let any = self.between(0, held.max(1) - 1);
                 let more = self.between(0, 1);
                 let lower = self.model.positions[any as usize].saturating_add(more);
                 self.say(format!("cell lower {any} {lower}"));
             }
+            _ => self.tear_upper(),
         }
     }
 
-    /// Tears the watches in one of the ways that the paper names.
+    /// Tears the positions: two alike or falling, one before the window, or another than M at the end.
+    fn tear_positions(&mut self) {
+        let Head { newest, held, .. } = self.model.head;
+        let last = held.max(1) - 1;
+        let start = (newest + 1).saturating_sub(self.memory).max(1);
+        match self.r.below(3) {
+            0 => {
+                let any = self.between(0, last);
+                let before = self.model.positions[any as usize];
+                self.say(format!("cell positions {} {before}", (any + 1).min(last)));
+                self.say(format!("cell positions {any} {}", before.saturating_add(u32::from(any == last))));
+            }
+            1 => self.say(format!("cell positions 0 {}", start - 1)),
+            _ => {
+                let wrong = if self.once_in(2) { newest + 1 } else { newest.max(1) - 1 };
+                self.say(format!("cell positions {last} {wrong}"));
+            }
+        }
+    }
+
+    /// Tears the window by a gap: one row but the newest goes, the younger ones move up, and both counts follow.
+    fn tear_gap(&mut self) {
+        let Head { newest, live, held, .. } = self.model.head;
+        if held < 2 || held > self.memory {
+            return;
+        }
+        let d = self.d as usize;
+        for place in self.between(0, held - 2)..held - 1 {
+            let next = place as usize + 1;
+            let (position, lower) = (self.model.positions[next], self.model.lower[next]);
+            let columns = self.model.columns[next * d..(next + 1) * d].to_vec();
+            self.row(place, position, lower, self.model.upper[next], &columns);
+        }
+        self.head(newest, live, held - 1);
+        self.recount();
+    }
+
+    /// Tears an upper end: one that is not above its position, or one above M; the live count follows.
+    fn tear_upper(&mut self) {
+        let Head { newest, held, .. } = self.model.head;
+        let any = self.between(0, held.max(1) - 1);
+        let position = self.model.positions[any as usize];
+        let upper = self.one_of(&[1, position.max(2) - 1, position, position, newest + 1, u32::MAX]);
+        self.say(format!("cell upper {any} {upper}"));
+        self.recount();
+    }
+
+    /// Tears the watches in one of the ways that the papers name.
     fn tear_watches(&mut self) {
         let i = self.between(0, 6);
         match self.r.below(4) {
@@ -478,6 +577,8 @@ impl List {
             let n = self.window_size();
             self.say(format!("{word} {n}"));
         }
+        let past = self.past();
+        self.say(past);
         let quote = self.quote();
         self.say(quote);
         self.say("audit".into());
@@ -491,7 +592,7 @@ impl List {
     fn any_heads(&mut self) {
         self.litter();
         for _ in 0..1 + self.r.below(6) {
-            let line = (0..5).fold("head".into(), |line: String, _| format!("{line} {}", self.one_of(&EDGES)));
+            let line = (0..6).fold("head".into(), |line: String, _| format!("{line} {}", self.one_of(&EDGES)));
             self.say(line);
             for _ in 0..1 + self.r.below(4) {
                 let call = self.any_call();
@@ -527,105 +628,4 @@ pub fn random_list(seed: u64, index: u64) -> Vec<String> {
         }
     }
     list.lines
-}
-
-/// A list with the settings given, after the lines that every list begins with.
-fn small_list(d: u32, memory: u32, directions: u32) -> List {
-    let mut list = List::new(Random::new(u64::from(d), u64::from(memory)));
-    (list.d, list.memory, list.directions, list.values) = (d, memory, directions, Values::Few(3));
-    list.open();
-    list
-}
-
-/// After each of some quotes every n from 0 to N + 1 is looked at, watched, and its watch ended.
-fn every_window(d: u32, memory: u32, directions: u32) -> Vec<String> {
-    let mut list = small_list(d, memory, directions);
-    for _ in 0..memory + 3 {
-        for word in ["look", "watch", "end"] {
-            for n in 0..=memory + 1 {
-                list.say(format!("{word} {n}"));
-            }
-        }
-        list.say("audit".into());
-        list.say(format!("watch {memory}"));
-        list.tight_output();
-        list.say("show".into());
-    }
-    list.lines
-}
-
-/// Watches set up to a count and one more, a quote under them, and each ended, in an order that differs with the count.
-fn every_count(count: u32) -> Vec<String> {
-    let mut list = small_list(2, 12, 1);
-    for i in 0..count {
-        list.say(format!("watch {}", 1 + (5 * i + count) % 12));
-        list.say("quote 3 4".into());
-        list.tight_output();
-        list.say("show".into());
-    }
-    for i in 0..12 {
-        list.say(format!("end {}", 1 + (7 * i + count) % 12));
-        list.say("show".into());
-    }
-    list.lines
-}
-
-/// Eight watches on 1,024 equal quotes, and a quote that beats them all, with an output one byte too short and in full.
-fn longest_answer() -> Vec<String> {
-    let mut list = small_list(1, 1_024, 0);
-    for _ in 0..1_024 {
-        list.say("quote 5".into());
-    }
-    for n in 1_017..=1_024 {
-        list.say(format!("watch {n}"));
-    }
-    let length = list.answer_length("quote 4");
-    for less in [1, 0] {
-        list.say(format!("lend out {}", length - less));
-        list.say("quote 4".into());
-    }
-    list.say("audit".into());
-    list.say("show".into());
-    list.lines
-}
-
-/// The marked audits of the paper: a sole row of the worst quote, of the next to the worst, and lower ends of two rows.
-fn marked_audits() -> Vec<String> {
-    let mut list = small_list(1, 2, 0);
-    for value in [u32::MAX, u32::MAX - 1] {
-        list.say("cell positions 0 2".into());
-        list.say(format!("cell columns 0 {value}"));
-        list.head(2, 1);
-        list.say("audit".into());
-    }
-    for (i, value) in [(0, 3), (1, 5)] {
-        list.say(format!("cell positions {i} {}", i + 1));
-        list.say(format!("cell columns {i} {value}"));
-    }
-    list.head(2, 2);
-    for lower in 0..3 {
-        list.say(format!("cell lower 1 {lower}"));
-        list.say("audit".into());
-        list.say("look 1".into());
-        list.say("look 2".into());
-    }
-    list.lines
-}
-
-/// Lists that go through small settings, every n, every count of watches, every sort of line that cannot be taken, and
-/// the longest answer.
-pub fn small_lists() -> Vec<Vec<String>> {
-    let mut lists = Vec::new();
-    for d in 1..=6 {
-        for memory in 1..=5 {
-            for directions in 0..1 << d {
-                lists.push(every_window(d, memory, directions));
-            }
-        }
-    }
-    lists.extend((0..=9).map(every_count));
-    lists.push(BAD_LINES.iter().map(|line| line.to_string()).collect());
-    lists.push(longest_answer());
-    lists.push(marked_audits());
-    lists
 }

@@ -1,5 +1,5 @@
-//! A plain model of the calls on any tables, written from the scope paper alone: it reads a list of calls, one a line,
-//! makes them on tables of its own and prints what is seen.
+//! A plain model of the calls on any tables, written from the papers alone: it reads a list of calls, one a line, makes
+//! them on tables of its own and prints what is seen.
 
 use std::fmt::Write as _;
 
@@ -26,8 +26,18 @@ pub enum Plant {
     PastMemory,
     /// 13 is said of an output that is just long enough.
     Early,
-    /// The audit does not ask for a later row that is not the worst quote.
-    Worst,
+    /// A new row's lower end is sought among the live rows alone.
+    LiveLower,
+    /// A quote sets the upper end of every row that it beats, of the retired ones too.
+    Overwritten,
+    /// A retired row keeps a lower end that names the position that ages out.
+    RetiredLower,
+    /// A past look tries 14 before 5.
+    FourteenFirst,
+    /// The places from the live count on, not those from the held count on, are zeros.
+    LiveZeros,
+    /// The audit does not ask whether upper ends are right.
+    UpperFree,
 }
 
 /// The head of a book.
@@ -37,7 +47,8 @@ pub struct Head {
     pub memory: u32,
     pub directions: u32,
     pub newest: u32,
-    pub rows: u32,
+    pub live: u32,
+    pub held: u32,
 }
 
 /// How much of each buffer is lent to the calls.
@@ -46,15 +57,16 @@ pub struct Lent {
     pub columns: usize,
     pub positions: usize,
     pub lower: usize,
+    pub upper: usize,
     pub out: usize,
 }
 
-/// A row of the book; columns that it does not have are 0.
-#[derive(Clone, PartialEq)]
+/// A held row of the book; columns that it does not have are 0, and so is the upper end of a live one.
 struct Row {
     position: u32,
     columns: [u32; 6],
     lower: u32,
+    upper: u32,
 }
 
 /// What the model holds: the head last handed back, the tables and records, what is lent of them, and the lines read.
@@ -65,6 +77,7 @@ pub struct Model {
     pub columns: Vec<u32>,
     pub positions: Vec<u32>,
     pub lower: Vec<u32>,
+    pub upper: Vec<u32>,
     pub watches: [u32; RECORDS],
     pub lent: Lent,
     lines: usize,
@@ -75,9 +88,22 @@ pub fn settings_hold(d: u32, memory: u32, directions: u32) -> bool {
     (1..=MOST_COLUMNS).contains(&d) && (1..=LARGEST_MEMORY).contains(&memory) && directions < 1 << d
 }
 
-/// The positions that follow the lower ends onto the list of a window from its start on: lower end < start <= position.
+/// The start of the window of n where M is the newest position: the larger of 1 and M - n + 1.
+fn start_of(newest: u32, n: u32) -> u32 {
+    (newest + 1).saturating_sub(n).max(1)
+}
+
+/// The list of a window from its start on: the live rows with lower end < start <= position.
 fn listed(rows: &[Row], start: u32) -> Vec<u32> {
-    rows.iter().filter(|row| row.lower < start && start <= row.position).map(|row| row.position).collect()
+    let on = |row: &&Row| row.upper == 0 && row.lower < start && start <= row.position;
+    rows.iter().filter(on).map(|row| row.position).collect()
+}
+
+/// The past list from a to b: the held rows with lower end < a <= position <= b and an upper end of 0 or above b.
+fn listed_past(rows: &[Row], a: u32, b: u32) -> Vec<u32> {
+    let inside = |row: &Row| row.lower < a && a <= row.position && row.position <= b;
+    let on = |row: &&Row| inside(row) && (row.upper == 0 || row.upper > b);
+    rows.iter().filter(on).map(|row| row.position).collect()
 }
 
 /// The frames of the changes of n from one list to another: the leaves, then the joins.
@@ -100,8 +126,9 @@ impl Model {
             columns: vec![0; COLUMN_CELLS],
             positions: vec![0; PLACES],
             lower: vec![0; PLACES],
+            upper: vec![0; PLACES],
             watches: [0; RECORDS],
-            lent: Lent { columns: COLUMN_CELLS, positions: PLACES, lower: PLACES, out: OUTPUT },
+            lent: Lent { columns: COLUMN_CELLS, positions: PLACES, lower: PLACES, upper: PLACES, out: OUTPUT },
             lines: 0,
         }
     }
@@ -119,50 +146,55 @@ impl Model {
         columns.clone().all(|i| !better(q, p, i)) && columns.clone().any(|i| better(p, q, i))
     }
 
-    /// Whether no quote is worse than this one: 4,294,967,295 in low columns, 0 in high ones.
-    fn is_worst(&self, quote: &[u32]) -> bool {
-        (0..self.head.d as usize).all(|i| quote[i] == if self.head.directions >> i & 1 == 1 { 0 } else { u32::MAX })
-    }
-
-    /// The start of the window of n: the larger of 1 and M - n + 1.
+    /// The start of the window of n.
     fn start(&self, n: u32) -> u32 {
-        (self.head.newest + 1).saturating_sub(n).max(1)
+        start_of(self.head.newest, n)
     }
 
-    /// The rows that head and tables hold.
+    /// The rows that head and tables hold, live and retired.
     fn rows(&self) -> Vec<Row> {
         let d = self.head.d as usize;
         let row = |i: usize| {
             let mut columns = [0; 6];
             columns[..d].copy_from_slice(&self.columns[i * d..(i + 1) * d]);
-            Row { position: self.positions[i], columns, lower: self.lower[i] }
+            Row { position: self.positions[i], columns, lower: self.lower[i], upper: self.upper[i] }
         };
-        (0..self.head.rows as usize).map(row).collect()
+        (0..self.head.held as usize).map(row).collect()
     }
 
     /// The lower end of a quote behind some rows: the position of the youngest of them that beats it, or 0.
-    fn lower_end(&self, older: &[Row], quote: &[u32]) -> u32 {
-        older.iter().rev().find(|row| self.beats(&row.columns, quote)).map_or(0, |row| row.position)
+    fn lower_end<'a>(&self, older: impl DoubleEndedIterator<Item = &'a Row>, quote: &[u32]) -> u32 {
+        older.rev().find(|row| self.beats(&row.columns, quote)).map_or(0, |row| row.position)
+    }
+
+    /// The upper end of a quote before some rows: the position of the oldest of them that beats it, or 0.
+    fn upper_end(&self, younger: &[Row], quote: &[u32]) -> u32 {
+        younger.iter().find(|row| self.beats(&row.columns, quote)).map_or(0, |row| row.position)
     }
 
     /// Whether a table is shorter than these settings ask.
     fn short(&self, d: u32, memory: u32) -> bool {
-        let places = memory as usize;
-        self.lent.columns < places * d as usize || self.lent.positions < places || self.lent.lower < places
+        let (places, lent) = (memory as usize, &self.lent);
+        let ends = lent.lower < places || lent.upper < places;
+        lent.columns < places * d as usize || lent.positions < places || ends
     }
 
     /// Whether head and rows are torn.
     fn torn_rows(&self) -> bool {
-        let Head { memory, newest, rows, .. } = self.head;
-        if rows > memory || newest > LAST_POSITION || (rows == 0) != (newest == 0) {
+        let Head { memory, newest, live, held, .. } = self.head;
+        if held > memory || newest > LAST_POSITION || (held == 0) != (newest == 0) {
             return true;
         }
-        let positions = &self.positions[..rows as usize];
+        let rows = self.rows();
+        let positions: Vec<u32> = rows.iter().map(|row| row.position).collect();
         let rising = positions.windows(2).all(|pair| pair[0] < pair[1]);
         let inside = positions.iter().all(|&p| self.start(memory) <= p && p <= newest);
         let ends = positions.last().map_or(true, |&p| p == newest);
-        let below = positions.iter().zip(&self.lower).all(|(&p, &lower)| lower < p);
-        !(rising && inside && ends && below)
+        let fill = (self.start(memory)..=newest).all(|p| positions.binary_search(&p).is_ok());
+        let below = rows.iter().all(|row| row.lower < row.position);
+        let above = rows.iter().all(|row| row.upper == 0 || row.position < row.upper && row.upper <= newest);
+        let counted = rows.iter().filter(|row| row.upper == 0).count() == live as usize;
+        !(rising && inside && ends && fill && below && above && counted)
     }
 
     /// Whether the watches are not rising, not ending in empties, or above N.
@@ -219,7 +251,7 @@ impl Model {
         if self.short(d, memory) {
             return Err(11);
         }
-        self.head = Head { d, memory, directions, newest: 0, rows: 0 };
+        self.head = Head { d, memory, directions, newest: 0, live: 0, held: 0 };
         self.store(&[]);
         self.watches = [0; RECORDS];
         Ok(Vec::new())
@@ -231,26 +263,57 @@ impl Model {
         self.columns[..places * d].fill(0);
         self.positions[..places].fill(0);
         self.lower[..places].fill(0);
-        for (i, row) in rows.iter().enumerate() {
+        self.upper[..places].fill(0);
+        for (i, row) in rows.iter().enumerate().take(self.kept()) {
             self.columns[i * d..(i + 1) * d].copy_from_slice(&row.columns[..d]);
             self.positions[i] = row.position;
             self.lower[i] = row.lower;
+            self.upper[i] = row.upper;
         }
     }
 
-    /// The rows after a quote: without those that it beats and the one that ages out, and with its own.
+    /// How many places are not zeros: the held count.
+    fn kept(&self) -> usize {
+        if self.plant == Plant::LiveZeros {
+            return self.head.live as usize;
+        }
+        self.head.held as usize
+    }
+
+    /// Whether a row's lower end becomes 0 as a position ages out: exactly if it names that position.
+    fn loses_lower(&self, row: &Row, aged: u32) -> bool {
+        match self.plant {
+            Plant::Renamed => row.lower <= aged,
+            Plant::RetiredLower => row.lower == aged && row.upper == 0,
+            _ => row.lower == aged,
+        }
+    }
+
+    /// Whether a quote gives a row an upper end: exactly if it beats it and the row is live.
+    fn retires(&self, quote: &[u32], row: &Row) -> bool {
+        self.beats(quote, &row.columns) && (row.upper == 0 || self.plant == Plant::Overwritten)
+    }
+
+    /// The rows after a quote: without the one that ages out, those that it beats retired, and its own behind them; its
+    /// lower end is sought among all held rows that are left.
     fn rows_after(&self, quote: &[u32]) -> Vec<Row> {
         let position = self.head.newest + 1;
         let aged = position.saturating_sub(self.head.memory);
-        let named = |lower: u32| lower == aged || self.plant == Plant::Renamed && lower < aged;
         let mut rows = self.rows();
-        rows.retain(|row| row.position != aged && !self.beats(quote, &row.columns));
+        rows.retain(|row| row.position != aged);
+        let sought = rows.iter().filter(|row| row.upper == 0 || self.plant != Plant::LiveLower);
+        let lower = self.lower_end(sought, quote);
         for row in &mut rows {
-            row.lower = if named(row.lower) { 0 } else { row.lower };
+            if self.loses_lower(row, aged) {
+                row.lower = 0;
+            }
+            if self.retires(quote, row) {
+                row.upper = position;
+            }
         }
         let mut columns = [0; 6];
         columns[..quote.len()].copy_from_slice(quote);
-        rows.push(Row { position, columns, lower: self.lower_end(&rows, quote) });
+        rows.push(Row { position, columns, lower, upper: 0 });
         rows
     }
 
@@ -263,12 +326,11 @@ impl Model {
         if self.head.newest == LAST_POSITION {
             return Err(6);
         }
-        let (before, after) = (self.rows(), self.rows_after(quote));
-        let head = Head { newest: self.head.newest + 1, rows: after.len() as u32, ..self.head };
-        let start_after = |n: u32| (head.newest + 1).saturating_sub(n).max(1);
-        let change = |n: u32| changes(n, &listed(&before, self.start(n)), &listed(&after, start_after(n)));
+        let (before, after, newest) = (self.rows(), self.rows_after(quote), self.head.newest + 1);
+        let live = after.iter().filter(|row| row.upper == 0).count() as u32;
+        let change = |n: u32| changes(n, &listed(&before, self.start(n)), &listed(&after, start_of(newest, n)));
         let answer = self.fitting(self.standing().into_iter().flat_map(change).collect())?;
-        self.head = head;
+        self.head = Head { newest, live, held: after.len() as u32, ..self.head };
         self.store(&after);
         if self.plant == Plant::PastMemory && self.positions.len() > self.head.memory as usize {
             self.positions[self.head.memory as usize] = 0;
@@ -281,6 +343,20 @@ impl Model {
         self.judged(false)?;
         self.in_memory(n)?;
         self.fitting(listed(&self.rows(), self.start(n)))
+    }
+
+    /// A past look: 3, 11, 12, 5, 14, 13; else the past list of n1 and n2, empty if b is below 1.
+    fn past(&self, n1: u32, n2: u32) -> Result<Vec<u32>, u32> {
+        self.judged(false)?;
+        let early = self.plant == Plant::FourteenFirst && n1 > n2;
+        if !early && (n1 == 0 || n2 > self.head.memory) {
+            return Err(5);
+        }
+        if n1 > n2 {
+            return Err(14);
+        }
+        let b = (self.head.newest + 1).saturating_sub(n1);
+        self.fitting(listed_past(&self.rows(), self.start(n2), b))
     }
 
     /// A watch: 3, 11, 12, 5, 8, 9, 13; else n is added, and its joins are the answer.
@@ -320,7 +396,8 @@ impl Model {
         self.watches[..standing.len()].copy_from_slice(standing);
     }
 
-    /// The audit: 3, 11; else whether some tape leaves these rows, by the paper's plain rules.
+    /// The audit: 3, 11; else whether some tape leaves these rows, by the plain rules: not torn, both ends of every row
+    /// right by the columns, zeros behind the rows.
     pub fn audit(&self) -> Result<bool, u32> {
         let Head { d, memory, directions, .. } = self.head;
         if !settings_hold(d, memory, directions) {
@@ -333,25 +410,19 @@ impl Model {
             return Ok(false);
         }
         let rows = self.rows();
-        let beaten = |i: usize| rows[i + 1..].iter().any(|younger| self.beats(&younger.columns, &rows[i].columns));
-        let right = |i: usize| rows[i].lower == self.lower_end(&rows[..i], &rows[i].columns);
-        let sound = (0..rows.len()).all(|i| !beaten(i) && right(i));
-        Ok(sound && self.zeros_behind() && self.gaps_filled(&rows))
+        let lower = |i: usize| rows[i].lower == self.lower_end(rows[..i].iter(), &rows[i].columns);
+        let upper = |i: usize| rows[i].upper == self.upper_end(&rows[i + 1..], &rows[i].columns);
+        let asked = self.plant != Plant::UpperFree;
+        let right = (0..rows.len()).all(|i| lower(i) && (!asked || upper(i)));
+        Ok(right && self.zeros_behind())
     }
 
-    /// Whether the places from the count up to N are zeros.
+    /// Whether the places from the held count up to N are zeros.
     fn zeros_behind(&self) -> bool {
-        let Head { d, memory, rows, .. } = self.head;
-        let (d, memory, rows) = (d as usize, memory as usize, rows as usize);
-        let cells = self.columns[rows * d..memory * d].iter();
-        cells.chain(&self.positions[rows..memory]).chain(&self.lower[rows..memory]).all(|&cell| cell == 0)
-    }
-
-    /// Whether for every position of the window of N that has no row, some later row is not the worst quote.
-    fn gaps_filled(&self, rows: &[Row]) -> bool {
-        let last = rows.iter().rev().find(|row| self.plant == Plant::Worst || !self.is_worst(&row.columns));
-        let filled = |p: u32| rows.iter().any(|row| row.position == p) || last.is_some_and(|row| p < row.position);
-        (self.start(self.head.memory)..=self.head.newest).all(filled)
+        let (d, memory, kept) = (self.head.d as usize, self.head.memory as usize, self.kept());
+        let behind = |cells: &[u32]| cells[kept..memory].iter().all(|&cell| cell == 0);
+        let columns = self.columns[kept * d..memory * d].iter().all(|&cell| cell == 0);
+        columns && behind(&self.positions) && behind(&self.lower) && behind(&self.upper)
     }
 
     /// The line of a call's answer, with the head handed back, and the line of its output.
@@ -360,8 +431,9 @@ impl Model {
             Ok(output) => (0, output),
             Err(number) => (number, Vec::new()),
         };
-        let Head { d, memory, directions, newest, rows } = head;
-        writeln!(print, "A {number} {} {d} {memory} {directions} {newest} {rows}", output.len()).unwrap();
+        let Head { d, memory, directions, newest, live, held } = head;
+        let count = output.len();
+        writeln!(print, "A {number} {count} {d} {memory} {directions} {newest} {live} {held}").unwrap();
         if !output.is_empty() {
             line_of("X", &output, print);
         }
@@ -376,6 +448,7 @@ impl Model {
         line_of("C", &self.columns[..cells], print);
         line_of("P", &self.positions[..places], print);
         line_of("E", &self.lower[..places], print);
+        line_of("U", &self.upper[..places], print);
         line_of("W", &self.watches, print);
     }
 
@@ -385,6 +458,7 @@ impl Model {
             "columns" => (&mut self.lent.columns, COLUMN_CELLS),
             "positions" => (&mut self.lent.positions, PLACES),
             "lower" => (&mut self.lent.lower, PLACES),
+            "upper" => (&mut self.lent.upper, PLACES),
             "out" => (&mut self.lent.out, OUTPUT),
             _ => return None,
         };
@@ -401,6 +475,7 @@ impl Model {
             "columns" => &mut self.columns[..],
             "positions" => &mut self.positions[..],
             "lower" => &mut self.lower[..],
+            "upper" => &mut self.upper[..],
             "watches" => &mut self.watches[..],
             _ => return None,
         };
@@ -414,6 +489,7 @@ impl Model {
             ("open", &[d, memory, directions]) => self.open(d, memory, directions),
             ("quote", columns) => self.quote(columns),
             ("look", &[n]) => self.look(n),
+            ("past", &[n1, n2]) => self.past(n1, n2),
             ("watch", &[n]) => self.watch(n),
             ("end", &[n]) => self.end(n),
             _ => return None,
@@ -446,8 +522,8 @@ impl Model {
         match (words[0], &numbers(&words[1..])?[..]) {
             ("audit", &[]) => self.verdict(print),
             ("show", &[]) => self.show(print),
-            ("head", &[d, memory, directions, newest, rows]) => {
-                self.head = Head { d, memory, directions, newest, rows }
+            ("head", &[d, memory, directions, newest, live, held]) => {
+                self.head = Head { d, memory, directions, newest, live, held }
             }
             (word, numbers) => return self.call(word, numbers, print),
         }

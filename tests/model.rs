@@ -20,6 +20,10 @@ pub enum Plant {
     Window,
     /// Only the list of N is kept, and the other lists are taken from it.
     Kept,
+    /// A past list ends at M - n1 - 1, as 000 misprints it.
+    Misprint,
+    /// A past list follows lower ends alone: younger quotes that beat a row do not count.
+    Upper,
 }
 
 /// What the model holds: the settings, every quote accepted since they were taken, and the watched n, rising.
@@ -66,19 +70,33 @@ impl Model {
         start.max(1)..=newest
     }
 
-    /// The positions of the window of n that no quote of that window beats, rising.
-    fn unbeaten(&self, n: usize) -> Vec<usize> {
-        let beaten = |p: usize| self.window(n).any(|q| self.beats(q, p));
-        self.window(n).filter(|&p| !beaten(p)).collect()
+    /// The positions of a range that no quote of that range beats, rising.
+    fn unbeaten(&self, range: RangeInclusive<usize>) -> Vec<usize> {
+        let beaten = |p: usize| range.clone().any(|q| self.beats(q, p));
+        range.clone().filter(|&p| !beaten(p)).collect()
     }
 
     /// The list of n, by the definition or as a planted bug has it.
     fn list(&self, n: usize) -> Vec<usize> {
         match self.plant {
             Plant::Oldest => self.listed_by_oldest(n),
-            Plant::Kept => self.unbeaten(self.memory).into_iter().filter(|p| self.window(n).contains(p)).collect(),
-            _ => self.unbeaten(n),
+            Plant::Kept => self.unbeaten(self.window(self.memory)).into_iter().filter(|p| self.window(n).contains(p)).collect(),
+            _ => self.unbeaten(self.window(n)),
         }
+    }
+
+    /// The past list: the unbeaten positions among a to b, a the larger of 1 and M - n2 + 1, b = M - n1 + 1; empty if b is below 1.
+    fn past_list(&self, n1: usize, n2: usize) -> Vec<usize> {
+        let back = if self.plant == Plant::Misprint { n1 + 1 } else { n1 - 1 };
+        let (a, b) = (*self.window(n2).start(), self.quotes.len() as isize - back as isize);
+        if b < 1 {
+            return Vec::new();
+        }
+        let b = b as usize;
+        if self.plant == Plant::Upper {
+            return (a..=b).filter(|&p| !(a..p).any(|q| self.beats(q, p))).collect();
+        }
+        self.unbeaten(a..=b)
     }
 
     /// A planted bug: the rows whose oldest beating row is older than the window of n.
@@ -92,7 +110,7 @@ impl Model {
     /// The positions of the window of N that no younger quote beats, rising.
     fn rows(&self) -> Vec<usize> {
         if self.plant == Plant::Kept {
-            return self.unbeaten(self.memory);
+            return self.unbeaten(self.window(self.memory));
         }
         let newest = self.quotes.len();
         let beaten = |p: usize| (p + 1..=newest).any(|q| self.beats(q, p));
@@ -158,6 +176,24 @@ impl Model {
         print.push('\n');
     }
 
+    /// A look at the past list of n1 and n2.
+    fn past(&self, n1: u16, n2: u16, print: &mut String) {
+        if !self.opened {
+            return refuse(7, print);
+        }
+        if n1 == 0 || usize::from(n2) > self.memory {
+            return refuse(5, print);
+        }
+        if n1 > n2 {
+            return refuse(14, print);
+        }
+        write!(print, "P {n1} {n2}").unwrap();
+        for p in self.past_list(n1.into(), n2.into()) {
+            write!(print, " {p}").unwrap();
+        }
+        print.push('\n');
+    }
+
     /// A watch of n set, with its joins.
     fn watch(&mut self, n: u16, print: &mut String) {
         if let Some(number) = self.refusal(n) {
@@ -198,6 +234,7 @@ impl Model {
             16 => self.look(n(), print),
             17 => self.watch(n(), print),
             18 => self.end(n(), print),
+            23 => self.past(n(), u16::from_le_bytes([body[2], body[3]]), print),
             48 => self.open(body[0], u16::from_le_bytes([body[1], body[2]]), body[3], print),
             _ => refuse(7, print),
         }
@@ -224,8 +261,8 @@ fn body_length(kind: u8) -> Option<usize> {
     match kind {
         1..=6 => Some(4 * usize::from(kind)),
         16..=18 => Some(2),
+        23 | 48 => Some(4),
         32 | 33 => Some(6),
-        48 => Some(4),
         _ => None,
     }
 }

@@ -33,6 +33,7 @@ fn frame_of(line: &str) -> Option<Vec<u8>> {
             frames::quote(&mut frame, &columns?);
         }
         ("W", 2) => frames::watch(&mut frame, n(1)?),
+        ("P", 3) => frame = [&[23], &n(1)?.to_le_bytes()[..], &n(2)?.to_le_bytes()[..]].concat(),
         ("L", 2) => frame = [&[16], &n(1)?.to_le_bytes()[..]].concat(),
         ("U", 2) => frame = [&[18], &n(1)?.to_le_bytes()[..]].concat(),
         _ => return None,
@@ -69,7 +70,8 @@ fn any_number(r: &mut Random) -> u64 {
 
 /// A line that may say a frame.
 fn any_line(r: &mut Random) -> Vec<u8> {
-    let (letter, count) = [("O", 3), ("Q", 1 + r.below(6)), ("L", 1), ("W", 1), ("U", 1), ("Q", r.below(9)), ("R", 1)][r.below(7) as usize];
+    let sorts = [("O", 3), ("Q", 1 + r.below(6)), ("L", 1), ("P", 2), ("W", 1), ("U", 1), ("Q", r.below(9)), ("P", r.below(4)), ("R", 1)];
+    let (letter, count) = sorts[r.below(9) as usize];
     let mut line = letter.to_string();
     for _ in 0..count {
         line += &format!(" {}", any_number(r));

@@ -13,10 +13,12 @@ fn send(mut to: impl Write, input: &[u8]) {
     let _ = to.write_all(first).and_then(|()| to.write_all(second));
 }
 
-/// What a program prints for an input, and whether it ended well.
+/// What a program, named with its arguments, prints for an input, and whether it ended well.
 pub fn printed(program: &str, input: &[u8]) -> (Vec<u8>, bool) {
+    let mut words = program.split(' ');
+    let mut command = Command::new(words.next().unwrap());
     let mut child =
-        Command::new(program).stdin(Stdio::piped()).stdout(Stdio::piped()).spawn().expect("the program starts");
+        command.args(words).stdin(Stdio::piped()).stdout(Stdio::piped()).spawn().expect("the program starts");
     let to = child.stdin.take().unwrap();
     let mut output = child.stdout.take().unwrap();
     let mut print = Vec::new();

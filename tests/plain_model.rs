@@ -1,9 +1,10 @@
 //! Plays random and damaged tapes through the tape printer and through a plain model of the format, and compares what they print,
 //! byte for byte.
 //!
-//! usage: plain_model [--plant equal|oldest|window|kept] PRINTER [SEED [TAPES]]
-//!                                   compare the printer with the model, or with a model that has a bug planted, on random tapes
-//!        plain_model --print < TAPE print a tape by the model alone
+//! usage: plain_model [--plant equal|oldest|window|kept|misprint|upper] PRINTER [SEED [TAPES]]
+//!                                       compare the printer, a command with its arguments, with the model, or with a model that has a bug
+//!                                       planted, on random tapes
+//!        plain_model --print < TAPE     print a tape by the model alone
 
 mod frames;
 mod model;
@@ -17,9 +18,10 @@ use std::sync::atomic::{AtomicBool, AtomicUsize, Ordering};
 use std::time::Instant;
 
 const THREADS: usize = 2;
-const LETTERS: &str = "OQLWU-+R";
+/// The letters of lines.
+const LETTERS: &str = "OQLWU-+RP";
 /// The refusals that a tape of some quotes can bring; 6 asks for 16,777,215 of them.
-const REFUSALS: [usize; 9] = [1, 2, 3, 4, 5, 7, 8, 9, 10];
+const REFUSALS: [usize; 10] = [1, 2, 3, 4, 5, 7, 8, 9, 10, 14];
 
 /// What is compared: the printer and the model with a planted bug or none, on the tapes of a seed; the label names failing tapes.
 struct Comparison {
@@ -35,7 +37,7 @@ struct Tally {
     alike: usize,
     unlike: usize,
     letters: [usize; LETTERS.len()],
-    refusals: [usize; 11],
+    refusals: [usize; 15],
 }
 
 impl Tally {
@@ -65,10 +67,11 @@ impl Tally {
 
     /// Says how often each letter and each refusal came, and whether every one did.
     fn covers(&self) -> bool {
-        let letters: Vec<_> = LETTERS.chars().zip(self.letters).map(|(letter, times)| format!("{letter} {times}")).collect();
-        let refusals: Vec<_> = REFUSALS.iter().map(|&number| format!("R {number} {}", self.refusals[number])).collect();
-        println!("plain_model: lines printed: {}; of them {}", letters.join(", "), refusals.join(", "));
-        let covered = self.letters.iter().all(|&times| times > 0) && REFUSALS.iter().all(|&number| self.refusals[number] > 0);
+        let refusals: Vec<_> = REFUSALS.iter().map(|&number| (number, self.refusals[number])).collect();
+        let said: Vec<_> = LETTERS.chars().zip(self.letters).map(|(letter, times)| format!("{letter} {times}")).collect();
+        let refused: Vec<_> = refusals.iter().map(|(number, times)| format!("R {number} {times}")).collect();
+        println!("plain_model: lines printed: {}; of them {}", said.join(", "), refused.join(", "));
+        let covered = self.letters.iter().all(|&times| times > 0) && refusals.iter().all(|&(_, times)| times > 0);
         if !covered {
             eprintln!("plain_model: a letter or a refusal never came: more tapes are needed");
         }
@@ -152,8 +155,16 @@ fn plant_named(name: &str) -> Plant {
         "oldest" => Plant::Oldest,
         "window" => Plant::Window,
         "kept" => Plant::Kept,
+        "misprint" => Plant::Misprint,
+        "upper" => Plant::Upper,
         _ => panic!("no planted bug has the name {name}"),
     }
+}
+
+/// Panics if the model does not print the worked tape of past lists as it is worked out by hand.
+fn check_example() {
+    let (tape, print) = random_tapes::past_example();
+    assert_eq!(print_of(&tape, Plant::Nothing), print, "the model prints the worked tape otherwise");
 }
 
 /// Prints the tape on standard input by the model.
@@ -168,6 +179,7 @@ fn main() {
     if arguments.next_if_eq("--print").is_some() {
         return print_by_model();
     }
+    check_example();
     let name = arguments.next_if_eq("--plant").map(|_| arguments.next().expect("the name of a planted bug"));
     let printer = arguments.next().expect("usage: plain_model [--plant NAME] PRINTER [SEED [TAPES]]");
     let seed: u64 = arguments.next().map_or(1, |s| s.parse().expect("a seed"));

@@ -13,6 +13,7 @@ mod call_lists;
 mod call_model;
 mod piped;
 mod random;
+mod small_lists;
 
 use call_model::{Model, Plant};
 use std::collections::BTreeMap;
@@ -26,18 +27,24 @@ const BATCH: usize = 100;
 /// How many lines before a difference are shown; the whole list is saved.
 const SHOWN: usize = 20;
 /// The planted bugs by name; the last is one of the audit's rules.
-const PLANTS: [(&str, Plant); 5] = [
+const PLANTS: [(&str, Plant); 10] = [
     ("renamed", Plant::Renamed),
     ("torn-first", Plant::TornFirst),
-    ("past", Plant::PastMemory),
+    ("past-memory", Plant::PastMemory),
     ("early", Plant::Early),
-    ("worst", Plant::Worst),
+    ("live-lower", Plant::LiveLower),
+    ("overwritten", Plant::Overwritten),
+    ("retired-lower", Plant::RetiredLower),
+    ("fourteen-first", Plant::FourteenFirst),
+    ("live-zeros", Plant::LiveZeros),
+    ("upper-free", Plant::UpperFree),
 ];
 /// The answers that each call can give and that have to come.
-const ANSWERS: [(&str, &[&str]); 6] = [
+const ANSWERS: [(&str, &[&str]); 7] = [
     ("open", &["0", "3", "11"]),
     ("quote", &["0", "3", "11", "12", "4", "6", "13"]),
     ("look", &["0", "3", "11", "12", "5", "13"]),
+    ("past", &["0", "3", "11", "12", "5", "14", "13"]),
     ("watch", &["0", "3", "11", "12", "5", "8", "9", "13"]),
     ("end", &["0", "3", "11", "12", "5", "10"]),
     ("audit", &["yes", "no", "3", "11"]),
@@ -183,7 +190,7 @@ fn show_difference(name: &str, list: &[String], at: usize, want: &str, got: &str
 
 /// Compares player and model on all sorts of lists; yes if nothing differs and every answer came.
 fn compare_all(comparison: &Comparison, seed: u64, lists: usize) -> bool {
-    let small = call_lists::small_lists();
+    let small = small_lists::small_lists();
     let mut total = comparison.run("small", small.len(), |i| small[i].clone());
     if total.unlike == 0 {
         total.add(comparison.run("random", lists, |i| call_lists::random_list(seed, i as u64)));

@@ -82,6 +82,20 @@ impl Style {
         }
     }
 
+    /// A look at a past list: mostly of two window sizes in order, alike at times, at times the wrong way round or out of range.
+    fn past_look(&self, r: &mut Random, tape: &mut Vec<u8>) {
+        let (one, other) = (self.window_size(r), self.window_size(r));
+        let (n1, n2) = match r.below(10) {
+            0 => (one, one),
+            1 => (one.max(other), one.min(other)),
+            2 => (0, one),
+            3 => (one, [0, self.memory, self.memory + 1][r.below(3) as usize]),
+            4 | 5 => (1 + r.below(self.memory.into()) as u16, self.memory),
+            _ => (one.min(other), one.max(other)),
+        };
+        past(tape, n1, n2);
+    }
+
     /// A quote, once in 40 with a column count of its own.
     fn quote(&self, r: &mut Random, step: u32, tape: &mut Vec<u8>) {
         let count = if r.below(40) == 0 { 1 + r.below(6) as u8 } else { self.d };
@@ -111,6 +125,7 @@ impl Style {
             1..=3 => look(tape, self.window_size(r)),
             4 if r.below(3) == 0 => any_opening(r, tape),
             5 if r.below(3) == 0 => change(r, tape),
+            6..=8 => self.past_look(r, tape),
             24.. if r.below(3) == 0 => end(tape, self.window_size(r)),
             24.. => frames::watch(tape, self.window_size(r)),
             _ => self.quote(r, step, tape),
@@ -145,6 +160,13 @@ fn settings(number: u64) -> (u8, u8) {
 fn look(tape: &mut Vec<u8>, n: u16) {
     tape.push(16);
     tape.extend(n.to_le_bytes());
+}
+
+/// A look at the past list of n1 and n2.
+fn past(tape: &mut Vec<u8>, n1: u16, n2: u16) {
+    tape.push(23);
+    tape.extend(n1.to_le_bytes());
+    tape.extend(n2.to_le_bytes());
 }
 
 /// The end of the watch of n.
@@ -222,7 +244,8 @@ fn random_bodies(r: &mut Random, index: u64) -> Vec<u8> {
     let mut tape = Vec::new();
     style.open(&mut tape);
     for _ in 0..r.below(30) {
-        let (kind, length) = [(style.d, 4 * style.d), (16, 2), (17, 2), (18, 2), (32, 6), (33, 6), (48, 4)][r.below(7) as usize];
+        let kinds = [(style.d, 4 * style.d), (16, 2), (17, 2), (18, 2), (32, 6), (33, 6), (48, 4), (23, 4)];
+        let (kind, length) = kinds[r.below(8) as usize];
         tape.push(kind);
         tape.extend((0..length).map(|_| (r.next() as u8) >> r.below(9).min(7)).collect::<Vec<_>>());
     }
@@ -273,12 +296,40 @@ fn tape_of_every_kind(r: &mut Random, d: u8) -> Vec<u8> {
     style.steps(r, 0, 12, &mut tape);
     change(r, &mut tape);
     end(&mut tape, 2);
+    style.past_look(r, &mut tape);
     tape
 }
 
-/// Tapes cut at every byte, for every column count, and every kind byte before bodies of several lengths, alone and behind an opening.
+/// The worked tape of past lists, and its print.
+pub fn past_example() -> (Vec<u8>, &'static str) {
+    let mut tape = Vec::new();
+    frames::open(&mut tape, 2, 5, 0);
+    for quote in [[5, 5], [3, 8], [4, 4]] {
+        frames::quote(&mut tape, &quote);
+    }
+    past(&mut tape, 3, 3);
+    past(&mut tape, 2, 3);
+    for quote in [[7, 2], [4, 4], [6, 6]] {
+        frames::quote(&mut tape, &quote);
+    }
+    for (n1, n2) in [(1, 3), (2, 3), (3, 5)] {
+        past(&mut tape, n1, n2);
+    }
+    frames::quote(&mut tape, &[2, 9]);
+    frames::quote(&mut tape, &[4, 3]);
+    for (n1, n2) in [(1, 5), (2, 5), (2, 2), (5, 5)] {
+        past(&mut tape, n1, n2);
+    }
+    look(&mut tape, 5);
+    let print = "O 2 5 0\nQ 1 1\nQ 2 2\nQ 3 2\nP 3 3 1\nP 2 3 1 2\nQ 4 3\nQ 5 4\nQ 6 5\nP 1 3 4 5\nP 2 3 4 5\nP 3 5 2 3 4\nQ 7 5\nQ 8 3\n\
+                 P 1 5 4 7 8\nP 2 5 4 5 7\nP 2 2 7\nP 5 5 4\nL 5 4 7 8\n";
+    (tape, print)
+}
+
+/// The worked tape of past lists, tapes cut at every byte, for every column count, and every kind byte before bodies of several lengths,
+/// alone and behind an opening.
 pub fn edge_tapes(seed: u64) -> Vec<Vec<u8>> {
-    let mut tapes = vec![Vec::new()];
+    let mut tapes = vec![Vec::new(), past_example().0];
     for d in 1..=6 {
         let whole = tape_of_every_kind(&mut Random::new(seed, d), d as u8);
         tapes.extend((0..=whole.len()).map(|keep| whole[..keep].to_vec()));

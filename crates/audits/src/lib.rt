@@ -1,5 +1,4 @@
-// The audit of a saved book: whether some tape leaves exactly this head and these tables.
-use cells::chosen;
+// The audit of a saved book: whether some tape leaves exactly these tables, this newest position and these counts.
 use dominance::compare;
 use head::Head;
 use head::Refusal;
@@ -8,14 +7,14 @@ use judging::short_tables;
 use rows::torn_rows;
 ghost use mathlib.Core.Path.{_≡_};
 ghost use Prim.Native.Nat.{_+_, _*_, _≤_, _<_};
-ghost use mathlib.Core.Bool.{true, false};
+ghost use mathlib.Core.Bool.{not};
 ghost use mathlib.Core.List.{[]};
-ghost use lib.ListN.{length, take, drop};
+ghost use lib.ListN.{length};
+ghost use Rattle.lists.specs.Lists.{any, run};
 ghost use Rattle.head.specs.Replies.{finding};
-ghost use Rattle.model.specs.Rows.{rowAt, rowsIn};
-ghost use Rattle.model.specs.Audit.{worstAt, isWorst, zeroFrom, passes, auditFinding};
-ghost use Rattle.rows.specs.Lent.{tables};
-ghost use Rattle.audits.specs.Parts.{rightRow, rightRows, openGap};
+ghost use Rattle.model.specs.Audit.{zeroFrom, passes, auditFinding};
+ghost use Rattle.model.specs.Promises.{tables};
+ghost use Rattle.audits.specs.Ends.{overYoungerAt, overOlderAt, lowerFound, upperFound, wrongAt};
 
 // Whether the cells from one place up to another are 0.
 fn all_zero(cells: &[u32], from: usize, to: usize) -> bool
@@ -32,150 +31,161 @@ fn all_zero(cells: &[u32], from: usize, to: usize) -> bool
     !found
 }
 
-// The worst value of a column whose direction bit is the lowest of bits.
-fn worst_at(bits: u32) -> u32
-    ensures { λ r. ⌜ r ≡ worstAt bits 0 ⌝ }
+// Whether an older row dominates a younger one, each given by its place.
+fn over_younger(directions: u32, d: usize, columns: &[u32], older: usize, younger: usize) -> bool
+    requires { ⌜ older * d + d ≤ length (now columns) ⌝ }
+    requires { ⌜ younger * d + d ≤ length (now columns) ⌝ }
+    ensures { λ r. ⌜ r ≡ overYoungerAt d directions (tables (now (columns .entry)) [] [] []) younger older ⌝ }
 {
-    if bits & 1 == 1 { 0 } else { 4294967295 }
+    let from = younger * d;
+    let to = from + d;
+    let c = compare(directions, d, &columns[from..to], columns, older * d);
+    c.worse & !c.better
 }
 
-// Whether the d cells from start on are the worst quote.
-fn is_worst(directions: u32, d: usize, cells: &[u32], start: usize) -> bool
-    requires { ⌜ start + d ≤ length (now cells) ⌝ }
-    ensures { λ r. ⌜ r ≡ isWorst d directions (take d (drop start (now (cells .entry)))) ⌝ }
+// Whether a younger row dominates an older one, each given by its place.
+fn over_older(directions: u32, d: usize, columns: &[u32], younger: usize, older: usize) -> bool
+    requires { ⌜ younger * d + d ≤ length (now columns) ⌝ }
+    requires { ⌜ older * d + d ≤ length (now columns) ⌝ }
+    ensures { λ r. ⌜ r ≡ overOlderAt d directions (tables (now (columns .entry)) [] [] []) older younger ⌝ }
 {
-    let mut bits = directions;
-    let mut other = false;
-    let mut i = 0;
-    while i < d {
-        let cell = cells[start + i];
-        let worst = worst_at(bits);
-        other = other | (cell != worst);
-        bits = bits >> 1;
-        i += 1;
-    }
-    !other
+    let from = older * d;
+    let to = from + d;
+    let c = compare(directions, d, &columns[from..to], columns, younger * d);
+    c.worse & !c.better
 }
 
-// Whether some position from first on has no row, and only worst quotes behind it.
-fn open_gap(
+// The lower end of the row at place i: the position of the youngest row before it that dominates it, or 0.
+fn lower_end(
     directions: u32,
     d: usize,
     count: usize,
     columns: &[u32],
     positions: &[u32],
-    first: u64,
-) -> bool
-    requires { ⌜ count * d ≤ length (now columns) ⌝ }
-    requires { ⌜ count ≤ length (now positions) ⌝ }
-    ensures { λ r. ⌜ r ≡ openGap d directions false first (rowsIn d count (tables (now (columns .entry)) (now (positions .entry)) [])) ⌝ }
-{
-    let mut gap = false;
-    let mut next = first;
-    let mut start: usize = 0;
-    let mut i = 0;
-    while i < count {
-        let position = positions[i] as u64;
-        let worst = is_worst(directions, d, columns, start);
-        gap = (gap | (next < position)) & worst;
-        next = position + 1;
-        start += d;
-        i += 1;
-    }
-    gap
-}
-
-// Whether no younger row dominates row i, and its lower end is the youngest older row that does, or 0.
-fn right_row(
-    directions: u32,
-    d: usize,
-    count: usize,
     i: usize,
-    columns: &[u32],
-    positions: &[u32],
-    lower_ends: &[u32],
-) -> bool
+) -> u32
     requires { ⌜ i < count ⌝ }
     requires { ⌜ count * d ≤ length (now columns) ⌝ }
     requires { ⌜ count ≤ length (now positions) ⌝ }
-    requires { ⌜ count ≤ length (now «lower_ends») ⌝ }
-    ensures { λ r. ⌜ r ≡ rightRow d directions (rowsIn d count (tables (now (columns .entry)) (now (positions .entry)) (now («lower_ends» .entry)))) (rowAt d (tables (now (columns .entry)) (now (positions .entry)) (now («lower_ends» .entry))) i) ⌝ }
+    ensures { λ r. ⌜ r ≡ lowerFound d directions (tables (now (columns .entry)) (now (positions .entry)) [] []) i ⌝ }
 {
-    let from = i * d;
-    let to = from + d;
-    let position = positions[i];
-    let lower = lower_ends[i];
-    let mut outdone = false;
-    let mut end: u32 = 0;
-    let mut start: usize = 0;
-    let mut j = 0;
-    while j < count {
-        let c = compare(directions, d, &columns[from..to], columns, start);
-        let other = positions[j];
-        let dominated = c.worse & !c.better;
-        outdone = outdone | ((position < other) & dominated);
-        end = chosen((other < position) & dominated, other, end);
-        start += d;
-        j += 1;
+    let mut j = i;
+    while 0 < j {
+        j -= 1;
+        if over_younger(directions, d, columns, j, i) {
+            return positions[j];
+        }
     }
-    !outdone & (lower == end)
+    0
 }
 
-// Whether each of count rows is undominated by a younger one and has the right lower end.
-fn right_rows(
+// The upper end of the row at place i: the position of the oldest row behind it that dominates it, or 0.
+fn upper_end(
+    directions: u32,
+    d: usize,
+    count: usize,
+    columns: &[u32],
+    positions: &[u32],
+    i: usize,
+) -> u32
+    requires { ⌜ i < count ⌝ }
+    requires { ⌜ count * d ≤ length (now columns) ⌝ }
+    requires { ⌜ count ≤ length (now positions) ⌝ }
+    ensures { λ r. ⌜ r ≡ upperFound d directions (tables (now (columns .entry)) (now (positions .entry)) [] []) count i ⌝ }
+{
+    let mut j = i + 1;
+    while j < count {
+        if over_older(directions, d, columns, j, i) {
+            return positions[j];
+        }
+        j += 1;
+    }
+    0
+}
+
+// Whether both ends of each of count rows are the ones found.
+fn right_ends(
     directions: u32,
     d: usize,
     count: usize,
     columns: &[u32],
     positions: &[u32],
     lower_ends: &[u32],
+    upper_ends: &[u32],
 ) -> bool
     requires { ⌜ count * d ≤ length (now columns) ⌝ }
     requires { ⌜ count ≤ length (now positions) ⌝ }
     requires { ⌜ count ≤ length (now «lower_ends») ⌝ }
-    ensures { λ r. ⌜ r ≡ rightRows d directions (rowsIn d count (tables (now (columns .entry)) (now (positions .entry)) (now («lower_ends» .entry)))) ⌝ }
+    requires { ⌜ count ≤ length (now «upper_ends») ⌝ }
+    ensures { λ r. ⌜ r ≡ not (any (wrongAt d directions (tables (now (columns .entry)) (now (positions .entry)) (now («lower_ends» .entry)) (now («upper_ends» .entry))) count) (run 0 count)) ⌝ }
 {
-    let mut right = true;
+    let mut wrong = false;
     let mut i = 0;
     while i < count {
-        right = right & right_row(directions, d, count, i, columns, positions, lower_ends);
+        let lower = lower_ends[i];
+        let upper = upper_ends[i];
+        let lower_found = lower_end(directions, d, count, columns, positions, i);
+        let upper_found = upper_end(directions, d, count, columns, positions, i);
+        wrong = wrong | (lower != lower_found) | (upper != upper_found);
         i += 1;
     }
-    right
+    !wrong
 }
 
 // Whether a head and tables that are not refused meet the rules of the audit.
-fn meets_rules(head: Head, columns: &[u32], positions: &[u32], lower_ends: &[u32]) -> bool
+fn meets_rules(
+    head: Head,
+    columns: &[u32],
+    positions: &[u32],
+    lower_ends: &[u32],
+    upper_ends: &[u32],
+) -> bool
+    requires { ⌜ 1 ≤ head .capacity ⌝ }
     requires { ⌜ head .capacity * head .dimensions ≤ length (now columns) ⌝ }
     requires { ⌜ head .capacity ≤ length (now positions) ⌝ }
     requires { ⌜ head .capacity ≤ length (now «lower_ends») ⌝ }
-    ensures { λ r. ⌜ r ≡ passes head (tables (now (columns .entry)) (now (positions .entry)) (now («lower_ends» .entry))) ⌝ }
+    requires { ⌜ head .capacity ≤ length (now «upper_ends») ⌝ }
+    ensures { λ r. ⌜ r ≡ passes head (tables (now (columns .entry)) (now (positions .entry)) (now («lower_ends» .entry)) (now («upper_ends» .entry))) ⌝ }
 {
-    if torn_rows(head, positions, lower_ends) {
+    if torn_rows(head, positions, lower_ends, upper_ends) {
         return false;
     }
     let d = head.dimensions as usize;
     let capacity = head.capacity as usize;
-    let count = head.rows as usize;
-    let right = right_rows(head.directions, d, count, columns, positions, lower_ends);
+    let count = head.held as usize;
+    let right = right_ends(
+        head.directions,
+        d,
+        count,
+        columns,
+        positions,
+        lower_ends,
+        upper_ends,
+    );
     let clear = all_zero(columns, count * d, capacity * d)
         & all_zero(positions, count, capacity)
-        & all_zero(lower_ends, count, capacity);
-    let first = head.window_start(head.capacity);
-    right & clear & !open_gap(head.directions, d, count, columns, positions, first)
+        & all_zero(lower_ends, count, capacity)
+        & all_zero(upper_ends, count, capacity);
+    right & clear
 }
 
-// The audit: refused with 3, then 11, else yes exactly if some tape leaves exactly this head and these tables.
-pub fn audit(head: Head, columns: &[u32], positions: &[u32], lower_ends: &[u32]) -> Verdict
-    ensures { λ r. ⌜ finding r ≡ auditFinding head (tables (now (columns .entry)) (now (positions .entry)) (now («lower_ends» .entry))) ⌝ }
+// The audit: refused with 3, then 11, else yes exactly if some tape leaves exactly these tables, this newest position and these counts.
+pub fn audit(
+    head: Head,
+    columns: &[u32],
+    positions: &[u32],
+    lower_ends: &[u32],
+    upper_ends: &[u32],
+) -> Verdict
+    ensures { λ r. ⌜ finding r ≡ auditFinding head (tables (now (columns .entry)) (now (positions .entry)) (now («lower_ends» .entry)) (now («upper_ends» .entry))) ⌝ }
 {
     if !head.settings_hold() {
         return Verdict::Refused(Refusal::Settings);
     }
-    if short_tables(head, columns, positions, lower_ends) {
+    if short_tables(head, columns, positions, lower_ends, upper_ends) {
         return Verdict::Refused(Refusal::ShortLoan);
     }
-    if meets_rules(head, columns, positions, lower_ends) {
+    if meets_rules(head, columns, positions, lower_ends, upper_ends) {
         return Verdict::Yes;
     }
     Verdict::No

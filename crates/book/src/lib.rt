@@ -1,4 +1,4 @@
-// The public calls on a book: opening, quote, look, watch and end, with the watches in a lent list of records.
+// The public calls on a book: opening, quote, look, past look, watch and end, with the watches in a lent list of records.
 ghost use Rattle.watches.specs.Records.{watched};
 ghost use Rattle.model.specs.Promises.{tables, Opened, Quoted, Watched, Ended};
 use head::Head;
@@ -9,6 +9,7 @@ use lending::open_lent;
 use lending::quote_lent;
 use lending::watch_lent;
 pub use looking::look;
+pub use looking::past;
 pub use watches::find_record;
 use watches::insert_record;
 use watches::numbers;
@@ -23,12 +24,13 @@ pub fn open(
     columns: &mut [u32],
     positions: &mut [u32],
     lower_ends: &mut [u32],
+    upper_ends: &mut [u32],
     watches: &mut [Watch],
 ) -> Reply
     ensures { λ r. ⌜ Opened dimensions capacity directions
-        (tables (now (columns .entry)) (now (positions .entry)) (now («lower_ends» .entry)))
+        (tables (now (columns .entry)) (now (positions .entry)) (now («lower_ends» .entry)) (now («upper_ends» .entry)))
         (watched (now (watches .entry))) r
-        (tables (now (columns .exit)) (now (positions .exit)) (now («lower_ends» .exit)))
+        (tables (now (columns .exit)) (now (positions .exit)) (now («lower_ends» .exit)) (now («upper_ends» .exit)))
         (watched (now (watches .exit))) ⌝ }
 {
     let before = numbers(&*watches);
@@ -40,6 +42,7 @@ pub fn open(
         columns,
         positions,
         lower_ends,
+        upper_ends,
         before,
         lent,
     );
@@ -57,13 +60,14 @@ pub fn quote(
     columns: &mut [u32],
     positions: &mut [u32],
     lower_ends: &mut [u32],
+    upper_ends: &mut [u32],
     watches: &[Watch],
     out: &mut [u8],
 ) -> Reply
     ensures { λ r. ⌜ Quoted head (now (quote .entry))
-        (tables (now (columns .entry)) (now (positions .entry)) (now («lower_ends» .entry)))
+        (tables (now (columns .entry)) (now (positions .entry)) (now («lower_ends» .entry)) (now («upper_ends» .entry)))
         (watched (now (watches .entry))) (now (out .entry)) r
-        (tables (now (columns .exit)) (now (positions .exit)) (now («lower_ends» .exit))) (now (out .exit)) ⌝ }
+        (tables (now (columns .exit)) (now (positions .exit)) (now («lower_ends» .exit)) (now («upper_ends» .exit))) (now (out .exit)) ⌝ }
 {
     let before = numbers(watches);
     let lent = watches.len();
@@ -73,6 +77,7 @@ pub fn quote(
         columns,
         positions,
         lower_ends,
+        upper_ends,
         before,
         lent,
         out,
@@ -86,16 +91,27 @@ pub fn watch(
     columns: &[u32],
     positions: &[u32],
     lower_ends: &[u32],
+    upper_ends: &[u32],
     watches: &mut [Watch],
     out: &mut [u8],
 ) -> Reply
-    ensures { λ r. ⌜ Watched head n (tables (now (columns .entry)) (now (positions .entry)) (now («lower_ends» .entry)))
+    ensures { λ r. ⌜ Watched head n (tables (now (columns .entry)) (now (positions .entry)) (now («lower_ends» .entry)) (now («upper_ends» .entry)))
         (watched (now (watches .entry))) (now (out .entry))
         r (watched (now (watches .exit))) (now (out .exit)) ⌝ }
 {
     let before = numbers(&*watches);
     let lent = watches.len();
-    let judged = watch_lent(head, n, columns, positions, lower_ends, before, lent, out);
+    let judged = watch_lent(
+        head,
+        n,
+        columns,
+        positions,
+        lower_ends,
+        upper_ends,
+        before,
+        lent,
+        out,
+    );
     if judged.accepted {
         insert_record(&mut *watches, n);
     }
@@ -109,14 +125,24 @@ pub fn end(
     columns: &[u32],
     positions: &[u32],
     lower_ends: &[u32],
+    upper_ends: &[u32],
     watches: &mut [Watch],
 ) -> Reply
-    ensures { λ r. ⌜ Ended head n (tables (now (columns .entry)) (now (positions .entry)) (now («lower_ends» .entry)))
+    ensures { λ r. ⌜ Ended head n (tables (now (columns .entry)) (now (positions .entry)) (now («lower_ends» .entry)) (now («upper_ends» .entry)))
         (watched (now (watches .entry))) r (watched (now (watches .exit))) ⌝ }
 {
     let before = numbers(&*watches);
     let lent = watches.len();
-    let judged = end_lent(head, n, columns, positions, lower_ends, before, lent);
+    let judged = end_lent(
+        head,
+        n,
+        columns,
+        positions,
+        lower_ends,
+        upper_ends,
+        before,
+        lent,
+    );
     if judged.accepted {
         remove_record(&mut *watches, n);
     }

@@ -32,12 +32,13 @@ pub fn open(
     columns: &mut [u32],
     positions: &mut [u32],
     lower_ends: &mut [u32],
+    upper_ends: &mut [u32],
     records: [Watch; 8],
 ) -> Made
     ensures { λ r. ⌜ Opened dimensions capacity directions
-        (tables (now (columns .entry)) (now (positions .entry)) (now («lower_ends» .entry)))
+        (tables (now (columns .entry)) (now (positions .entry)) (now («lower_ends» .entry)) (now («upper_ends» .entry)))
         (watched records) (r .reply)
-        (tables (now (columns .exit)) (now (positions .exit)) (now («lower_ends» .exit))) (watched (r .records)) ⌝ }
+        (tables (now (columns .exit)) (now (positions .exit)) (now («lower_ends» .exit)) (now («upper_ends» .exit))) (watched (r .records)) ⌝ }
 {
     let mut held = records;
     let reply = book::open(
@@ -47,6 +48,7 @@ pub fn open(
         columns,
         positions,
         lower_ends,
+        upper_ends,
         &mut held,
     );
     Made {
@@ -62,16 +64,26 @@ pub fn quote(
     columns: &mut [u32],
     positions: &mut [u32],
     lower_ends: &mut [u32],
+    upper_ends: &mut [u32],
     records: [Watch; 8],
     out: &mut [u8],
 ) -> Reply
     ensures { λ r. ⌜ Quoted head (now (quoted .entry))
-        (tables (now (columns .entry)) (now (positions .entry)) (now («lower_ends» .entry)))
+        (tables (now (columns .entry)) (now (positions .entry)) (now («lower_ends» .entry)) (now («upper_ends» .entry)))
         (watched records) (now (out .entry)) r
-        (tables (now (columns .exit)) (now (positions .exit)) (now («lower_ends» .exit))) (now (out .exit)) ⌝ }
+        (tables (now (columns .exit)) (now (positions .exit)) (now («lower_ends» .exit)) (now («upper_ends» .exit))) (now (out .exit)) ⌝ }
 {
     let held = records;
-    book::quote(head, quoted, columns, positions, lower_ends, &held, out)
+    book::quote(
+        head,
+        quoted,
+        columns,
+        positions,
+        lower_ends,
+        upper_ends,
+        &held,
+        out,
+    )
 }
 
 // Sets a watch of n.
@@ -81,14 +93,24 @@ pub fn watch(
     columns: &[u32],
     positions: &[u32],
     lower_ends: &[u32],
+    upper_ends: &[u32],
     records: [Watch; 8],
     out: &mut [u8],
 ) -> Made
-    ensures { λ r. ⌜ Watched head n (tables (now (columns .entry)) (now (positions .entry)) (now («lower_ends» .entry)))
+    ensures { λ r. ⌜ Watched head n (tables (now (columns .entry)) (now (positions .entry)) (now («lower_ends» .entry)) (now («upper_ends» .entry)))
         (watched records) (now (out .entry)) (r .reply) (watched (r .records)) (now (out .exit)) ⌝ }
 {
     let mut held = records;
-    let reply = book::watch(head, n, columns, positions, lower_ends, &mut held, out);
+    let reply = book::watch(
+        head,
+        n,
+        columns,
+        positions,
+        lower_ends,
+        upper_ends,
+        &mut held,
+        out,
+    );
     Made {
         reply,
         records: held,
@@ -102,13 +124,22 @@ pub fn end(
     columns: &[u32],
     positions: &[u32],
     lower_ends: &[u32],
+    upper_ends: &[u32],
     records: [Watch; 8],
 ) -> Made
-    ensures { λ r. ⌜ Ended head n (tables (now (columns .entry)) (now (positions .entry)) (now («lower_ends» .entry)))
+    ensures { λ r. ⌜ Ended head n (tables (now (columns .entry)) (now (positions .entry)) (now («lower_ends» .entry)) (now («upper_ends» .entry)))
         (watched records) (r .reply) (watched (r .records)) ⌝ }
 {
     let mut held = records;
-    let reply = book::end(head, n, columns, positions, lower_ends, &mut held);
+    let reply = book::end(
+        head,
+        n,
+        columns,
+        positions,
+        lower_ends,
+        upper_ends,
+        &mut held,
+    );
     Made {
         reply,
         records: held,

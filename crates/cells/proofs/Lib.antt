@@ -1,10 +1,8 @@
 -- The laws of the crate.
 pub mod Clearing
 pub mod Pasting
-pub mod Selecting
-pub mod Gathering
+pub mod Shifting
 pub mod Renaming
 pub mod Blanks
 pub mod Settling
-pub mod Places
-pub mod Removals
+pub mod Marking

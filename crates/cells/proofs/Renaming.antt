@@ -16,8 +16,6 @@ use Rattle.lists.proofs.Filters.{map-append, map-map}
 use Rattle.lists.proofs.Places.{map-places}
 use Rattle.lists.proofs.Storing.{store-next, getD-beyond}
 use Rattle.model.specs.Rows.{renamed}
-use Rattle.cells.specs.Selected.{selected, columnsIn, Gathered}
-use Rattle.cells.proofs.Selecting.{map-selected}
 
 renamed-none : (lower : ℕ) → renamed 0 lower ≡ lower
 unfolding renamed
@@ -63,37 +61,3 @@ more {gone} {count} {before} {after} {i} v h x e =
 pub finish : {gone count : ℕ} {before after : List ℕ} {i : ℕ} → Renaming gone count before after i → count ≤ i
     → after ≡ map (renamed gone) (take count before) ++ drop count before
 finish v h = rw (← le-antisymm (v .within) h) (v .after≡)
-
--- ---- cells as rows of one column
-
-flat-ones : (l : List ℕ) → flat (map (λ x. x ∷ []) l) ≡ l
-unfolding flat
-flat-ones [] = refl
-flat-ones (x ∷ xs) = rw (flat-ones xs)
-
-columns-one : (n : ℕ) (l : List ℕ) → n ≤ length l → columnsIn 1 n l ≡ map (λ x. x ∷ []) (take n l)
-unfolding columnsIn
-columns-one n l h =
-    map-run (λ i. take 1 (drop (i * 1) l)) (λ i. getD l i 0 ∷ []) 0 n (λ i a b. rw (mul-one, drop-cons l i 0 (omega arith)))
-    ∙ sym (map-map (λ x. x ∷ []) (λ i. getD l i 0) (run 0 n)) ∙ ap (map (λ x. x ∷ [])) (map-places 0 n l h)
-
--- cells that are renamed and then gathered as rows of one column
-pub cells-gathered : (flags : List Bool) (gone : ℕ) {count at : ℕ} {before renamed-cells after : List ℕ} → count ≤ length before
-    → renamed-cells ≡ map (renamed gone) (take count before) ++ drop count before → length renamed-cells ≡ length before
-    → Gathered at (count * 1) (flat (selected flags (columnsIn 1 count renamed-cells))) renamed-cells after
-    → (at ≡ length (selected flags (take count before))) × Gathered at count (map (renamed gone) (selected flags (take count before))) before after
-cells-gathered flags gone {count} {before = before} {renamed-cells = r} h e l g =
-    let F : List ℕ = map (renamed gone) (take count before) in
-    let F# : length F ≡ count = length-map (take count before) (renamed gone) ∙ length-take-le count before h in
-    let front : flat (selected flags (columnsIn 1 count r)) ≡ map (renamed gone) (selected flags (take count before)) =
-    rw (columns-one count r (omega arith), ← map-selected, flat-ones, e, take-at F (drop count before) count F#, ← map-selected) in
-    let one : count * 1 ≡ count = mul-one count in
-    let beyond : drop count r ≡ drop count before = rw e (drop-at F (drop count before) count F#) in (
-      g .place ∙ rw (front, length-map),
-      record {
-        place = g .place ∙ rw front;
-        below = rw one at (g .below);
-        written = g .written ∙ front;
-        beyond = (rw one at (g .beyond)) ∙ beyond;
-      },
-    )

@@ -1,4 +1,3 @@
 -- The definitions of the crate.
 pub mod Blank
-pub mod Selected
-pub mod Removed
+pub mod Marked

@@ -1,19 +1,14 @@
-// Cells of one lent table: those that are not removed moved to the front, others put behind them, and zeros up to a place.
+// Cells of one lent table: rows moved to the front, one row more put behind them, zeros up to a place, and cells stored at listed places.
 ghost use mathlib.Core.Path.{_≡_};
 ghost use mathlib.Core.Bool.{cond};
-ghost use Prim.Native.Nat.{_+_, _*_, _≤_, _<_, max};
+ghost use Prim.Native.Nat.{_+_, _-_, _*_, _≤_, _<_, max, min};
 ghost use mathlib.Core.List.{[], _∷_, _++_, map};
 ghost use lib.ListN.{length, getD, take, drop};
 ghost use lib.Seq.{paste};
-ghost use Rattle.lists.specs.Lists.{flat, padded};
+ghost use Rattle.lists.specs.Lists.{padded};
 ghost use Rattle.model.specs.Rows.{renamed};
 ghost use Rattle.cells.specs.Blank.{Blank};
-ghost use Rattle.cells.specs.Removed.{stays, Listed};
-ghost use Rattle.cells.specs.Selected.{selected, columnsIn, Gathered};
-
-mod removing;
-
-pub use removing::list_removed;
+ghost use Rattle.cells.specs.Marked.{marked, Below};
 
 // x if the test passed, else y.
 pub fn chosen(test: bool, x: u32, y: u32) -> u32
@@ -58,49 +53,59 @@ fn put(cells: &mut [u32], at: usize, row: &[u32])
 fn move_cells(cells: &mut [u32], from: usize, to: usize, n: usize)
     requires { ⌜ from + n ≤ length (now cells) ⌝ }
     requires { ⌜ to + n ≤ length (now cells) ⌝ }
-    requires { ⌜ n ≤ 6144 ⌝ }
+    requires { ⌜ n ≤ 512 ⌝ }
     ensures { λ _. ⌜ now (cells .exit) ≡ paste (now (cells .entry)) to (drop from (now (cells .entry))) n ⌝ }
 {
-    let mut held = [0; 6144];
+    let mut held = [0; 512];
     let end = from + n;
     put(&mut held, 0, &cells[from..end]);
     put(cells, to, &held[..n]);
 }
 
-// The end of the run of kept rows before the removed place of number k; where there is none, count.
-fn run_end(removed: &[u16], k: usize, count: usize) -> usize
-    ensures { λ r. ⌜ r ≡ getD (now (removed .entry)) k count ⌝ }
+// How many cells the next piece has, where so many are left.
+fn piece(left: usize) -> usize
+    ensures { λ r. ⌜ r ≡ min left 512 ⌝ }
 {
-    if k < removed.len() {
-        return removed[k] as usize;
-    }
-    count
+    if left < 512 { left } else { 512 }
 }
 
-// Moves the kept ones of count rows of d cells to the front, each run of them as one piece; removed has the places of the others. Gives
-// the place behind them.
-fn gather_rows(removed: &[u16], d: usize, count: usize, cells: &mut [u32]) -> usize
-    requires { ⌜ Listed (now removed) count ⌝ }
-    requires { ⌜ count * d ≤ length (now cells) ⌝ }
-    requires { ⌜ count * d ≤ 6144 ⌝ }
-    ensures { λ r. ⌜ Gathered r (count * d) (flat (selected (stays (now (removed .entry)) count) (columnsIn d count (now (cells .entry))))) (now (cells .entry)) (now (cells .exit)) ⌝ }
+// Moves the first count cells to the front by so many, which are lost, in pieces of at most 2 KB.
+fn shift(cells: &mut [u32], by: usize, count: usize)
+    requires { ⌜ by ≤ count ⌝ }
+    requires { ⌜ count ≤ length (now cells) ⌝ }
+    ensures { λ _. ⌜ now (cells .exit) ≡ paste (now (cells .entry)) 0 (drop by (now (cells .entry))) (count - by) ⌝ }
 {
-    let mut at = run_end(removed, 0, count);
-    let mut to = at * d;
-    let mut k = 0;
-    while k < removed.len() {
-        let first = at + 1;
-        k += 1;
-        at = run_end(removed, k, count);
-        let n = (at - first) * d;
-        move_cells(cells, first * d, to, n);
-        to += n;
+    if by == 0 {
+        return;
     }
-    to
+    let kept = count - by;
+    let mut at = 0;
+    while at < kept {
+        let n = piece(kept - at);
+        move_cells(cells, at + by, at, n);
+        at += n;
+    }
+}
+
+// Takes one row more into a table: of the first count cells so many at the front are lost, the others move there, the row is put behind
+// them, and the cells from there up to a place are zeros; those from used on are zeros already.
+pub fn enter(cells: &mut [u32], by: usize, count: usize, row: &[u32], used: usize, places: usize)
+    requires { ⌜ by ≤ count ⌝ }
+    requires { ⌜ count ≤ used ⌝ }
+    requires { ⌜ count - by + length (now row) ≤ places ⌝ }
+    requires { ⌜ places ≤ length (now cells) ⌝ }
+    requires { ⌜ Blank used places (now cells) ⌝ }
+    ensures { λ _. ⌜ now (cells .exit) ≡ padded places (take (count - by) (drop by (now (cells .entry))) ++ now (row .entry)) (now (cells .entry)) ⌝ }
+{
+    shift(cells, by, count);
+    let at = count - by;
+    put(cells, at, row);
+    let end = at + row.len();
+    clear(cells, end, larger(end, used));
 }
 
 // Zeros those of the first count cells that name the expired position gone; none does where nothing expired.
-fn rename(cells: &mut [u32], gone: u32, count: usize)
+pub fn rename(cells: &mut [u32], gone: u32, count: usize)
     requires { ⌜ count ≤ length (now cells) ⌝ }
     ensures { λ _. ⌜ now (cells .exit) ≡ map (renamed gone) (take count (now (cells .entry))) ++ drop count (now (cells .entry)) ⌝ }
 {
@@ -115,55 +120,15 @@ fn rename(cells: &mut [u32], gone: u32, count: usize)
     }
 }
 
-// Keeps those of count rows of d cells that are not removed, puts one row more behind them, and zeros the cells from there up to a
-// place; those from used on are zeros already.
-pub fn settle_rows(
-    removed: &[u16],
-    d: usize,
-    count: usize,
-    row: &[u32],
-    used: usize,
-    places: usize,
-    cells: &mut [u32],
-)
-    requires { ⌜ Listed (now removed) count ⌝ }
-    requires { ⌜ places ≤ length (now cells) ⌝ }
-    requires { ⌜ places ≤ 6144 ⌝ }
-    requires { ⌜ length (flat (selected (stays (now removed) count) (columnsIn d count (now cells)))) + length (now row) ≤ places ⌝ }
-    requires { ⌜ count * d ≤ used ⌝ }
-    requires { ⌜ Blank used places (now cells) ⌝ }
-    ensures { λ _. ⌜ now (cells .exit) ≡ padded places (flat (selected (stays (now (removed .entry)) count) (columnsIn d count (now (cells .entry)))) ++ now (row .entry)) (now (cells .entry)) ⌝ }
+// Stores a number at each of these places.
+pub fn store_at(cells: &mut [u32], places: &[u16], x: u32)
+    requires { ⌜ Below (now places) (length (now cells)) ⌝ }
+    ensures { λ _. ⌜ now (cells .exit) ≡ marked (now (places .entry)) x (now (cells .entry)) ⌝ }
 {
-    let at = gather_rows(removed, d, count, cells);
-    put(cells, at, row);
-    let end = at + row.len();
-    clear(cells, end, larger(end, used));
-}
-
-// Keeps those of count cells that are not removed, each renamed once position gone has expired, puts one cell more behind them, and
-// zeros the cells from there up to a place; those from used on are zeros already. Gives how many are left.
-pub fn settle_cells(
-    removed: &[u16],
-    gone: u32,
-    count: usize,
-    last: u32,
-    used: usize,
-    places: usize,
-    cells: &mut [u32],
-) -> usize
-    requires { ⌜ Listed (now removed) count ⌝ }
-    requires { ⌜ places ≤ length (now cells) ⌝ }
-    requires { ⌜ places ≤ 6144 ⌝ }
-    requires { ⌜ length (selected (stays (now removed) count) (take count (now cells))) < places ⌝ }
-    requires { ⌜ count ≤ used ⌝ }
-    requires { ⌜ Blank used places (now cells) ⌝ }
-    ensures { λ r. ⌜ r ≡ length (selected (stays (now (removed .entry)) count) (take count (now (cells .entry)))) + 1 ⌝ }
-    ensures { λ _. ⌜ now (cells .exit) ≡ padded places (map (renamed gone) (selected (stays (now (removed .entry)) count) (take count (now (cells .entry)))) ++ (last ∷ [])) (now (cells .entry)) ⌝ }
-{
-    rename(cells, gone, count);
-    let at = gather_rows(removed, 1, count, cells);
-    cells[at] = last;
-    let end = at + 1;
-    clear(cells, end, larger(end, used));
-    end
+    let mut k = 0;
+    while k < places.len() {
+        let at = places[k] as usize;
+        cells[at] = x;
+        k += 1;
+    }
 }

@@ -1,50 +1,66 @@
--- A loop that writes the leaves of listed rows at given places: its invariant and its turns; and the leave of a row that stays.
+-- A loop that writes the leaves of rows at given places: its invariant and its turns; and the leave of the row at the window's old start.
 use mathlib.Core.Path.{_≡_, refl, sym, ap, _∙_}
-use Prim.Native.Nat.{ℕ, _+_, _-_, _≤_, _<_}
+use Prim.Native.Nat.{ℕ, zero, suc, _+_, _-_, _≤_, _<_}
 use native.Mathlib.Numerals.{add-one}
 use native.Mathlib.Omega.{arith}
-use mathlib.Core.Bool.{Bool, true, false}
-use mathlib.Core.List.{List, [], _∷_, _++_, map, append-nil}
+use mathlib.Core.Bool.{Bool, true, false, _&&_}
+use mathlib.Core.List.{List, [], _∷_, _++_, map, append-nil, List·Memᴰ, List·Memᴰ·head, List·Memᴰ·tail}
+use lib.Dec.{ltb, leb, eqb}
 use lib.ListN.{length, getD, take, drop}
 use lib.Seq.{take-all, take-add, take-suc}
+use borrow.Author.Tests.{lt-ltb, le-ltb}
 use borrow.Rule.Slice.PartMut.{midOf, putMid}
-use Rattle.lists.specs.Lists.{keep, filter, flat, laid}
+use Rattle.lists.specs.Lists.{keep, filter, flat, laid, run}
 use Rattle.lists.proofs.Filters.{filter-append, map-append}
 use Rattle.lists.proofs.Laying.{grows, Laying, laying-start, laying-pass, laying-room, laying-more, laying-all}
-use Rattle.skyline.specs.Skyline.{stabbed}
+use Rattle.lists.proofs.Members.{of-filter}
+use Rattle.lists.proofs.Runs.{of-run}
 use Rattle.frames.specs.Frames.{frame}
 use Rattle.frames.specs.Kinds.{leaveKind}
 use Rattle.frames.proofs.RoundTrips.{change-length}
 use Rattle.model.specs.Changes.{leave, frames}
-use Rattle.cells.specs.Removed.{removedPlaces}
-use Rattle.cells.proofs.Removals.{getD-any, listed-below}
+use Rattle.finding.specs.Found.{live, retires, retired}
+use Rattle.cells.specs.Marked.{Below}
+use Rattle.model.proofs.ChangeFrames.{frames-append}
 use Rattle.changes.specs.declared.Shift.{Shift}
-use Rattle.changes.specs.Flagged.{Flagged, moving, fallen}
-use Rattle.changes.specs.Sought.{listedOf, Below, Rises, Steps}
-use Rattle.changes.proofs.Framing.{frames-append}
-use Rattle.changes.proofs.Stepping.{leaves-are}
+use Rattle.changes.specs.Held.{Held, fallen, dropped, Ready, Retired}
 
-pub removed-below : (kept : List Bool) (count : ℕ) {removed : List ℕ} → removed ≡ removedPlaces kept count → Below removed count
-removed-below kept count {removed} e = record { low = λ k h. rw (getD-any removed k 0 count h) (listed-below kept count e h) }
+getD-mem : (l : List ℕ) (k : ℕ) → k < length l → List·Memᴰ (getD l k 0) l
+getD-mem [] k h = absurd (omega arith)
+getD-mem (x ∷ l) zero h = List·Memᴰ·head refl
+getD-mem (x ∷ l) (suc k) h = List·Memᴰ·tail (getD-mem l k (omega arith))
 
-module _ (n start : ℕ) (positions lowers : List ℕ) where
+-- the rows that the quote retires stand in the tables
+pub retired-below : (s : Held) (w : Shift) → Ready s w → {places : List ℕ} → Retired s w places → Below places (length (s .lowers))
+unfolding retired
+retired-below s w v {places} r = record { low = λ k l. go (getD places k 0) (getD-mem places k l) }
+  where
+    go : (i : ℕ) → List·Memᴰ i places → i < length (s .lowers)
+    go i m =
+        let in-run = of-filter (retires (s .rows)) i (run (r .from) (s .count - r .from)) (rw (r .listed) at m) .0 in
+        let b = of-run (r .from) (s .count - r .from) i in-run in
+        let within = r .within in
+        let room = v .lower-room in
+        omega arith
+
+module _ (n first : ℕ) (lowers : List ℕ) (w : Shift) where
   -- the leaves of the rows at these places
   abbrev pub leavesOf : List ℕ → List ℕ
-  leavesOf places = frames (map (leave n) (listedOf start positions lowers places))
+  leavesOf places = frames (map (leave n) (dropped first lowers w places))
 
   leaves-append : (ps qs : List ℕ) → leavesOf (ps ++ qs) ≡ leavesOf ps ++ leavesOf qs
-  unfolding listedOf
+  unfolding dropped
   leaves-append ps qs = rw (filter-append, map-append, map-append, frames-append)
 
-  -- the row at a place is on the list
-  abbrev listedThere : ℕ → Bool
-  listedThere i = stabbed start (getD lowers i 0) (getD positions i 0)
+  -- the row at a place is in the window after, and its lower end is before the window's old start
+  abbrev pub dropsAt : ℕ → Bool
+  dropsAt i = ltb (getD lowers i 0) (w .before) && leb (w .after) (first + i)
 
-  leaves-one : (i : ℕ) (b : Bool) → b ≡ listedThere i → leavesOf (i ∷ []) ≡ frames (map (leave n) (keep b (getD positions i 0) []))
-  unfolding listedOf filter
+  leaves-one : (i : ℕ) (b : Bool) → b ≡ dropsAt i → leavesOf (i ∷ []) ≡ frames (map (leave n) (keep b (first + i) []))
+  unfolding dropped filter
   leaves-one i b e = rw (← e) (go b)
     where
-      go : (b : Bool) → frames (map (leave n) (map (λ k. getD positions k 0) (keep b i []))) ≡ frames (map (leave n) (keep b (getD positions i 0) []))
+      go : (b : Bool) → frames (map (leave n) (map (λ k. first + k) (keep b i []))) ≡ frames (map (leave n) (keep b (first + i) []))
       go true = refl
       go false = refl
 
@@ -53,13 +69,13 @@ module _ (n start : ℕ) (positions lowers : List ℕ) where
     pub laying : Laying (λ j. leavesOf (take j places)) (length places) entry out at k
 
   pub leaving-start : (places entry : List ℕ) → length (leavesOf places) ≤ length entry → Leaving places entry entry 0 0
-  unfolding listedOf filter frames flat
+  unfolding dropped filter frames flat
   leaving-start places entry h =
       record { laying = laying-start (λ j. leavesOf (take j places)) (length places) entry (rw (take-all (length places) places (omega arith)) h) refl }
 
-  module _ {places entry out : List ℕ} {at k : ℕ} (v : Leaving places entry out at k) (h : k < length places) {b : Bool} (e : b ≡ listedThere (getD places k 0)) where
+  module _ {places entry out : List ℕ} {at k : ℕ} (v : Leaving places entry out at k) (h : k < length places) {b : Bool} (e : b ≡ dropsAt (getD places k 0)) where
     abbrev p : ℕ
-    p = getD positions (getD places k 0) 0
+    p = first + getD places k 0
 
     more : leavesOf (take (k + 1) places) ≡ leavesOf (take k places) ++ frames (map (leave n) (keep b p []))
     more =
@@ -72,7 +88,7 @@ module _ (n start : ℕ) (positions lowers : List ℕ) where
         grows (λ j. leavesOf (take j places)) (λ j. leavesOf (take 1 (drop j places)))
         (λ j. ap leavesOf (take-add j 1 places) ∙ leaves-append (take j places) (take 1 (drop j places))) (k + 1) (length places) (omega arith)
 
-    -- a listed row's leave is the frame that the turn lays
+    -- such a row's leave is the frame that the turn lays
     took : b ≡ true → leavesOf (take (k + 1) places) ≡ leavesOf (take k places) ++ frame (leave n p) []
     unfolding frames flat
     took t = more ∙ rw (t, append-nil)
@@ -92,12 +108,7 @@ module _ (n start : ℕ) (positions lowers : List ℕ) where
       → (at ≡ length (leavesOf places)) × (out ≡ laid (leavesOf places) entry)
   leaving-all {places} v h = rw (take-all (length places) places (omega arith)) at (laying-all (v .laying) h)
 
--- the leaves of a quote: of the row that falls out of the window, then of the rows that do not stay
-pub leaves-frames : (n : ℕ) (s : Flagged) (w : Shift) {removed : List ℕ} → removed ≡ removedPlaces (s .kept) (s .count) → Rises (s .positions) (s .count) → Steps w
-    → frames (map (leave n) (moving s w false)) ≡ frames (map (leave n) (fallen s w)) ++ leavesOf n (w .before) (s .positions) (s .lowerEnds) removed
-leaves-frames n s w e u v = rw (e, leaves-are s w v u, map-append, frames-append)
-
--- ---- the leave of a row that may fall out of the window
+-- the leave of the row at the window's old start
 module _ (n p : ℕ) {fell : List ℕ} {b : Bool} (e : fell ≡ keep b p []) where
   pub fallen-frame : b ≡ true → frames (map (leave n) fell) ≡ frame (leave n p) []
   unfolding frames flat
@@ -106,3 +117,14 @@ module _ (n p : ℕ) {fell : List ℕ} {b : Bool} (e : fell ≡ keep b p []) whe
   pub fallen-nothing : b ≡ false → frames (map (leave n) fell) ≡ []
   unfolding frames flat
   fallen-nothing t = rw (e, t)
+
+module _ (place : ℕ) (lowers uppers : List ℕ) (w : Shift) where
+  -- where the window does not move, no row falls out of it
+  pub fallen-none : w .after ≤ w .before → fallen place lowers uppers w ≡ []
+  unfolding fallen
+  fallen-none h = rw (le-ltb (w .before) (w .after) h)
+
+  -- else the row at its old start, if it was listed
+  pub fallen-is : w .before < w .after → fallen place lowers uppers w ≡ keep (eqb (getD uppers place 0) 0 && ltb (getD lowers place 0) (w .before)) (w .before) []
+  unfolding fallen live
+  fallen-is h = rw (lt-ltb (w .before) (w .after) h)

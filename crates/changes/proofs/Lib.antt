@@ -1,14 +1,10 @@
 -- The laws of the crate.
-pub mod Picking
-pub mod Writing
-pub mod Framing
-pub mod Moving
 pub mod Records
+pub mod Passing
+pub mod Stepping
+pub mod Moving
+pub mod Leaving
+pub mod Joining
 pub mod Watching
 pub mod Distinct
 pub mod Quoting
-pub mod Places
-pub mod Starts
-pub mod Stepping
-pub mod Leaving
-pub mod Joining

@@ -37,6 +37,9 @@ unfolding tornWatches
 torn-eight N ws = rw (take-take 8 8 ws (le-refl 8))
 
 -- no watch record is above N
-pub watch-below : (N : ℕ) (ws : List ℕ) (i : ℕ) → tornWatches N ws ≡ false → i < 8 → getD ws i 0 ≤ N
+pub watches-below : (N : ℕ) (ws : List ℕ) → tornWatches N ws ≡ false → (i : ℕ) → getD (take 8 ws) i 0 ≤ N
 unfolding tornWatches
-watch-below N ws i e h = rw (← getD-take 8 ws i 0 h) (ordered-below 1 N (take 8 ws) i (not-false (ordered 1 N (take 8 ws)) e))
+watches-below N ws e i = ordered-below 1 N (take 8 ws) i (not-false (ordered 1 N (take 8 ws)) e)
+
+pub watch-below : (N : ℕ) (ws : List ℕ) (i : ℕ) → tornWatches N ws ≡ false → i < 8 → getD ws i 0 ≤ N
+watch-below N ws i e h = rw (← getD-take 8 ws i 0 h) (watches-below N ws e i)

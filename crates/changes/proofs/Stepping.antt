@@ -1,204 +1,212 @@
--- Which rows leave or join where the positions rise and the window moves by one position at most.
+-- Which rows leave or join as the window moves by one position at most: the row at its old start, the rows that the quote retires, and
+-- the rows whose lower end is its old start.
 use mathlib.Core.Path.{_≡_, refl, sym, ap, _∙_}
-use mathlib.Core.Logic.{_⊎_, inl, inr}
 use Prim.Native.Nat.{ℕ, zero, suc, _+_, _-_, _≤_, _<_}
+use native.Mathlib.Nat.{zero-add}
 use native.Mathlib.Numerals.{add-one}
+use native.Mathlib.Decide.{decLt}
 use native.Mathlib.Omega.{arith}
-use mathlib.Core.Bool.{Bool, true, false, _&&_, not, cond}
-use mathlib.Core.List.{List, [], _∷_, _++_, map, append-assoc, append-nil}
-use lib.Dec.{ltb, leb, eqb}
+use mathlib.Core.Bool.{Bool, true, false, _&&_, _||_, not}
+use mathlib.Core.List.{List, [], _++_, map, append-assoc, append-nil}
+use lib.Dec.{ltb, leb}
 use lib.ListN.{getD}
-use borrow.Author.Tests.{ltb-true, ltb-false, leb-true, leb-false, lt-ltb, le-leb, eqb-true, eqb-false, not-true}
-use Rattle.lists.specs.Lists.{keep, run}
-use Rattle.lists.proofs.Booleans.{refute, clash, and-left, and-right}
+use borrow.Author.Tests.{ltb-true, leb-true, leb-false, lt-ltb, le-ltb, le-leb, lt-leb, not-true}
+use Rattle.lists.specs.Lists.{keep, filter, run}
+use Rattle.lists.proofs.Booleans.{refute, clash, and-left, and-right, and-false, both}
 use Rattle.lists.proofs.Filters.{filter-filter}
-use Rattle.lists.proofs.Runs.{filter-upto}
+use Rattle.lists.proofs.Runs.{filter-from}
 use Rattle.skyline.specs.Skyline.{stabbed}
-use Rattle.model.specs.Rows.{renamed}
-use Rattle.cells.specs.Removed.{removedPlaces}
-use Rattle.cells.proofs.Places.{next-gap}
+use Rattle.finding.specs.Found.{live, over, retires, retired}
+use Rattle.listing.specs.Picked.{picked}
+use Rattle.listing.proofs.Picking.{picked-none, picked-more, picked-skip}
 use Rattle.changes.specs.declared.Shift.{Shift}
-use Rattle.changes.specs.Picked.{picked}
-use Rattle.changes.specs.Flagged.{Flagged, wasListed, nowListed, moves, moving, fallsOut, fallen}
-use Rattle.changes.specs.Sought.{nextEqual, placeOf, listedOf, Rises, Steps}
-use Rattle.changes.proofs.Picking.{picked-none, picked-more}
-use Rattle.changes.proofs.Starts.{place-is}
+use Rattle.changes.specs.Held.{Held, stands, wasListed, nowListed, moves, moving, fallen, dropped, mayGain, Ready, Retired, LiveNamed}
 
--- places that do not pass pick nothing
-pub picked-skip : (test : ℕ → Bool) (positions : List ℕ) (i j : ℕ) → i ≤ j → ((q : ℕ) → i ≤ q → q < j → test q ≡ false) → picked test positions j ≡ picked test positions i
-unfolding picked
-picked-skip test positions i j h none =
-    let e : i + (j - i) ≡ j = omega arith in
-    ap (map (λ k. getD positions k 0)) (rw e at (filter-upto test 0 i (j - i) (λ q u v. none q (omega arith) (omega arith))))
-
-stabbed-lower : (start lower position : ℕ) → stabbed start lower position ≡ true → lower < start
-unfolding stabbed
-stabbed-lower start lower position e = ltb-true lower start (and-left (ltb lower start) (leb start position) e)
-
-stabbed-late : (start lower position : ℕ) → stabbed start lower position ≡ true → start ≤ position
-unfolding stabbed
-stabbed-late start lower position e = leb-true start position (and-right (ltb lower start) (leb start position) e)
-
--- a row in the window that is not listed has a lower end in it
-unlisted-lower : (start lower position : ℕ) → stabbed start lower position ≡ false → start ≤ position → start ≤ lower
-unfolding stabbed
-unlisted-lower start lower position e h = go (ltb lower start) refl (rw (le-leb start position h) at e)
-  where
-    go : (b : Bool) → ltb lower start ≡ b → b && true ≡ false → start ≤ lower
-    go true f g = absurd (clash true refl g)
-    go false f g = ltb-false lower start f
-
--- a row whose lower end is below the window and that is not listed is behind it
-unlisted-early : (start lower position : ℕ) → stabbed start lower position ≡ false → lower < start → position < start
-unfolding stabbed
-unlisted-early start lower position e h = leb-false start position (rw (lt-ltb lower start h) at e)
-
--- a lower end renamed is 0 or what it was
-renamed-cases : (gone lower : ℕ) → (lower ≡ gone) ⊎ (renamed gone lower ≡ lower)
-unfolding renamed
-renamed-cases gone lower = go (eqb lower gone) refl
-  where
-    go : (b : Bool) → eqb lower gone ≡ b → (lower ≡ gone) ⊎ (cond b 0 lower ≡ lower)
-    go true e = inl (eqb-true lower gone e)
-    go false e = inr refl
-
-renamed-low : (gone lower : ℕ) → renamed gone lower ≤ lower
-unfolding renamed
-renamed-low gone lower = go (eqb lower gone)
-  where
-    go : (b : Bool) → cond b 0 lower ≤ lower
-    go true = omega arith
-    go false = omega arith
-
-module _ (s : Flagged) (w : Shift) (v : Steps w) where
+module _ (s : Held) (w : Shift) (v : Ready s w) where
   abbrev pub position : ℕ → ℕ
-  position i = getD (s .positions) i 0
+  position i = s .first + i
 
-  abbrev pub lowerEnd : ℕ → ℕ
-  lowerEnd i = getD (s .lowerEnds) i 0
+  abbrev pub lower : ℕ → ℕ
+  lower i = getD (s .lowers) i 0
 
-  listed-late : (i : ℕ) → wasListed s w i ≡ true → w .before ≤ position i
-  unfolding wasListed
-  listed-late i e = stabbed-late (w .before) (lowerEnd i) (position i) e
+  abbrev alive : ℕ → Bool
+  alive = live (s .rows .uppers)
 
-  -- a row that stays and leaves stands at the window's old start
-  falls-at : (i : ℕ) → fallsOut s w i ≡ true → position i ≡ w .before
-  unfolding fallsOut moves wasListed nowListed
+  abbrev beaten : ℕ → Bool
+  beaten = over (s .rows)
+
+  -- the row at place i was listed, and the window moves past it
+  abbrev falls : ℕ → Bool
+  falls i = wasListed s w i && not (leb (w .after) (position i))
+
+  -- the quote retires the row at place i, which was listed and is in the window after
+  abbrev drops : ℕ → Bool
+  drops i = retires (s .rows) i && (ltb (lower i) (w .before) && leb (w .after) (position i))
+
+  -- what was listed and is in the window after is listed but for the quote
+  sorted : (a l k l' k' o : Bool) → (l ≡ true → l' ≡ true) → (k' ≡ true → k ≡ true)
+      → (a && (l && k)) && not ((a && not o) && (l' && k')) ≡ ((a && (l && k)) && not k') || ((a && o) && (l && k'))
+  sorted false l k l' k' o f g = refl
+  sorted true false k l' k' o f g = sym (and-false o)
+  sorted true true k l' true true f g = rw (g refl)
+  sorted true true k l' true false f g = rw (f refl, g refl)
+  sorted true true true l' false true f g = refl
+  sorted true true true l' false false f g = rw (f refl)
+  sorted true true false l' false true f g = refl
+  sorted true true false l' false false f g = refl
+
+  leaves-by : (i : ℕ) → moves s w false i ≡ falls i || drops i
+  unfolding moves wasListed nowListed stands stabbed retires
+  leaves-by i =
+      sorted (alive i) (ltb (lower i) (w .before)) (leb (w .before) (position i)) (ltb (lower i) (w .after)) (leb (w .after) (position i)) (beaten i)
+      (λ t. lt-ltb (lower i) (w .after) (omega (arith, ltb-true (lower i) (w .before) t, v .forth)))
+      (λ t. le-leb (w .before) (position i) (omega (arith, leb-true (w .after) (position i) t, v .forth)))
+
+  -- a row that the window moves past stands at its old start
+  falls-at : (i : ℕ) → falls i ≡ true → (position i ≡ w .before) × (w .before < w .after)
+  unfolding wasListed stabbed
   falls-at i e =
-      let K = getD (s .kept) i false in
-      let W = stabbed (w .before) (lowerEnd i) (position i) in
-      let S = stabbed (w .after) (renamed (w .gone) (lowerEnd i)) (position i) in
-      let stays = and-left K (W && not (K && S)) e in
-      let left = and-right K (W && not (K && S)) e in
-      let was = and-left W (not (K && S)) left in
-      let out = not-true (K && S) (and-right W (not (K && S)) left) in
-      let low = stabbed-lower (w .before) (lowerEnd i) (position i) was in
-      let late = stabbed-late (w .before) (lowerEnd i) (position i) was in
-      let early = unlisted-early (w .after) (renamed (w .gone) (lowerEnd i)) (position i) (rw stays at out) (omega (arith, renamed-low (w .gone) (lowerEnd i), v .forth)) in
-      omega (arith, v .by-one)
+      let was = and-left (wasListed s w i) (not (leb (w .after) (position i))) e in
+      let out = leb-false (w .after) (position i) (not-true (leb (w .after) (position i)) (and-right (wasListed s w i) (not (leb (w .after) (position i))) e)) in
+      let in-window = and-right (alive i) (ltb (lower i) (w .before) && leb (w .before) (position i)) was in
+      let late = leb-true (w .before) (position i) (and-right (ltb (lower i) (w .before)) (leb (w .before) (position i)) in-window) in
+      let near = v .by-one in
+      (omega arith, omega arith)
 
-  -- a row that joins is in the window, and its lower end is the window's old start
-  joins-at : (i : ℕ) → moves s w true i ≡ true → (lowerEnd i ≡ w .before) × (w .before ≤ position i)
-  unfolding moves wasListed nowListed
-  joins-at i e =
-      let K = getD (s .kept) i false in
-      let W = stabbed (w .before) (lowerEnd i) (position i) in
-      let S = stabbed (w .after) (renamed (w .gone) (lowerEnd i)) (position i) in
-      let is = and-right K S (and-left (K && S) (not W) e) in
-      let low = stabbed-lower (w .after) (renamed (w .gone) (lowerEnd i)) (position i) is in
-      let late = stabbed-late (w .after) (renamed (w .gone) (lowerEnd i)) (position i) is in
-      let over = unlisted-lower (w .before) (lowerEnd i) (position i) (not-true W (and-right (K && S) (not W) e)) (omega (arith, v .forth)) in
-      (go (renamed-cases (w .gone) (lowerEnd i)) low over, omega (arith, v .forth))
+  drops-at : (i : ℕ) → drops i ≡ true → w .after ≤ position i
+  drops-at i e =
+      leb-true (w .after) (position i)
+      (and-right (ltb (lower i) (w .before)) (leb (w .after) (position i)) (and-right (retires (s .rows) i) (ltb (lower i) (w .before) && leb (w .after) (position i)) e))
+
+  -- no row that the quote retires and that is in the window after stands before it
+  drops-none : (i : ℕ) → falls i ≡ true → picked drops (s .first) i ≡ []
+  drops-none i e =
+      let at = falls-at i e in
+      picked-skip drops (s .first) 0 i (omega arith) (λ q _ l. refute (drops q) (λ t. omega (arith, drops-at q t))) ∙ picked-none drops (s .first)
+
+  leaves-split : (i : ℕ) → picked (moves s w false) (s .first) i ≡ picked falls (s .first) i ++ picked drops (s .first) i
+  leaves-split zero = rw (picked-none (moves s w false), picked-none falls, picked-none drops)
+  leaves-split (suc i) =
+      rw (← add-one, picked-more (moves s w false), picked-more falls, picked-more drops, leaves-split i, leaves-by i)
+      (go (falls i) (drops i) (λ e. drops-none i e) (λ e. let at = falls-at i e in refute (drops i) (λ t. omega (arith, drops-at i t))))
     where
-      go : (lowerEnd i ≡ w .gone) ⊎ (renamed (w .gone) (lowerEnd i) ≡ lowerEnd i) → renamed (w .gone) (lowerEnd i) < w .after → w .before ≤ lowerEnd i → lowerEnd i ≡ w .before
-      go (inl g) low over = omega (arith, v .expires)
-      go (inr g) low over = omega (arith, v .by-one)
+      A : List ℕ
+      A = picked falls (s .first) i
 
-  -- the place of the window's old start
-  abbrev pub first : ℕ
-  first = placeOf (s .positions) (w .before) (s .count)
+      B : List ℕ
+      B = picked drops (s .first) i
 
-  -- no row joins before the next lower end that is the window's old start
-  pub joins-none : (i q : ℕ) → i ≤ q → q < s .count → q < nextEqual (s .lowerEnds) (w .before) (s .count) i → moves s w true q ≡ false
-  unfolding nextEqual
-  joins-none i q u l h =
-      refute (moves s w true q)
-      (λ e. eqb-false (lowerEnd q) (w .before) (next-gap (λ k. eqb (lowerEnd k) (w .before)) (s .count) i q u l h) (joins-at q e .0))
+      go : (f q : Bool) → (f ≡ true → B ≡ []) → (f ≡ true → q ≡ false)
+          → (A ++ B) ++ keep (f || q) (position i) [] ≡ (A ++ keep f (position i) []) ++ (B ++ keep q (position i) [])
+      go true q none apart = rw (none refl, apart refl) (simp append-nil)
+      go false q none apart = rw append-nil (append-assoc A B (keep q (position i) []))
 
-  -- nor does one behind the window
-  pub joins-late : (q : ℕ) → position q < w .before → moves s w true q ≡ false
-  joins-late q h = refute (moves s w true q) (λ e. omega (arith, joins-at q e .1))
+  -- the row that the window moves past, if it was listed
+  falls-picked : picked falls (s .first) (s .count) ≡ fallen (w .before - s .first) (s .lowers) (s .rows .uppers) w
+  unfolding fallen wasListed stabbed
+  falls-picked = go (decLt (w .before) (w .after))
+    where
+      p : ℕ
+      p = w .before - s .first
 
-  module _ (u : Rises (s .positions) (s .count)) where
-    -- so it stands at the place of that
-    falls-first : (i : ℕ) → i < s .count → fallsOut s w i ≡ true → first ≡ i
-    falls-first i h e = place-is (s .positions) (w .before) (s .count) i (omega arith) (λ q l f. omega (arith, u .rise q i l h, falls-at i e)) (λ _. falls-at i e)
+      at : s .first + p ≡ w .before
+      at = let u = v .starts in omega arith
 
-    falls-not : (i : ℕ) → i < s .count → (first ≡ i → ⊥) → fallsOut s w i ≡ false
-    falls-not i h n = refute (fallsOut s w i) (λ e. n (falls-first i h e))
+      there : w .before < w .after → falls p ≡ alive p && ltb (lower p) (w .before)
+      there h =
+          rw (at, le-leb (w .before) (w .before) (omega arith), lt-leb (w .after) (w .before) h)
+          (two (alive p) (ltb (lower p) (w .before)))
+        where
+          two : (a l : Bool) → (a && (l && true)) && true ≡ a && l
+          two true true = refl
+          two true false = refl
+          two false l = refl
 
-    -- no row falls out where none stands at the old start
-    pub fallen-none : {f : ℕ} → f ≡ first → s .count ≤ f → fallen s w ≡ []
-    unfolding fallen
-    fallen-none e h =
-        picked-skip (fallsOut s w) (s .positions) 0 (s .count) (omega arith) (λ q _ l. falls-not q l (λ g. omega arith)) ∙ picked-none (fallsOut s w) (s .positions)
+      go : Dec (w .before < w .after)
+          → picked falls (s .first) (s .count) ≡ keep (ltb (w .before) (w .after) && (alive p && ltb (lower p) (w .before))) (w .before) []
+      go (yes h) =
+          let u = v .ends in
+          picked-skip falls (s .first) (p + 1) (s .count) (omega arith) (λ q k l. refute (falls q) (λ t. let a = falls-at q t in omega arith))
+          ∙ picked-more falls (s .first) p
+          ∙ ap (λ (l : List ℕ). l ++ keep (falls p) (s .first + p) [])
+          (picked-skip falls (s .first) 0 p (omega arith) (λ q k l. refute (falls q) (λ t. let a = falls-at q t in omega arith)) ∙ picked-none falls (s .first))
+          ∙ rw (there h, at, lt-ltb (w .before) (w .after) h)
+      go (no h) =
+          picked-skip falls (s .first) 0 (s .count) (omega arith) (λ q k l. refute (falls q) (λ t. let a = falls-at q t in omega arith))
+          ∙ picked-none falls (s .first)
+          ∙ rw (le-ltb (w .before) (w .after) (omega arith))
 
-    -- else only the row there may
-    fallen-one : first < s .count → fallen s w ≡ keep (fallsOut s w first) (position first) []
-    unfolding fallen
-    fallen-one h =
-        picked-skip (fallsOut s w) (s .positions) (first + 1) (s .count) (omega arith) (λ q a l. falls-not q l (λ e. omega arith))
-        ∙ picked-more (fallsOut s w) (s .positions) first
-        ∙ ap (λ (l : List ℕ). l ++ keep (fallsOut s w first) (position first) [])
-        (picked-skip (fallsOut s w) (s .positions) 0 first (omega arith) (λ q _ l. falls-not q (omega arith) (λ e. omega arith)) ∙ picked-none (fallsOut s w) (s .positions))
+  -- the rows that the quote retires
+  drops-picked : (places : List ℕ) → Retired s w places → picked drops (s .first) (s .count) ≡ dropped (s .first) (s .lowers) w places
+  unfolding picked dropped retired
+  drops-picked places r =
+      let within = r .within in
+      let stays = r .stays in
+      let cut : s .count ≡ r .from + (s .count - r .from) = omega arith in
+      ap (map position)
+      (ap (λ (k : ℕ). filter drops (run 0 k)) cut
+      ∙ filter-from drops 0 (r .from) (s .count - r .from) (λ q _ l. refute (drops q) (λ t. omega (arith, drops-at q t)))
+      ∙ ap (λ (k : ℕ). filter drops (run k (s .count - r .from))) (zero-add (r .from))
+      ∙ sym (filter-filter kept (retires (s .rows)) (run (r .from) (s .count - r .from))))
+      ∙ ap (λ (l : List ℕ). map position (filter kept l)) (sym (r .listed))
+    where
+      kept : ℕ → Bool
+      kept i = ltb (lower i) (w .before) && leb (w .after) (position i)
 
-    -- by the parts of its test
-    pub fallen-at : {f : ℕ} {k was is : Bool} → f ≡ first → f < s .count → k ≡ getD (s .kept) f false → was ≡ wasListed s w f → is ≡ nowListed s w f
-        → fallen s w ≡ keep (k && (was && not is)) (position f) []
-    unfolding fallsOut moves
-    fallen-at e h p q r = rw (p, q, r, e) (fallen-one (rw e at h))
+  -- the rows that leave: the one that the window moves past, then those that the quote retires
+  pub leaves-are : (places : List ℕ) → Retired s w places
+      → moving s w false ≡ fallen (w .before - s .first) (s .lowers) (s .rows .uppers) w ++ dropped (s .first) (s .lowers) w places
+  unfolding moving
+  leaves-are places r = rw (leaves-split (s .count), falls-picked, drops-picked places r)
 
-    -- the row at place i does not stay and was listed
-    abbrev goes : ℕ → Bool
-    goes i = not (getD (s .kept) i false) && wasListed s w i
+  -- a row that joins is live, its lower end is the window's old start, and it is in the window after
+  pub joins-at : (i : ℕ) → moves s w true i ≡ true → (alive i ≡ true) × (lower i ≡ w .before) × (w .before < w .after) × (w .after ≤ position i)
+  unfolding moves wasListed nowListed stands stabbed
+  joins-at i e =
+      let is = and-left (nowListed s w i) (not (wasListed s w i)) e in
+      let was = not-true (wasListed s w i) (and-right (nowListed s w i) (not (wasListed s w i)) e) in
+      let lives = and-left (alive i) (not (beaten i)) (and-left (stands (s .rows) i) (stabbed (w .after) (lower i) (position i)) is) in
+      let inside = and-right (stands (s .rows) i) (stabbed (w .after) (lower i) (position i)) is in
+      let low = ltb-true (lower i) (w .after) (and-left (ltb (lower i) (w .after)) (leb (w .after) (position i)) inside) in
+      let late = leb-true (w .after) (position i) (and-right (ltb (lower i) (w .after)) (leb (w .after) (position i)) inside) in
+      let forth = v .forth in
+      let near = v .by-one in
+      let behind : w .before ≤ lower i = go lives was late (decLt (lower i) (w .before)) in
+      (lives, omega arith, omega arith, late)
+    where
+      go : alive i ≡ true → wasListed s w i ≡ false → w .after ≤ position i → Dec (lower i < w .before) → w .before ≤ lower i
+      go lives was late (yes h) =
+          let forth = v .forth in
+          let inside = both (ltb (lower i) (w .before)) (leb (w .before) (position i)) (lt-ltb (lower i) (w .before) h) (le-leb (w .before) (position i) (omega arith)) in
+          absurd (clash (wasListed s w i) (both (alive i) (stabbed (w .before) (lower i) (position i)) lives inside) was)
+      go lives was late (no h) = omega arith
 
-    -- before the old start none was listed
-    goes-none : (i : ℕ) → i < s .count → position i ≡ w .before → picked goes (s .positions) i ≡ []
-    goes-none i h f =
-        picked-skip goes (s .positions) 0 i (omega arith)
-        (λ q _ l. refute (goes q) (λ e. omega (arith, u .rise q i l h, listed-late q (and-right (not (getD (s .kept) q false)) (wasListed s w q) e))))
-        ∙ picked-none goes (s .positions)
+  -- a row behind the window's old start whose lower end that is joins if it is live and the quote is not over it
+  pub joins-by : (i : ℕ) → lower i ≡ w .before → w .before < w .after → w .after ≤ position i → moves s w true i ≡ stands (s .rows) i
+  unfolding moves wasListed nowListed stabbed
+  joins-by i e h k =
+      rw (lt-ltb (lower i) (w .after) (omega arith), le-leb (w .after) (position i) k, le-ltb (lower i) (w .before) (omega arith))
+      (go (stands (s .rows) i) (alive i))
+    where
+      go : (a b : Bool) → (a && true) && not (b && false) ≡ a
+      go true true = refl
+      go true false = refl
+      go false b = refl
 
-    -- the rows that leave below place i: one that stays comes first
-    leaves-split : (i : ℕ) → i ≤ s .count → picked (moves s w false) (s .positions) i ≡ picked (fallsOut s w) (s .positions) i ++ picked goes (s .positions) i
-    unfolding fallsOut moves nowListed
-    leaves-split zero h = rw (picked-none (moves s w false), picked-none (fallsOut s w), picked-none goes)
-    leaves-split (suc i) h =
-        rw (← add-one, picked-more (moves s w false), picked-more (fallsOut s w), picked-more goes, leaves-split i (omega arith))
-        (go (getD (s .kept) i false) (wasListed s w i) (stabbed (w .after) (renamed (w .gone) (lowerEnd i)) (position i)) (λ e. goes-none i h (falls-at i e)))
-      where
-        A : List ℕ
-        A = picked (fallsOut s w) (s .positions) i
+  -- where none may join, none does
+  pub joins-none : (sound : Bool) → (sound ≡ true → LiveNamed s) → mayGain (w .before - s .first) (s .rows .uppers) w sound ≡ false → moving s w true ≡ []
+  unfolding moving mayGain
+  joins-none sound named e =
+      picked-skip (moves s w true) (s .first) 0 (s .count) (omega arith) (λ q _ l. refute (moves s w true q) (λ t. none sound named e q l (joins-at q t)))
+      ∙ picked-none (moves s w true) (s .first)
+    where
+      p : ℕ
+      p = w .before - s .first
 
-        B : List ℕ
-        B = picked goes (s .positions) i
-
-        one : List ℕ
-        one = position i ∷ []
-
-        -- by whether the row stays, was listed, and is
-        go : (k was is : Bool) → (k && (was && not (k && is)) ≡ true → B ≡ [])
-            → (A ++ B) ++ keep (was && not (k && is)) (position i) [] ≡ (A ++ keep (k && (was && not (k && is))) (position i) []) ++ (B ++ keep (not k && was) (position i) [])
-        go true true true none = simp append-nil
-        go true true false none = rw (none refl) (simp append-nil)
-        go true false is none = simp append-nil
-        go false true is none = rw append-nil (append-assoc A B one)
-        go false false is none = simp append-nil
-
-    -- the rows that leave: one that stays and falls out of the window, then those that are removed and were listed
-    pub leaves-are : moving s w false ≡ fallen s w ++ listedOf (w .before) (s .positions) (s .lowerEnds) (removedPlaces (s .kept) (s .count))
-    unfolding moving fallen listedOf removedPlaces picked wasListed
-    leaves-are =
-        leaves-split (s .count) (omega arith)
-        ∙ ap (λ (l : List ℕ). picked (fallsOut s w) (s .positions) (s .count) ++ map position l)
-        (sym (filter-filter (wasListed s w) (λ i. not (getD (s .kept) i false)) (run 0 (s .count))))
+      none : (sound : Bool) → (sound ≡ true → LiveNamed s) → ltb (w .before) (w .after) && (not sound || alive p) ≡ false → (q : ℕ) → q < s .count
+          → (alive q ≡ true) × (lower q ≡ w .before) × (w .before < w .after) × (w .after ≤ position q) → ⊥
+      none false named e q l t = clash true refl (rw (lt-ltb (w .before) (w .after) (t .2)) at e)
+      none true named e q l t =
+          let starts = v .starts in
+          let low = t .1 in
+          clash (alive p) (rw low at (named refl .names q l (t .0) (omega arith))) (rw (lt-ltb (w .before) (w .after) (t .2)) at e)

@@ -1,5 +1,4 @@
 -- The definitions of the crate.
-pub mod Picked
-pub mod Flagged
-pub mod Watches
 pub mod Sought
+pub mod Held
+pub mod Watches

@@ -1,25 +1,46 @@
 -- The changes that a quote makes to the lists of all watches, as frames.
-use Prim.Native.Nat.{ℕ, _+_}
+use mathlib.Core.Path.{_≡_}
+use Prim.Native.Nat.{ℕ, _+_, _≤_, _<_}
 use mathlib.Core.Bool.{cond}
 use mathlib.Core.List.{List, [], map}
 use lib.Dec.{eqb}
+use lib.ListN.{length}
 use Rattle.lists.specs.Lists.{flat}
 use Rattle.skyline.specs.Skyline.{windowStart}
+use Rattle.head.specs.declared.Head.{Head}
+use Rattle.head.specs.Heads.{lastPosition}
 use Rattle.model.specs.Changes.{frames}
+use Rattle.finding.specs.Found.{Rows, retired, Fits}
 use Rattle.changes.specs.declared.Shift.{Shift}
-use Rattle.changes.specs.Flagged.{Flagged, changed}
+use Rattle.changes.specs.Held.{Held, changed}
 
--- gone: the position that expires with the quote; newest: the newest position before it
-module _ (gone newest : ℕ) where
-  -- how the window of n moves
-  unfoldable pub shiftOf : ℕ → Shift
-  shiftOf n = record { before = windowStart newest n; after = windowStart (newest + 1) n; gone = gone }
+-- how the window of n moves at the quote behind the newest
+unfoldable pub shiftOf : ℕ → ℕ → Shift
+shiftOf newest n = record { before = windowStart newest n; after = windowStart (newest + 1) n }
+
+module _ (h : Head) (lowers : List ℕ) (rows : Rows) where
+  -- the rows of the book
+  abbrev pub heldIn : Held
+  heldIn = record { first = windowStart (h .newest) (h .capacity); count = h .held; lowers = lowers; rows = rows }
+
+  -- the rows stand in their tables and fill the window of N, and the tape has space for a quote
+  pub record Full : Type 0 where
+    pub fits : Fits rows (h .held)
+    pub lower-room : h .held ≤ length lowers
+    pub filled : h .newest + 1 ≡ windowStart (h .newest) (h .capacity) + h .held
+    pub space : h .newest < lastPosition
+
+  -- these are the places of the rows that the quote retires, of those that stay
+  pub record Outdone (places : List ℕ) : Type 0 where
+    pub from : ℕ
+    pub stays : windowStart (h .newest) (h .capacity) + from ≡ windowStart (h .newest + 1) (h .capacity)
+    pub listed : places ≡ retired rows from (h .held)
 
   -- lower: the new row's lower end
-  module _ (s : Flagged) (lower : ℕ) where
+  module _ (lower : ℕ) where
     -- the frames of the watch record n; 0 is an empty record
     unfoldable pub watchFrames : ℕ → List ℕ
-    watchFrames n = cond (eqb n 0) [] (frames (changed s (shiftOf n) (newest + 1) lower n))
+    watchFrames n = cond (eqb n 0) [] (frames (changed heldIn (shiftOf (h .newest) n) lower n))
 
     -- the frames of these watch records, each behind the one before
     unfoldable pub allFrames : List ℕ → List ℕ

@@ -1,84 +1,68 @@
-// The leaves that a quote makes in the list of one watch, written as frames: of a row that stays at the window's old start, and of the
-// rows that do not stay.
+// The leaves that a quote makes in the list of one watch, written as frames: of the row at the window's old start, then of the rows that
+// the quote retires.
 ghost use mathlib.Core.Path.{_≡_};
-ghost use Prim.Native.Nat.{_≤_};
-ghost use mathlib.Core.Bool.{false};
-ghost use mathlib.Core.List.{map};
+ghost use Prim.Native.Nat.{_≤_, _<_};
+ghost use mathlib.Core.List.{map, _++_};
 ghost use lib.ListN.{length};
 ghost use Rattle.lists.specs.Lists.{laid};
+ghost use Rattle.head.specs.Heads.{lastPosition};
 ghost use Rattle.model.specs.Changes.{leave, frames};
-ghost use Rattle.cells.specs.Removed.{removedPlaces};
-ghost use Rattle.changes.specs.Flagged.{flagged, fallen, moving};
-ghost use Rattle.changes.specs.Sought.{placeOf, listedOf, Below, Rises, Steps};
+ghost use Rattle.cells.specs.Marked.{Below};
+ghost use Rattle.changes.specs.Held.{fallen, dropped};
 use crate::Shift;
-use crate::listing::is_listed;
-use crate::moves::stays_listed;
 use frames::LEAVE;
 use octets::lay_change;
 
-// Writes the leave of the row that stays and leaves the list of n, if there is one: it stands at place, that of the window's old
-// start. Returns how many bytes.
+// Writes the leave of the row at this place, that of the window's old start, if the window moves past it and it was listed. Returns how
+// many bytes.
 fn write_fallen(
     n: u16,
-    keep: &[bool],
-    positions: &[u32],
     lower_ends: &[u32],
-    count: usize,
+    upper_ends: &[u32],
     place: usize,
     shift: Shift,
     out: &mut [u8],
 ) -> usize
-    requires { ⌜ count ≤ length (now keep) ⌝ }
-    requires { ⌜ count ≤ length (now positions) ⌝ }
-    requires { ⌜ count ≤ length (now «lower_ends») ⌝ }
-    requires { ⌜ Rises (now positions) count ⌝ }
-    requires { ⌜ Steps shift ⌝ }
-    requires { ⌜ place ≡ placeOf (now positions) (shift .before) count ⌝ }
-    requires { ⌜ length (frames (map (leave n) (fallen (flagged (now keep) (now positions) (now «lower_ends») count) shift))) ≤ length (now out) ⌝ }
-    ensures { λ r. ⌜ r ≡ length (frames (map (leave n) (fallen (flagged (now (keep .entry)) (now (positions .entry)) (now («lower_ends» .entry)) count) shift))) ⌝ }
-    ensures { λ r. ⌜ now (out .exit) ≡ laid (frames (map (leave n) (fallen (flagged (now (keep .entry)) (now (positions .entry)) (now («lower_ends» .entry)) count) shift))) (now (out .entry)) ⌝ }
+    requires { ⌜ (shift .before < shift .after → place < length (now «lower_ends»)) ⌝ }
+    requires { ⌜ (shift .before < shift .after → place < length (now «upper_ends»)) ⌝ }
+    requires { ⌜ length (frames (map (leave n) (fallen place (now «lower_ends») (now «upper_ends») shift))) ≤ length (now out) ⌝ }
+    ensures { λ r. ⌜ r ≡ length (frames (map (leave n) (fallen place (now («lower_ends» .entry)) (now («upper_ends» .entry)) shift))) ⌝ }
+    ensures { λ r. ⌜ now (out .exit) ≡ laid (frames (map (leave n) (fallen place (now («lower_ends» .entry)) (now («upper_ends» .entry)) shift))) (now (out .entry)) ⌝ }
 {
-    if count <= place {
+    if shift.after <= shift.before {
         return 0;
     }
-    let position = positions[place];
-    let lower_end = lower_ends[place];
-    let stays = keep[place];
-    let was = is_listed(shift.before, lower_end, position);
-    let is = stays_listed(stays, shift.gone, shift.after, lower_end, position);
-    if stays & (was & !is) {
-        lay_change(LEAVE, n, position, out);
+    if (upper_ends[place] == 0) & (lower_ends[place] < shift.before) {
+        lay_change(LEAVE, n, shift.before, out);
         return 7;
     }
     0
 }
 
-// Writes a leave of the watch of n for each row at these places that is on the list of the window that starts at start. Returns how many
-// bytes.
-fn write_removed(
+// Writes the leave of each row at these places that is in the window after and whose lower end is before the window's old start. Returns
+// how many bytes.
+fn write_dropped(
     n: u16,
-    removed: &[u16],
-    positions: &[u32],
+    retired: &[u16],
     lower_ends: &[u32],
-    count: usize,
-    start: u32,
+    first: u32,
+    shift: Shift,
     out: &mut [u8],
 ) -> usize
-    requires { ⌜ count ≤ length (now positions) ⌝ }
-    requires { ⌜ count ≤ length (now «lower_ends») ⌝ }
-    requires { ⌜ Below (now removed) count ⌝ }
-    requires { ⌜ length (frames (map (leave n) (listedOf start (now positions) (now «lower_ends») (now removed)))) ≤ length (now out) ⌝ }
-    ensures { λ r. ⌜ r ≡ length (frames (map (leave n) (listedOf start (now (positions .entry)) (now («lower_ends» .entry)) (now (removed .entry))))) ⌝ }
-    ensures { λ r. ⌜ now (out .exit) ≡ laid (frames (map (leave n) (listedOf start (now (positions .entry)) (now («lower_ends» .entry)) (now (removed .entry))))) (now (out .entry)) ⌝ }
+    requires { ⌜ first ≤ lastPosition ⌝ }
+    requires { ⌜ Below (now retired) (length (now «lower_ends»)) ⌝ }
+    requires { ⌜ length (frames (map (leave n) (dropped first (now «lower_ends») shift (now retired)))) ≤ length (now out) ⌝ }
+    ensures { λ r. ⌜ r ≡ length (frames (map (leave n) (dropped first (now («lower_ends» .entry)) shift (now (retired .entry))))) ⌝ }
+    ensures { λ r. ⌜ now (out .exit) ≡ laid (frames (map (leave n) (dropped first (now («lower_ends» .entry)) shift (now (retired .entry))))) (now (out .entry)) ⌝ }
 {
     let mut at: usize = 0;
     let mut k = 0;
-    while k < removed.len() {
-        let i = removed[k] as usize;
-        let position = positions[i];
-        let lower_end = lower_ends[i];
+    while k < retired.len() {
+        let i = retired[k] as usize;
+        let position = first + (i as u32);
+        let leaves = (lower_ends[i] < shift.before) & (shift.after <= position);
         k += 1;
-        if is_listed(start, lower_end, position) {
+        if leaves {
             lay_change(LEAVE, n, position, &mut out[at..]);
             at += 7;
         }
@@ -86,39 +70,26 @@ fn write_removed(
     at
 }
 
-// Writes a leave of the watch of n for each row that leaves its list at a quote; removed has the places of the rows that do not stay.
-// Returns how many bytes.
+// Writes the leaves of the watch of n at a quote that retires the rows at these places. Returns how many bytes.
 pub fn write_leaves(
     n: u16,
-    keep: &[bool],
-    removed: &[u16],
-    positions: &[u32],
+    retired: &[u16],
     lower_ends: &[u32],
-    count: usize,
+    upper_ends: &[u32],
+    first: u32,
     place: usize,
     shift: Shift,
     out: &mut [u8],
 ) -> usize
-    requires { ⌜ count ≤ length (now keep) ⌝ }
-    requires { ⌜ count ≤ length (now positions) ⌝ }
-    requires { ⌜ count ≤ length (now «lower_ends») ⌝ }
-    requires { ⌜ now removed ≡ removedPlaces (now keep) count ⌝ }
-    requires { ⌜ Rises (now positions) count ⌝ }
-    requires { ⌜ Steps shift ⌝ }
-    requires { ⌜ place ≡ placeOf (now positions) (shift .before) count ⌝ }
-    requires { ⌜ length (frames (map (leave n) (moving (flagged (now keep) (now positions) (now «lower_ends») count) shift false))) ≤ length (now out) ⌝ }
-    ensures { λ r. ⌜ r ≡ length (frames (map (leave n) (moving (flagged (now (keep .entry)) (now (positions .entry)) (now («lower_ends» .entry)) count) shift false))) ⌝ }
-    ensures { λ r. ⌜ now (out .exit) ≡ laid (frames (map (leave n) (moving (flagged (now (keep .entry)) (now (positions .entry)) (now («lower_ends» .entry)) count) shift false))) (now (out .entry)) ⌝ }
+    requires { ⌜ (shift .before < shift .after → place < length (now «lower_ends»)) ⌝ }
+    requires { ⌜ (shift .before < shift .after → place < length (now «upper_ends»)) ⌝ }
+    requires { ⌜ first ≤ lastPosition ⌝ }
+    requires { ⌜ Below (now retired) (length (now «lower_ends»)) ⌝ }
+    requires { ⌜ length (frames (map (leave n) (fallen place (now «lower_ends») (now «upper_ends») shift ++ dropped first (now «lower_ends») shift (now retired)))) ≤ length (now out) ⌝ }
+    ensures { λ r. ⌜ r ≡ length (frames (map (leave n) (fallen place (now («lower_ends» .entry)) (now («upper_ends» .entry)) shift ++ dropped first (now («lower_ends» .entry)) shift (now (retired .entry))))) ⌝ }
+    ensures { λ r. ⌜ now (out .exit) ≡ laid (frames (map (leave n) (fallen place (now («lower_ends» .entry)) (now («upper_ends» .entry)) shift ++ dropped first (now («lower_ends» .entry)) shift (now (retired .entry))))) (now (out .entry)) ⌝ }
 {
-    let at = write_fallen(n, keep, positions, lower_ends, count, place, shift, out);
-    let used = write_removed(
-        n,
-        removed,
-        positions,
-        lower_ends,
-        count,
-        shift.before,
-        &mut out[at..],
-    );
+    let at = write_fallen(n, lower_ends, upper_ends, place, shift, out);
+    let used = write_dropped(n, retired, lower_ends, first, shift, &mut out[at..]);
     at + used
 }

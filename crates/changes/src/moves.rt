@@ -1,103 +1,151 @@
 // The changes that a quote makes to the list of one watch: counted, and written as frames.
 ghost use mathlib.Core.Path.{_≡_};
-ghost use Prim.Native.Nat.{_+_, _≤_};
-ghost use mathlib.Core.Bool.{true, false, _&&_};
+ghost use Prim.Native.Nat.{suc, _+_, _-_, _≤_, _<_};
+ghost use mathlib.Core.Bool.{true, false};
 ghost use mathlib.Core.List.{map};
 ghost use lib.ListN.{length};
 ghost use Rattle.lists.specs.Lists.{laid};
 ghost use Rattle.skyline.specs.Skyline.{stabbed};
-ghost use Rattle.model.specs.Rows.{renamed};
 ghost use Rattle.model.specs.Changes.{join, frames};
-ghost use Rattle.cells.specs.Removed.{removedPlaces};
-ghost use Rattle.changes.specs.Flagged.{flagged, moving, joining, changed};
-ghost use Rattle.changes.specs.Sought.{placeOf, Rises, Named, Steps};
+ghost use Rattle.finding.specs.Found.{rows, Fits};
+ghost use Rattle.changes.specs.Held.{held, stands, moving, joining, changed, changesAt, mayGain, Ready, Retired, LiveNamed};
 use crate::Shift;
 use crate::leaves::write_leaves;
-use crate::listing::is_listed;
-use crate::seeking::first_lower_end;
 use crate::seeking::next_equal;
-use crate::seeking::place_of;
+use dominance::compare;
 use frames::JOIN;
+use head::Head;
 use octets::lay_change;
 
-// A lower end once position gone has expired: 0 if it named that position.
-fn rename(gone: u32, lower: u32) -> u32
-    ensures { λ r. ⌜ r ≡ renamed gone lower ⌝ }
+// Whether the row at a place is live and the quote is not over it.
+fn stands(
+    directions: u32,
+    d: usize,
+    columns: &[u32],
+    upper_ends: &[u32],
+    quote: &[u32],
+    place: usize,
+) -> bool
+    requires { ⌜ Fits (rows d directions (now columns) (now «upper_ends») (now quote)) (suc place) ⌝ }
+    ensures { λ r. ⌜ r ≡ stands (rows d directions (now (columns .entry)) (now («upper_ends» .entry)) (now (quote .entry))) place ⌝ }
 {
-    if lower == gone {
-        return 0;
+    if upper_ends[place] != 0 {
+        return false;
     }
-    lower
+    let c = compare(directions, d, quote, columns, place * d);
+    !(c.better & !c.worse)
 }
 
-// Whether a row stays and is on the list of the window that starts at after, once position gone has expired.
-pub fn stays_listed(keep: bool, gone: u32, after: u32, lower: u32, position: u32) -> bool
-    ensures { λ r. ⌜ r ≡ (keep && stabbed after (renamed gone lower) position) ⌝ }
+// Whether a row with this lower end and position is in the window that starts at start, and no row of it is over it.
+fn is_stabbed(start: u32, lower: u32, position: u32) -> bool
+    ensures { λ r. ⌜ r ≡ stabbed start lower position ⌝ }
 {
-    keep & is_listed(after, rename(gone, lower), position)
+    (lower < start) & (start <= position)
 }
 
-// How many positions leave or join the list of a window at a quote; shift says how the window moves.
-pub fn count_changes(
-    keep: &[bool],
-    positions: &[u32],
+// Whether the row at a place leaves or joins the list.
+fn changes_at(
+    head: Head,
+    columns: &[u32],
     lower_ends: &[u32],
-    count: usize,
+    upper_ends: &[u32],
+    quote: &[u32],
+    first: u32,
+    place: usize,
     shift: Shift,
-    newest: u32,
+) -> bool
+    requires { ⌜ Ready (held first (head .held) (now «lower_ends») (rows (head .dimensions) (head .directions) (now columns) (now «upper_ends») (now quote))) shift ⌝ }
+    requires { ⌜ suc place ≤ head .held ⌝ }
+    ensures { λ r. ⌜ r ≡ changesAt (held first (head .held) (now («lower_ends» .entry)) (rows (head .dimensions) (head .directions) (now (columns .entry)) (now («upper_ends» .entry)) (now (quote .entry)))) shift place ⌝ }
+{
+    let position = first + (place as u32);
+    let lower = lower_ends[place];
+    let live = upper_ends[place] == 0;
+    let was = live & is_stabbed(shift.before, lower, position);
+    let d = head.dimensions as usize;
+    let stays = stands(head.directions, d, columns, upper_ends, quote, place);
+    was ^ (stays & is_stabbed(shift.after, lower, position))
+}
+
+// How many positions leave or join the list at a quote whose row has this lower end.
+pub fn count_changes(
+    head: Head,
+    columns: &[u32],
+    lower_ends: &[u32],
+    upper_ends: &[u32],
+    quote: &[u32],
+    first: u32,
+    shift: Shift,
     lower: u32,
 ) -> usize
-    requires { ⌜ count ≤ length (now keep) ⌝ }
-    requires { ⌜ count ≤ length (now positions) ⌝ }
-    requires { ⌜ count ≤ length (now «lower_ends») ⌝ }
-    ensures { λ r. ⌜ r ≡ length (moving (flagged (now (keep .entry)) (now (positions .entry)) (now («lower_ends» .entry)) count) shift false) + length (joining (flagged (now (keep .entry)) (now (positions .entry)) (now («lower_ends» .entry)) count) shift newest lower) ⌝ }
+    requires { ⌜ Ready (held first (head .held) (now «lower_ends») (rows (head .dimensions) (head .directions) (now columns) (now «upper_ends») (now quote))) shift ⌝ }
+    ensures { λ r. ⌜ r ≡ length (moving (held first (head .held) (now («lower_ends» .entry)) (rows (head .dimensions) (head .directions) (now (columns .entry)) (now («upper_ends» .entry)) (now (quote .entry)))) shift false) + length (joining (held first (head .held) (now («lower_ends» .entry)) (rows (head .dimensions) (head .directions) (now (columns .entry)) (now («upper_ends» .entry)) (now (quote .entry)))) shift lower) ⌝ }
 {
+    let count = head.held as usize;
     let mut n: usize = 0;
     let mut i = 0;
     while i < count {
-        let position = positions[i];
-        let lower_end = lower_ends[i];
-        let was = is_listed(shift.before, lower_end, position);
-        let is = stays_listed(keep[i], shift.gone, shift.after, lower_end, position);
-        n += (was ^ is) as usize;
+        n += changes_at(
+            head,
+            columns,
+            lower_ends,
+            upper_ends,
+            quote,
+            first,
+            i,
+            shift,
+        ) as usize;
         i += 1;
     }
     n + (lower < shift.after) as usize
 }
 
-// Writes a join of the watch of n for each row that joins its list at a quote: its lower end is the window's old start, and a row that
-// stands at that start, if there is one, stands at place; named says that each lower end is 0 or names a row. Returns how many bytes.
+// Whether rows may join the list at a quote: the window moves past the row at its old start, which stands at this place, and, where lower
+// ends of live rows name live rows, that row is live.
+fn may_gain(upper_ends: &[u32], place: usize, shift: Shift, sound: bool) -> bool
+    requires { ⌜ (shift .before < shift .after → place < length (now «upper_ends»)) ⌝ }
+    ensures { λ r. ⌜ r ≡ mayGain place (now («upper_ends» .entry)) shift sound ⌝ }
+{
+    if shift.after <= shift.before {
+        return false;
+    }
+    !sound | (upper_ends[place] == 0)
+}
+
+// Writes a join of the watch of n for each row that joins its list at a quote: its lower end is the window's old start, whose row stands
+// at this place; sound says that lower ends of live rows name live rows. Returns how many bytes.
 fn write_row_joins(
     n: u16,
-    keep: &[bool],
-    positions: &[u32],
+    head: Head,
+    columns: &[u32],
     lower_ends: &[u32],
-    count: usize,
+    upper_ends: &[u32],
+    quote: &[u32],
+    first: u32,
     place: usize,
     shift: Shift,
-    named: bool,
+    sound: bool,
     out: &mut [u8],
 ) -> usize
-    requires { ⌜ count ≤ length (now keep) ⌝ }
-    requires { ⌜ count ≤ length (now positions) ⌝ }
-    requires { ⌜ count ≤ length (now «lower_ends») ⌝ }
-    requires { ⌜ Rises (now positions) count ⌝ }
-    requires { ⌜ (named ≡ true → Named (now positions) (now «lower_ends») count) ⌝ }
-    requires { ⌜ Steps shift ⌝ }
-    requires { ⌜ place ≡ placeOf (now positions) (shift .before) count ⌝ }
-    requires { ⌜ length (frames (map (join n) (moving (flagged (now keep) (now positions) (now «lower_ends») count) shift true))) ≤ length (now out) ⌝ }
-    ensures { λ r. ⌜ r ≡ length (frames (map (join n) (moving (flagged (now (keep .entry)) (now (positions .entry)) (now («lower_ends» .entry)) count) shift true))) ⌝ }
-    ensures { λ r. ⌜ now (out .exit) ≡ laid (frames (map (join n) (moving (flagged (now (keep .entry)) (now (positions .entry)) (now («lower_ends» .entry)) count) shift true))) (now (out .entry)) ⌝ }
+    requires { ⌜ Ready (held first (head .held) (now «lower_ends») (rows (head .dimensions) (head .directions) (now columns) (now «upper_ends») (now quote))) shift ⌝ }
+    requires { ⌜ place ≡ shift .before - first ⌝ }
+    requires { ⌜ (sound ≡ true → LiveNamed (held first (head .held) (now «lower_ends») (rows (head .dimensions) (head .directions) (now columns) (now «upper_ends») (now quote)))) ⌝ }
+    requires { ⌜ length (frames (map (join n) (moving (held first (head .held) (now «lower_ends») (rows (head .dimensions) (head .directions) (now columns) (now «upper_ends») (now quote))) shift true))) ≤ length (now out) ⌝ }
+    ensures { λ r. ⌜ r ≡ length (frames (map (join n) (moving (held first (head .held) (now («lower_ends» .entry)) (rows (head .dimensions) (head .directions) (now (columns .entry)) (now («upper_ends» .entry)) (now (quote .entry)))) shift true))) ⌝ }
+    ensures { λ r. ⌜ now (out .exit) ≡ laid (frames (map (join n) (moving (held first (head .held) (now («lower_ends» .entry)) (rows (head .dimensions) (head .directions) (now (columns .entry)) (now («upper_ends» .entry)) (now (quote .entry)))) shift true))) (now (out .entry)) ⌝ }
 {
+    if !may_gain(upper_ends, place, shift, sound) {
+        return 0;
+    }
+    let count = head.held as usize;
+    let d = head.dimensions as usize;
     let mut at: usize = 0;
-    let mut i = first_lower_end(lower_ends, count, place, shift.before, named);
+    let mut i = next_equal(lower_ends, place + 1, count, shift.before);
     while i < count {
-        let position = positions[i];
-        let lower_end = lower_ends[i];
-        let was = is_listed(shift.before, lower_end, position);
-        let is = stays_listed(keep[i], shift.gone, shift.after, lower_end, position);
+        let position = first + (i as u32);
+        let joins = stands(head.directions, d, columns, upper_ends, quote, i);
         i = next_equal(lower_ends, i + 1, count, shift.before);
-        if is & !was {
+        if joins {
             lay_change(JOIN, n, position, &mut out[at..]);
             at += 7;
         }
@@ -105,59 +153,48 @@ fn write_row_joins(
     at
 }
 
-// Writes the changes of the watch of n at a quote: the leaves, then the joins; removed has the places of the rows that do not stay, and
-// named says that each lower end is 0 or names a row. Returns how many bytes.
+// Writes the changes of the watch of n at a quote that retires the rows at these places and whose row has this lower end: the leaves, then
+// the joins; sound says that lower ends of live rows name live rows. Returns how many bytes.
 pub fn write_changes(
     n: u16,
-    keep: &[bool],
-    removed: &[u16],
-    positions: &[u32],
+    head: Head,
+    retired: &[u16],
+    columns: &[u32],
     lower_ends: &[u32],
-    count: usize,
+    upper_ends: &[u32],
+    quote: &[u32],
+    first: u32,
     shift: Shift,
-    newest: u32,
     lower: u32,
-    named: bool,
+    sound: bool,
     out: &mut [u8],
 ) -> usize
-    requires { ⌜ count ≤ length (now keep) ⌝ }
-    requires { ⌜ count ≤ length (now positions) ⌝ }
-    requires { ⌜ count ≤ length (now «lower_ends») ⌝ }
-    requires { ⌜ now removed ≡ removedPlaces (now keep) count ⌝ }
-    requires { ⌜ Rises (now positions) count ⌝ }
-    requires { ⌜ (named ≡ true → Named (now positions) (now «lower_ends») count) ⌝ }
-    requires { ⌜ Steps shift ⌝ }
-    requires { ⌜ length (frames (changed (flagged (now keep) (now positions) (now «lower_ends») count) shift newest lower n)) ≤ length (now out) ⌝ }
-    ensures { λ r. ⌜ r ≡ length (frames (changed (flagged (now (keep .entry)) (now (positions .entry)) (now («lower_ends» .entry)) count) shift newest lower n)) ⌝ }
-    ensures { λ r. ⌜ now (out .exit) ≡ laid (frames (changed (flagged (now (keep .entry)) (now (positions .entry)) (now («lower_ends» .entry)) count) shift newest lower n)) (now (out .entry)) ⌝ }
+    requires { ⌜ Ready (held first (head .held) (now «lower_ends») (rows (head .dimensions) (head .directions) (now columns) (now «upper_ends») (now quote))) shift ⌝ }
+    requires { ⌜ Retired (held first (head .held) (now «lower_ends») (rows (head .dimensions) (head .directions) (now columns) (now «upper_ends») (now quote))) shift (now retired) ⌝ }
+    requires { ⌜ (sound ≡ true → LiveNamed (held first (head .held) (now «lower_ends») (rows (head .dimensions) (head .directions) (now columns) (now «upper_ends») (now quote)))) ⌝ }
+    requires { ⌜ length (frames (changed (held first (head .held) (now «lower_ends») (rows (head .dimensions) (head .directions) (now columns) (now «upper_ends») (now quote))) shift lower n)) ≤ length (now out) ⌝ }
+    ensures { λ r. ⌜ r ≡ length (frames (changed (held first (head .held) (now («lower_ends» .entry)) (rows (head .dimensions) (head .directions) (now (columns .entry)) (now («upper_ends» .entry)) (now (quote .entry)))) shift lower n)) ⌝ }
+    ensures { λ r. ⌜ now (out .exit) ≡ laid (frames (changed (held first (head .held) (now («lower_ends» .entry)) (rows (head .dimensions) (head .directions) (now (columns .entry)) (now («upper_ends» .entry)) (now (quote .entry)))) shift lower n)) (now (out .entry)) ⌝ }
 {
-    let place = place_of(positions, count, shift.before);
-    let leaves = write_leaves(
-        n,
-        keep,
-        removed,
-        positions,
-        lower_ends,
-        count,
-        place,
-        shift,
-        out,
-    );
+    let place = (shift.before - first) as usize;
+    let leaves = write_leaves(n, retired, lower_ends, upper_ends, first, place, shift, out);
     let joins = write_row_joins(
         n,
-        keep,
-        positions,
+        head,
+        columns,
         lower_ends,
-        count,
+        upper_ends,
+        quote,
+        first,
         place,
         shift,
-        named,
+        sound,
         &mut out[leaves..],
     );
     let at = leaves + joins;
     if shift.after <= lower {
         return at;
     }
-    lay_change(JOIN, n, newest, &mut out[at..]);
+    lay_change(JOIN, n, first + head.held, &mut out[at..]);
     at + 7
 }

@@ -3,7 +3,6 @@ use mathlib.Core.Path.{_≡_, refl, sym, ap, _∙_}
 use Prim.Native.Nat.{ℕ, _-_, _<_, _≤_}
 use mathlib.Core.List.{List}
 use lib.ListN.{length, getD, take, drop}
-use native.Mathlib.Omega.{arith}
 use Rattle.frames.specs.declared.Message.{Message}
 use Rattle.frames.specs.declared.Place.{Place}
 use Rattle.frames.specs.declared.Read.{Read}

@@ -8,9 +8,9 @@ use borrow.Author.Tests.{lt-ltb, le-ltb, eq-eqb, ne-eqb}
 use Rattle.head.specs.declared.Refusal.the-variants.{UnknownKind, CutFrame}
 use Rattle.octets.specs.Bytes.{number2, number4}
 use Rattle.frames.specs.declared.Shape.{Shape}
-use Rattle.frames.specs.declared.Shape.the-variants.{Columns, Size, SizePosition, Settings, Unknown}
+use Rattle.frames.specs.declared.Shape.the-variants.{Columns, Size, SizePosition, SizePair, Settings, Unknown}
 use Rattle.frames.specs.declared.Message.{Message}
-use Rattle.frames.specs.declared.Message.the-variants.{Quote, Sized, Change, Open, End, Refused}
+use Rattle.frames.specs.declared.Message.the-variants.{Quote, Sized, Change, Pair, Open, End, Refused}
 use Rattle.frames.specs.Kinds.{shapeOf, codeOf, bodyLength}
 use Rattle.frames.specs.Frames.{messageBy, messageAt, columnsAt, told, saying, reading, stays, readAt}
 use Rattle.frames.proofs.Shapes.{Known, quote-shape}
@@ -59,10 +59,11 @@ pub message-told : (tape : List ℕ) (body kind : ℕ) → Known kind → saying
 unfolding messageAt messageBy saying
 message-told tape body kind known = go (shapeOf kind) known
   where
-    go : (shape : Shape) → codeOf shape < 4 → saying (messageBy shape tape body kind) ≡ told (messageBy shape tape body kind)
+    go : (shape : Shape) → codeOf shape < 5 → saying (messageBy shape tape body kind) ≡ told (messageBy shape tape body kind)
     go Columns l = refl
     go Size l = refl
     go SizePosition l = refl
+    go SizePair l = refl
     go Settings l = refl
     go Unknown l = absurd (omega arith)
 
@@ -84,6 +85,10 @@ module _ (tape : List ℕ) (body kind : ℕ) where
   pub change-message : shapeOf kind ≡ SizePosition → {n p : ℕ} → n ≡ number2 tape body → p ≡ number4 tape (body + 2) → Change kind n p ≡ messageAt tape body kind
   unfolding messageAt messageBy
   change-message e a b = rw (e, a, b)
+
+  pub pair-message : shapeOf kind ≡ SizePair → {n1 n2 : ℕ} → n1 ≡ number2 tape body → n2 ≡ number2 tape (body + 2) → Pair kind n1 n2 ≡ messageAt tape body kind
+  unfolding messageAt messageBy
+  pair-message e a b = rw (e, a, b)
 
   pub open-message : shapeOf kind ≡ Settings → {N : ℕ} → N ≡ number2 tape (body + 1) → Open (getD tape body 0) N (getD tape (body + 3) 0) ≡ messageAt tape body kind
   unfolding messageAt messageBy

@@ -17,9 +17,9 @@ use Rattle.octets.specs.Bytes.{bytes2, bytes4, number2, number4}
 use Rattle.octets.proofs.Numbers.{two-bytes, four-bytes, bytes2-again, bytes4-again}
 use Rattle.octets.proofs.Cells.{length-cells, cell-again, cells-again}
 use Rattle.frames.specs.declared.Shape.{Shape}
-use Rattle.frames.specs.declared.Shape.the-variants.{Columns, Size, SizePosition, Settings, Unknown}
+use Rattle.frames.specs.declared.Shape.the-variants.{Columns, Size, SizePosition, SizePair, Settings, Unknown}
 use Rattle.frames.specs.declared.Message.{Message}
-use Rattle.frames.specs.declared.Message.the-variants.{Quote, Sized, Change, Open, End, Refused}
+use Rattle.frames.specs.declared.Message.the-variants.{Quote, Sized, Change, Pair, Open, End, Refused}
 use Rattle.frames.specs.Kinds.{leaveKind, joinKind, openKind, kinds, shapeIn, shapeOf, codeOf, hasShape, lengthOf, bodyLength}
 use Rattle.frames.specs.Frames.{framed, frame, messageBy, messageAt, columnsAt, Saying, told, ended, refused, Reading, stays, readAt}
 use Rattle.frames.specs.Messages.{columnCount, columnsOf, Typed, Writable, Exact}
@@ -67,7 +67,7 @@ read-body before after body kind known size message columns =
 
 -- a kind that has a shape is known, its message is by that shape, and a kind other than a quote's has no columns
 module _ (shape : Shape) (kind : ℕ) (f : hasShape shape kind ≡ true) where
-  shape-known : codeOf shape < 4 → Known kind
+  shape-known : codeOf shape < 5 → Known kind
   shape-known l = rw (shape-told shape kind f) l
 
   message-by : (tape : List ℕ) (body : ℕ) → messageAt tape body kind ≡ messageBy shape tape body kind
@@ -120,6 +120,12 @@ read-after-write before after (Change k n p) cs w =
     read-body before after body k (shape-known SizePosition k shape (omega arith)) (body-by SizePosition k (shape-told SizePosition k shape))
     (message-by SizePosition k shape (body ++ after) 0 ∙ ap₂ (Change k) (two-bytes n (w .typed .1)) (four-bytes p (w .typed .2)))
     (no-columns-by SizePosition k shape (body ++ after) 0 (omega arith))
+read-after-write before after (Pair k n1 n2) cs w =
+    let shape = w .has-frame in
+    let body : List ℕ = bytes2 n1 ++ bytes2 n2 in
+    read-body before after body k (shape-known SizePair k shape (omega arith)) (body-by SizePair k (shape-told SizePair k shape))
+    (message-by SizePair k shape (body ++ after) 0 ∙ ap₂ (Pair k) (two-bytes n1 (w .typed .1)) (two-bytes n2 (w .typed .2)))
+    (no-columns-by SizePair k shape (body ++ after) 0 (omega arith))
 read-after-write before after (Open d N directions) cs w =
     let body : List ℕ = d ∷ (bytes2 N ++ (directions ∷ [])) in
     read-body before after body openKind (shape-known Settings openKind open-shape (omega arith)) (body-by Settings openKind (shape-told Settings openKind open-shape))
@@ -179,10 +185,11 @@ pub kind-framed : (tape : List ℕ) (body kind : ℕ) → Known kind → framed 
 unfolding messageAt messageBy framed
 kind-framed tape body kind known = go (shapeOf kind) refl known
   where
-    go : (shape : Shape) → shapeOf kind ≡ shape → codeOf shape < 4 → framed (messageBy shape tape body kind) ≡ true
+    go : (shape : Shape) → shapeOf kind ≡ shape → codeOf shape < 5 → framed (messageBy shape tape body kind) ≡ true
     go Columns e l = shape-tells Columns kind e
     go Size e l = shape-tells Size kind e
     go SizePosition e l = shape-tells SizePosition kind e
+    go SizePair e l = shape-tells SizePair kind e
     go Settings e l = refl
     go Unknown e l = absurd (omega arith)
 
@@ -195,6 +202,10 @@ module _ (l : List ℕ) (bytes : (i : ℕ) → getD l i 0 < 256) where
   six-again : 6 ≤ length l → bytes2 (number2 l 0) ++ bytes4 (number4 l 2) ≡ take 6 l
   unfolding run
   six-again h = ap₂ {C = List ℕ} (λ (x y : List ℕ). x ++ y) (bytes2-again l 0 bytes) (bytes4-again l 2 bytes) ∙ cells-part 0 l 0 6 h
+
+  pair-again : 4 ≤ length l → bytes2 (number2 l 0) ++ bytes2 (number2 l 2) ≡ take 4 l
+  unfolding run
+  pair-again h = ap₂ {C = List ℕ} (λ (x y : List ℕ). x ++ y) (bytes2-again l 0 bytes) (bytes2-again l 2 bytes) ∙ cells-part 0 l 0 4 h
 
   open-again : 4 ≤ length l → getD l 0 0 ∷ (bytes2 (number2 l 1) ++ (getD l 3 0 ∷ [])) ≡ take 4 l
   unfolding run
@@ -209,11 +220,12 @@ module _ (l : List ℕ) (bytes : (i : ℕ) → getD l i 0 < 256) where
   unfolding frame messageAt messageBy bodyLength lengthOf
   body-again kind known h = go (shapeOf kind) refl known h
     where
-      go : (shape : Shape) → shapeOf kind ≡ shape → codeOf shape < 4 → lengthOf shape kind ≤ length l
+      go : (shape : Shape) → shapeOf kind ≡ shape → codeOf shape < 5 → lengthOf shape kind ≤ length l
           → frame (messageBy shape l 0 kind) (columnsAt l 0 kind) ≡ kind ∷ take (lengthOf shape kind) l
       go Columns e c h = let r = quote-kinds kind e in ap (λ (r : List ℕ). kind ∷ r) (quote-written kind (r .0) (r .1) h)
       go Size e c h = ap (λ (r : List ℕ). kind ∷ r) (two-again h)
       go SizePosition e c h = ap (λ (r : List ℕ). kind ∷ r) (six-again h)
+      go SizePair e c h = ap (λ (r : List ℕ). kind ∷ r) (pair-again h)
       go Settings e c h = rw (open-kind kind e) (ap (λ (r : List ℕ). openKind ∷ r) (open-again h))
       go Unknown e c h = absurd (omega arith)
 

@@ -15,9 +15,9 @@ use Rattle.head.specs.Refusals.{firstOf, granted}
 use Rattle.octets.specs.Bytes.{bytes2, bytes4}
 use Rattle.octets.proofs.Cells.{length-cells}
 use Rattle.frames.specs.declared.Shape.{Shape}
-use Rattle.frames.specs.declared.Shape.the-variants.{Columns, Size, SizePosition}
+use Rattle.frames.specs.declared.Shape.the-variants.{Columns, Size, SizePosition, SizePair}
 use Rattle.frames.specs.declared.Message.{Message}
-use Rattle.frames.specs.declared.Message.the-variants.{Quote, Sized, Change, Open, End, Refused as NotRead}
+use Rattle.frames.specs.declared.Message.the-variants.{Quote, Sized, Change, Pair, Open, End, Refused as NotRead}
 use Rattle.frames.specs.Kinds.{kinds, shapeIn, shapeOf, hasShape, lengthOf, bodyLength}
 use Rattle.frames.specs.Frames.{framed, frame}
 use Rattle.frames.specs.Writing.{kindOf, frameLength, writeAnswer, Wrote}
@@ -30,6 +30,7 @@ unfolding framed
 column-range (Quote k) f = quote-kinds k (shape-told Columns k f) .1
 column-range (Sized k n) f = zero-le
 column-range (Change k n p) f = zero-le
+column-range (Pair k n1 n2) f = zero-le
 column-range (Open d N directions) f = zero-le
 column-range End f = zero-le
 column-range (NotRead r) f = zero-le
@@ -46,6 +47,7 @@ unfolding framed frame bytes2 bytes4 lengthOf bodyLength shapeOf shapeIn kinds
 frame-size (Quote k) cs f e = ap suc (length-cells (take k cs) ∙ ap (λ (n : ℕ). 4 * n) (length-take-le k cs e) ∙ sized Columns k f)
 frame-size (Sized k n) cs f e = ap suc (sized Size k f)
 frame-size (Change k n p) cs f e = ap suc (sized SizePosition k f)
+frame-size (Pair k n1 n2) cs f e = ap suc (sized SizePair k f)
 frame-size (Open d N directions) cs f e = refl
 frame-size End cs f e = absurd (clash false f refl)
 frame-size (NotRead r) cs f e = absurd (clash false f refl)
@@ -92,6 +94,12 @@ module _ (m : Message) (room : ℕ) (f : framed m ≡ true) (h : frameLength m �
   change-fits k n p e =
       let size : suc (bodyLength k) ≤ room = rw e at body-fits in
       omega (arith, sized SizePosition k (rw e at f))
+
+  pub pair-fits : (k n1 n2 : ℕ) → m ≡ Pair k n1 n2 → 5 ≤ room
+  unfolding framed lengthOf
+  pair-fits k n1 n2 e =
+      let size : suc (bodyLength k) ≤ room = rw e at body-fits in
+      omega (arith, sized SizePair k (rw e at f))
 
   pub open-fits : (d N directions : ℕ) → m ≡ Open d N directions → 5 ≤ room
   unfolding bodyLength lengthOf shapeOf shapeIn kinds

@@ -9,9 +9,9 @@ use Rattle.head.specs.declared.Refusal.the-variants.{UnknownKind, CutFrame}
 use Rattle.head.specs.Refusals.{number}
 use Rattle.octets.specs.Bytes.{bytes2, bytes4, number2, number4}
 use Rattle.frames.specs.declared.Shape.{Shape}
-use Rattle.frames.specs.declared.Shape.the-variants.{Columns, Size, SizePosition, Settings, Unknown}
+use Rattle.frames.specs.declared.Shape.the-variants.{Columns, Size, SizePosition, SizePair, Settings, Unknown}
 use Rattle.frames.specs.declared.Message.{Message}
-use Rattle.frames.specs.declared.Message.the-variants.{Quote, Sized, Change, Open, End, Refused}
+use Rattle.frames.specs.declared.Message.the-variants.{Quote, Sized, Change, Pair, Open, End, Refused}
 use Rattle.frames.specs.declared.Read.{Read}
 use Rattle.frames.specs.Kinds.{within, openKind, shapeOf, hasShape, bodyLength}
 
@@ -20,6 +20,7 @@ unfoldable pub framed : Message → Bool
 framed (Quote k) = hasShape Columns k
 framed (Sized k n) = hasShape Size k
 framed (Change k n p) = hasShape SizePosition k
+framed (Pair k n1 n2) = hasShape SizePair k
 framed (Open d N directions) = true
 framed End = false
 framed (Refused k) = false
@@ -29,6 +30,7 @@ unfoldable pub frame : Message → List ℕ → List ℕ
 frame (Quote k) columns = k ∷ flat (map bytes4 (take k columns))
 frame (Sized k n) columns = k ∷ bytes2 n
 frame (Change k n p) columns = k ∷ (bytes2 n ++ bytes4 p)
+frame (Pair k n1 n2) columns = k ∷ (bytes2 n1 ++ bytes2 n2)
 frame (Open d N directions) columns = openKind ∷ d ∷ (bytes2 N ++ (directions ∷ []))
 frame End columns = []
 frame (Refused k) columns = []
@@ -38,6 +40,7 @@ unfoldable pub messageBy : Shape → List ℕ → ℕ → ℕ → Message
 messageBy Columns tape body kind = Quote kind
 messageBy Size tape body kind = Sized kind (number2 tape body)
 messageBy SizePosition tape body kind = Change kind (number2 tape body) (number4 tape (body + 2))
+messageBy SizePair tape body kind = Pair kind (number2 tape body) (number2 tape (body + 2))
 messageBy Settings tape body kind = Open (getD tape body 0) (number2 tape (body + 1)) (getD tape (body + 3) 0)
 messageBy Unknown tape body kind = Refused UnknownKind
 
@@ -60,6 +63,7 @@ unfoldable pub saying : Message → Saying
 saying (Quote k) = told (Quote k)
 saying (Sized k n) = told (Sized k n)
 saying (Change k n p) = told (Change k n p)
+saying (Pair k n1 n2) = told (Pair k n1 n2)
 saying (Open d N directions) = told (Open d N directions)
 saying End = ended
 saying (Refused k) = refused (number k)

@@ -4,7 +4,7 @@ use mathlib.Core.Bool.{Bool, _&&_, cond}
 use mathlib.Core.List.{List, [], _∷_}
 use lib.Dec.{leb, eqb}
 use Rattle.frames.specs.declared.Shape.{Shape}
-use Rattle.frames.specs.declared.Shape.the-variants.{Columns, Size, SizePosition, Settings, Unknown}
+use Rattle.frames.specs.declared.Shape.the-variants.{Columns, Size, SizePosition, SizePair, Settings, Unknown}
 
 -- a number from a to b
 abbrev pub within : ℕ → ℕ → ℕ → Bool
@@ -21,6 +21,10 @@ watchKind = 17
 -- the watch of n is ended
 abbrev pub unwatchKind : ℕ
 unwatchKind = 18
+
+-- a look at the past list of n1 and n2
+abbrev pub pastKind : ℕ
+pastKind = 23
 
 -- a position leaves the list of n
 abbrev pub leaveKind : ℕ
@@ -40,6 +44,7 @@ kinds =
     (lookKind, Size)
     ∷ (watchKind, Size)
     ∷ (unwatchKind, Size)
+    ∷ (pastKind, SizePair)
     ∷ (leaveKind, SizePosition)
     ∷ (joinKind, SizePosition)
     ∷ (openKind, Settings)
@@ -59,8 +64,9 @@ abbrev pub codeOf : Shape → ℕ
 codeOf Columns = 0
 codeOf Size = 1
 codeOf SizePosition = 2
-codeOf Settings = 3
-codeOf Unknown = 4
+codeOf SizePair = 3
+codeOf Settings = 4
+codeOf Unknown = 5
 
 -- a kind has this shape
 unfoldable pub hasShape : Shape → ℕ → Bool
@@ -71,6 +77,7 @@ unfoldable pub lengthOf : Shape → ℕ → ℕ
 lengthOf Columns kind = 4 * kind
 lengthOf Size kind = 2
 lengthOf SizePosition kind = 6
+lengthOf SizePair kind = 4
 lengthOf Settings kind = 4
 lengthOf Unknown kind = 255
 

@@ -9,6 +9,8 @@ pub const WATCH: u8 = 17;
 
 pub const UNWATCH: u8 = 18;
 
+pub const PAST: u8 = 23;
+
 pub const LEAVE: u8 = 32;
 
 pub const JOIN: u8 = 33;
@@ -22,6 +24,7 @@ pub fn shape_of(kind: u8) -> Shape
     match kind {
         1..=6 => Shape::Columns,
         LOOK | WATCH | UNWATCH => Shape::Size,
+        PAST => Shape::SizePair,
         LEAVE | JOIN => Shape::SizePosition,
         OPEN => Shape::Settings,
         _ => Shape::Unknown,
@@ -36,8 +39,9 @@ fn code_of(shape: Shape) -> u8
         Shape::Columns => 0,
         Shape::Size => 1,
         Shape::SizePosition => 2,
-        Shape::Settings => 3,
-        Shape::Unknown => 4,
+        Shape::SizePair => 3,
+        Shape::Settings => 4,
+        Shape::Unknown => 5,
     }
 }
 

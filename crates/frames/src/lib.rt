@@ -11,6 +11,7 @@ pub use kinds::JOIN;
 pub use kinds::LEAVE;
 pub use kinds::LOOK;
 pub use kinds::OPEN;
+pub use kinds::PAST;
 pub use kinds::UNWATCH;
 pub use kinds::WATCH;
 pub use lengths::body_length;
@@ -18,11 +19,12 @@ pub use places::read_next;
 pub use reader::read_at;
 pub use writer::write;
 
-// What stands in the body of a frame: columns; n; n and a position; the settings of an opening; or the kind is unknown.
+// What stands in the body of a frame: columns; n; n and a position; n1 and n2; the settings of an opening; or the kind is unknown.
 pub enum Shape {
     Columns,
     Size,
     SizePosition,
+    SizePair,
     Settings,
     Unknown,
 }
@@ -35,6 +37,8 @@ pub enum Message {
     Sized(u8, u16),
     // A kind, n and a position.
     Change(u8, u16, u32),
+    // A kind, n1 and n2.
+    Pair(u8, u16, u16),
     // An opening: d, N and directions.
     Open(u8, u16, u8),
     End,

@@ -20,6 +20,15 @@ use octets::lay_number;
 use octets::put_four;
 use octets::put_two;
 
+// Lays the frame of a pair of numbers.
+fn lay_pair(kind: u8, n1: u16, n2: u16, out: &mut [u8])
+    requires { ⌜ 5 ≤ length (now out) ⌝ }
+    ensures { λ r. ⌜ now (out .exit) ≡ laid (frame (Message.Pair kind n1 n2) []) (now (out .entry)) ⌝ }
+{
+    lay_number(kind, n1, out);
+    put_two(n2, 3, out);
+}
+
 // Lays the frame of an opening.
 fn lay_open(dimensions: u8, capacity: u16, directions: u8, out: &mut [u8])
     requires { ⌜ 5 ≤ length (now out) ⌝ }
@@ -54,6 +63,7 @@ fn framed(message: Message) -> bool
         Message::Quote(k) => has_shape(Shape::Columns, k),
         Message::Sized(k, _) => has_shape(Shape::Size, k),
         Message::Change(k, _, _) => has_shape(Shape::SizePosition, k),
+        Message::Pair(k, _, _) => has_shape(Shape::SizePair, k),
         Message::Open(_, _, _) => true,
         Message::End => false,
         Message::Refused(_) => false,
@@ -68,6 +78,7 @@ fn kind_of(message: Message) -> u8
         Message::Quote(k) => k,
         Message::Sized(k, _) => k,
         Message::Change(k, _, _) => k,
+        Message::Pair(k, _, _) => k,
         Message::Open(_, _, _) => OPEN,
         Message::End => 0,
         Message::Refused(_) => 0,
@@ -93,6 +104,7 @@ fn lay(message: Message, columns: [u32; 6], out: &mut [u8])
         Message::Quote(k) => lay_quote(k, columns, out),
         Message::Sized(k, n) => lay_number(k, n, out),
         Message::Change(k, n, position) => lay_change(k, n, position, out),
+        Message::Pair(k, n1, n2) => lay_pair(k, n1, n2, out),
         Message::Open(d, n, directions) => lay_open(d, n, directions, out),
         Message::End => {}
         Message::Refused(_) => {}

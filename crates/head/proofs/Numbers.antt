@@ -9,7 +9,7 @@ use lib.ListN.{getD}
 use borrow.Author.Tests.{ltb-true}
 use Rattle.lists.proofs.Booleans.{and-left, and-right}
 use Rattle.head.specs.declared.Refusal.{Refusal}
-use Rattle.head.specs.declared.Refusal.the-variants.{UnknownKind, CutFrame, Settings, ColumnCount, WindowSize, TapeFull, OutOfPlace, AlreadyWatched, NoFreeRecord, NotWatched, ShortLoan, Torn, ShortOutput}
+use Rattle.head.specs.declared.Refusal.the-variants.{UnknownKind, CutFrame, Settings, ColumnCount, WindowSize, TapeFull, OutOfPlace, AlreadyWatched, NoFreeRecord, NotWatched, ShortLoan, Torn, ShortOutput, WindowOrder}
 use Rattle.head.specs.declared.Answer.{Answer}
 use Rattle.head.specs.declared.Answer.the-variants.{Accepted, Refused}
 use Rattle.head.specs.Refusals.{number, numberOf, firstOf, granted}
@@ -62,12 +62,13 @@ number-above NotWatched = omega arith
 number-above ShortLoan = omega arith
 number-above Torn = omega arith
 number-above ShortOutput = omega arith
+number-above WindowOrder = omega arith
 
 -- the answers in the order of their numbers
 abbrev answers : List Answer
 answers =
     Accepted ∷ Refused UnknownKind ∷ Refused CutFrame ∷ Refused Settings ∷ Refused ColumnCount ∷ Refused WindowSize ∷ Refused TapeFull ∷ Refused OutOfPlace
-    ∷ Refused AlreadyWatched ∷ Refused NoFreeRecord ∷ Refused NotWatched ∷ Refused ShortLoan ∷ Refused Torn ∷ Refused ShortOutput ∷ []
+    ∷ Refused AlreadyWatched ∷ Refused NoFreeRecord ∷ Refused NotWatched ∷ Refused ShortLoan ∷ Refused Torn ∷ Refused ShortOutput ∷ Refused WindowOrder ∷ []
 
 -- the answer with this number
 abbrev answerWith : ℕ → Answer
@@ -87,6 +88,7 @@ number-read NotWatched = refl
 number-read ShortLoan = refl
 number-read Torn = refl
 number-read ShortOutput = refl
+number-read WindowOrder = refl
 
 answer-read : (a : Answer) → answerWith (numberOf a) ≡ a
 answer-read Accepted = refl

@@ -10,15 +10,15 @@ lastPosition = 16777215
 
 -- the head of a book that was opened with these settings and has taken no quote
 abbrev pub freshHead : ℕ → ℕ → ℕ → Head
-freshHead d N directions = record { dimensions = d; capacity = N; directions = directions; newest = 0; rows = 0 }
+freshHead d N directions = record { dimensions = d; capacity = N; directions = directions; newest = 0; live = 0; held = 0 }
 
 -- d from 1 to 6, N from 1 to 1,024, and no bit of the directions at d or above
 unfoldable pub settingsHold : ℕ → ℕ → ℕ → Bool
 settingsHold d N directions = (leb 1 d && leb d 6) && (leb 1 N && leb N 1024) && eqb (directions / 2 ^ d) 0
 
--- the head after an accepted quote that leaves this many rows; a head at the last position stays
-unfoldable pub afterQuote : Head → ℕ → Head
-afterQuote h rows =
+-- the head after an accepted quote that leaves this many live rows and rows held; a head at the last position stays
+unfoldable pub afterQuote : Head → ℕ → ℕ → Head
+afterQuote h live held =
     cond (ltb (h .newest) lastPosition)
-    (record { dimensions = h .dimensions; capacity = h .capacity; directions = h .directions; newest = h .newest + 1; rows = rows })
+    (record { dimensions = h .dimensions; capacity = h .capacity; directions = h .directions; newest = h .newest + 1; live = live; held = held })
     h

@@ -1,9 +1,9 @@
 -- The refusals' numbers, and the answer of a call that tests its conditions in order.
 use Prim.Native.Nat.{ℕ, zero, suc}
-use mathlib.Core.Bool.{Bool, true, false, cond}
+use mathlib.Core.Bool.{Bool, cond}
 use mathlib.Core.List.{List, [], _∷_}
 use Rattle.head.specs.declared.Refusal.{Refusal}
-use Rattle.head.specs.declared.Refusal.the-variants.{UnknownKind, CutFrame, Settings, ColumnCount, WindowSize, TapeFull, OutOfPlace, AlreadyWatched, NoFreeRecord, NotWatched, ShortLoan, Torn, ShortOutput}
+use Rattle.head.specs.declared.Refusal.the-variants.{UnknownKind, CutFrame, Settings, ColumnCount, WindowSize, TapeFull, OutOfPlace, AlreadyWatched, NoFreeRecord, NotWatched, ShortLoan, Torn, ShortOutput, WindowOrder}
 use Rattle.head.specs.declared.Answer.{Answer}
 use Rattle.head.specs.declared.Answer.the-variants.{Accepted, Refused}
 
@@ -22,6 +22,7 @@ number NotWatched = 10
 number ShortLoan = 11
 number Torn = 12
 number ShortOutput = 13
+number WindowOrder = 14
 
 -- 01's number of an answer: 0 where the call is accepted
 abbrev pub numberOf : Answer → ℕ

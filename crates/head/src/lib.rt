@@ -19,6 +19,7 @@ pub enum Refusal {
     ShortLoan,
     Torn,
     ShortOutput,
+    WindowOrder,
 }
 
 impl Refusal {
@@ -40,6 +41,7 @@ impl Refusal {
             Refusal::ShortLoan => 11,
             Refusal::Torn => 12,
             Refusal::ShortOutput => 13,
+            Refusal::WindowOrder => 14,
         }
     }
 }
@@ -64,13 +66,15 @@ pub struct Reply {
     pub count: usize,
 }
 
-// The head of a book: its settings (01: d, N, directions), the newest position (01: M) and the number of rows.
+// The head of a book: its settings (01: d, N, directions), the newest position (01: M), and the numbers of live
+// rows and of all rows held.
 pub struct Head {
     pub dimensions: u32,
     pub capacity: u32,
     pub directions: u32,
     pub newest: u32,
-    pub rows: u32,
+    pub live: u32,
+    pub held: u32,
 }
 
 // One record of the watch list; n is 0 where it is empty.
@@ -94,7 +98,8 @@ impl Head {
             capacity,
             directions,
             newest: 0,
-            rows: 0,
+            live: 0,
+            held: 0,
         }
     }
 
@@ -131,9 +136,9 @@ impl Head {
         newest - size + 1
     }
 
-    // The head after an accepted quote that leaves this many rows; at the last position no quote is taken.
-    pub fn after_quote(self, rows: u32) -> Head
-        ensures { λ r. ⌜ r ≡ afterQuote self rows ⌝ }
+    // The head after an accepted quote that leaves this many live rows and rows held; at the last position no quote is taken.
+    pub fn after_quote(self, live: u32, held: u32) -> Head
+        ensures { λ r. ⌜ r ≡ afterQuote self live held ⌝ }
     {
         let newest = self.newest;
         if Head::MAX_POSITION <= newest {
@@ -144,7 +149,8 @@ impl Head {
             capacity: self.capacity,
             directions: self.directions,
             newest: newest + 1,
-            rows,
+            live,
+            held,
         }
     }
 

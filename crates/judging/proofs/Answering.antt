@@ -1,10 +1,10 @@
 -- What the calls answer by their first judgements, and what is known of a head, tables and watches that pass them.
-use mathlib.Core.Path.{_≡_, refl, sym, _∙_}
+use mathlib.Core.Path.{_≡_, refl, sym, ap, _∙_}
 use Prim.Native.Nat.{ℕ, zero, suc, _*_, _≤_}
 use mathlib.Core.Bool.{Bool, true, false, _&&_, _||_, not}
 use mathlib.Core.List.{List, [], _∷_, _++_}
 use lib.Dec.{ltb, leb}
-use lib.ListN.{length}
+use lib.ListN.{length, length-map}
 use native.Mathlib.Omega.{arith}
 use borrow.Author.Tests.{ltb-false, leb-true, not-false}
 use Rattle.lists.proofs.Booleans.{and-left, and-right, none-left, none-right}
@@ -17,9 +17,10 @@ use Rattle.head.specs.Refusals.{number, numberOf, firstOf, granted}
 use Rattle.head.specs.Heads.{settingsHold}
 use Rattle.head.proofs.Numbers.{zero-passed, firstOf-append, number-above, refused-number, granted-refused, positive}
 use Rattle.head.proofs.Settings.{Within, settings-within}
-use Rattle.model.specs.Rows.{Tables}
+use Rattle.model.specs.Rows.{Row, Tables}
 use Rattle.model.specs.Book.{shortTables, shortLoan, tornRows, tornWatches, bookRows, answerOf, watchfulAnswer, outOfRange}
-use Rattle.model.proofs.Rules.{Whole, untorn-whole}
+use Rattle.model.proofs.AuditTables.{length-read}
+use Rattle.model.proofs.Torn.{Whole, untorn-whole, window-few}
 use Rattle.judging.specs.Answers.{loanAnswer}
 
 -- ---- tests in order
@@ -85,6 +86,7 @@ pub record Long (t : Tables) (d N : ℕ) : Type 0 where
   pub columns : N * d ≤ length (t .columns)
   pub positions : N ≤ length (t .positions)
   pub lowerEnds : N ≤ length (t .lowerEnds)
+  pub upperEnds : N ≤ length (t .upperEnds)
 
 pub long-enough : (t : Tables) (d N : ℕ) → shortTables t d N ≡ false → Long t d N
 unfolding shortTables
@@ -92,11 +94,14 @@ long-enough t d N e =
     let c = ltb (length (t .columns)) (N * d) in
     let p = ltb (length (t .positions)) N in
     let l = ltb (length (t .lowerEnds)) N in
-    let two = none-left (c || p) l e in
+    let u = ltb (length (t .upperEnds)) N in
+    let three = none-left (c || p || l) u e in
+    let two = none-left (c || p) l three in
     record {
       columns = ltb-false (length (t .columns)) (N * d) (none-left c p two);
       positions = ltb-false (length (t .positions)) N (none-right c p two);
-      lowerEnds = ltb-false (length (t .lowerEnds)) N (none-right (c || p) l e);
+      lowerEnds = ltb-false (length (t .lowerEnds)) N (none-right (c || p) l three);
+      upperEnds = ltb-false (length (t .upperEnds)) N (none-right (c || p || l) u e);
     }
 
 -- a head and tables that passed 3, 11 and 12
@@ -106,6 +111,7 @@ pub record Passed (h : Head) (t : Tables) : Type 0 where
   pub long : Long t (h .dimensions) (h .capacity)
   pub untorn : tornRows h (bookRows h t) ≡ false
   pub whole : Whole h (bookRows h t)
+  pub few-held : h .held ≤ h .capacity
 
 -- the n of a call that passed 5
 pub record InRange (h : Head) (n : ℕ) : Type 0 where
@@ -128,17 +134,26 @@ module _ (h : Head) (t : Tables) where
       (settings-within (h .dimensions) (h .capacity) (h .directions) (not-false (held h t) (s .0)), long-enough t (h .dimensions) (h .capacity) (l .0))
 
   -- the rows of a book that passed stand in its cells
-  pub rows-stand : Passed h t → (h .rows ≤ length (t .positions)) × (h .rows ≤ length (t .lowerEnds))
+  pub rows-stand : Passed h t → (h .held ≤ length (t .positions)) × (h .held ≤ length (t .lowerEnds)) × (h .held ≤ length (t .upperEnds))
   rows-stand p = omega arith
+
+  -- as many rows are held as are read
+  pub rows-counted : h .held ≡ length (bookRows h t)
+  unfolding bookRows
+  rows-counted = sym (length-read (h .dimensions) (h .held) t)
 
   passed : held h t ≡ true → short h t ≡ false → torn h t ≡ false → Passed h t
   passed s l r =
+      let within = settings-within (h .dimensions) (h .capacity) (h .directions) s in
+      let whole = untorn-whole h (bookRows h t) rows-counted (within .some-capacity) r in
+      let as-many = rows-counted ∙ sym (length-map (bookRows h t) Row.position) ∙ ap length (whole .window) in
       record {
         held = s;
-        settings = settings-within (h .dimensions) (h .capacity) (h .directions) s;
+        settings = within;
         long = long-enough t (h .dimensions) (h .capacity) l;
         untorn = r;
-        whole = untorn-whole h (bookRows h t) r;
+        whole = whole;
+        few-held = omega (arith, as-many, window-few (h .capacity) (within .some-capacity) (h .newest));
       }
 
   -- an accepted call on the tables alone

@@ -15,14 +15,21 @@ use rows::torn_rows;
 use watches::torn;
 
 // Whether a table is shorter than the settings ask.
-pub fn short_tables(head: Head, columns: &[u32], positions: &[u32], lower_ends: &[u32]) -> bool
-    ensures { λ r. ⌜ r ≡ shortTables
-        (tables (now (columns .entry)) (now (positions .entry)) (now («lower_ends» .entry)))
-        (head .dimensions) (head .capacity) ⌝ }
+pub fn short_tables(
+    head: Head,
+    columns: &[u32],
+    positions: &[u32],
+    lower_ends: &[u32],
+    upper_ends: &[u32],
+) -> bool
+    ensures { λ r. ⌜ r ≡ shortTables (tables (now (columns .entry)) (now (positions .entry)) (now («lower_ends» .entry)) (now («upper_ends» .entry))) (head .dimensions) (head .capacity) ⌝ }
 {
     let n = head.capacity as usize;
     let cells = n * (head.dimensions as usize);
-    (columns.len() < cells) | (positions.len() < n) | (lower_ends.len() < n)
+    (columns.len() < cells)
+        | (positions.len() < n)
+        | (lower_ends.len() < n)
+        | (upper_ends.len() < n)
 }
 
 // Whether n is 0 or above the capacity.
@@ -50,31 +57,37 @@ pub fn with_test(answer: Answer, test: bool, refusal: Refusal) -> Answer
 
 // The answer of a call by its head's settings: 3.
 pub fn judge_settings(head: Head) -> Answer
-    ensures { λ r. ⌜ numberOf r ≡ firstOf ((
-      not (settingsHold (head .dimensions) (head .capacity)
-          (head .directions)),
-      number Settings,
-    ) ∷ []) ⌝ }
+    ensures { λ r. ⌜ numberOf r ≡ firstOf ((not (settingsHold (head .dimensions) (head .capacity) (head .directions)), number Settings) ∷ []) ⌝ }
 {
     with_test(Answer::Accepted, !head.settings_hold(), Refusal::Settings)
 }
 
 // The answer of a call that is lent the tables, before it reads them: 3, 11.
-pub fn judge_loan(head: Head, columns: &[u32], positions: &[u32], lower_ends: &[u32]) -> Answer
-    ensures { λ r. ⌜ numberOf r ≡ loanAnswer head
-        (tables (now (columns .entry)) (now (positions .entry)) (now («lower_ends» .entry))) ⌝ }
+pub fn judge_loan(
+    head: Head,
+    columns: &[u32],
+    positions: &[u32],
+    lower_ends: &[u32],
+    upper_ends: &[u32],
+) -> Answer
+    ensures { λ r. ⌜ numberOf r ≡ loanAnswer head (tables (now (columns .entry)) (now (positions .entry)) (now («lower_ends» .entry)) (now («upper_ends» .entry))) ⌝ }
 {
     let settings = judge_settings(head);
-    let short = short_tables(head, columns, positions, lower_ends);
+    let short = short_tables(head, columns, positions, lower_ends, upper_ends);
     with_test(settings, short, Refusal::ShortLoan)
 }
 
 // The answer of a call on the tables alone, before what the call adds: 3, 11, 12.
-pub fn judge(head: Head, columns: &[u32], positions: &[u32], lower_ends: &[u32]) -> Answer
-    ensures { λ r. ⌜ numberOf r ≡ answerOf head
-        (tables (now (columns .entry)) (now (positions .entry)) (now («lower_ends» .entry))) [] ⌝ }
+pub fn judge(
+    head: Head,
+    columns: &[u32],
+    positions: &[u32],
+    lower_ends: &[u32],
+    upper_ends: &[u32],
+) -> Answer
+    ensures { λ r. ⌜ numberOf r ≡ answerOf head (tables (now (columns .entry)) (now (positions .entry)) (now («lower_ends» .entry)) (now («upper_ends» .entry))) [] ⌝ }
 {
-    let answer = judge_loan(head, columns, positions, lower_ends);
+    let answer = judge_loan(head, columns, positions, lower_ends, upper_ends);
     match answer {
         Answer::Accepted => {}
         Answer::Refused(_) => {
@@ -83,7 +96,7 @@ pub fn judge(head: Head, columns: &[u32], positions: &[u32], lower_ends: &[u32])
     }
     with_test(
         answer,
-        torn_rows(head, positions, lower_ends),
+        torn_rows(head, positions, lower_ends, upper_ends),
         Refusal::Torn,
     )
 }
@@ -94,11 +107,11 @@ pub fn judge_watchful(
     columns: &[u32],
     positions: &[u32],
     lower_ends: &[u32],
+    upper_ends: &[u32],
     watches: [u32; 8],
 ) -> Answer
-    ensures { λ r. ⌜ numberOf r ≡ watchfulAnswer head
-        (tables (now (columns .entry)) (now (positions .entry)) (now («lower_ends» .entry))) watches [] ⌝ }
+    ensures { λ r. ⌜ numberOf r ≡ watchfulAnswer head (tables (now (columns .entry)) (now (positions .entry)) (now («lower_ends» .entry)) (now («upper_ends» .entry))) watches [] ⌝ }
 {
-    let answer = judge(head, columns, positions, lower_ends);
+    let answer = judge(head, columns, positions, lower_ends, upper_ends);
     with_test(answer, torn(head.capacity, watches), Refusal::Torn)
 }

@@ -64,12 +64,13 @@ pub fn open_lent(
     columns: &mut [u32],
     positions: &mut [u32],
     lower_ends: &mut [u32],
+    upper_ends: &mut [u32],
     watches: [u32; 8],
     lent: usize,
 ) -> Judgement
     ensures { λ r. ⌜ OpenJudged dimensions capacity directions
-        (tables (now (columns .entry)) (now (positions .entry)) (now («lower_ends» .entry))) (take lent watches) r
-        (tables (now (columns .exit)) (now (positions .exit)) (now («lower_ends» .exit))) ⌝ }
+        (tables (now (columns .entry)) (now (positions .entry)) (now («lower_ends» .entry)) (now («upper_ends» .entry))) (take lent watches) r
+        (tables (now (columns .exit)) (now (positions .exit)) (now («lower_ends» .exit)) (now («upper_ends» .exit))) ⌝ }
 {
     if lent < 8 {
         let settings = Head::fresh(dimensions, capacity, directions);
@@ -82,6 +83,7 @@ pub fn open_lent(
         columns,
         positions,
         lower_ends,
+        upper_ends,
         watches,
     );
     judge(made.reply)
@@ -94,19 +96,29 @@ pub fn quote_lent(
     columns: &mut [u32],
     positions: &mut [u32],
     lower_ends: &mut [u32],
+    upper_ends: &mut [u32],
     watches: [u32; 8],
     lent: usize,
     out: &mut [u8],
 ) -> Reply
     ensures { λ r. ⌜ Quoted head (now (quoted .entry))
-        (tables (now (columns .entry)) (now (positions .entry)) (now («lower_ends» .entry)))
+        (tables (now (columns .entry)) (now (positions .entry)) (now («lower_ends» .entry)) (now («upper_ends» .entry)))
         (take lent watches) (now (out .entry)) r
-        (tables (now (columns .exit)) (now (positions .exit)) (now («lower_ends» .exit))) (now (out .exit)) ⌝ }
+        (tables (now (columns .exit)) (now (positions .exit)) (now («lower_ends» .exit)) (now («upper_ends» .exit))) (now (out .exit)) ⌝ }
 {
     if lent < 8 {
         return few(head, head);
     }
-    quote(head, quoted, columns, positions, lower_ends, watches, out)
+    quote(
+        head,
+        quoted,
+        columns,
+        positions,
+        lower_ends,
+        upper_ends,
+        watches,
+        out,
+    )
 }
 
 // Sets a watch of n but for the records: writes its joins, and says whether n is to be inserted.
@@ -116,18 +128,28 @@ pub fn watch_lent(
     columns: &[u32],
     positions: &[u32],
     lower_ends: &[u32],
+    upper_ends: &[u32],
     watches: [u32; 8],
     lent: usize,
     out: &mut [u8],
 ) -> Judgement
     ensures { λ r. ⌜ WatchJudged head n
-        (tables (now (columns .entry)) (now (positions .entry)) (now («lower_ends» .entry)))
+        (tables (now (columns .entry)) (now (positions .entry)) (now («lower_ends» .entry)) (now («upper_ends» .entry)))
         (take lent watches) (now (out .entry)) r (now (out .exit)) ⌝ }
 {
     if lent < 8 {
         return judge(few(head, head));
     }
-    let made = watch(head, n, columns, positions, lower_ends, watches, out);
+    let made = watch(
+        head,
+        n,
+        columns,
+        positions,
+        lower_ends,
+        upper_ends,
+        watches,
+        out,
+    );
     judge(made.reply)
 }
 
@@ -138,15 +160,16 @@ pub fn end_lent(
     columns: &[u32],
     positions: &[u32],
     lower_ends: &[u32],
+    upper_ends: &[u32],
     watches: [u32; 8],
     lent: usize,
 ) -> Judgement
     ensures { λ r. ⌜ Judged (endReply head n
-        (tables (now (columns .entry)) (now (positions .entry)) (now («lower_ends» .entry))) (take lent watches)) r ⌝ }
+        (tables (now (columns .entry)) (now (positions .entry)) (now («lower_ends» .entry)) (now («upper_ends» .entry))) (take lent watches)) r ⌝ }
 {
     if lent < 8 {
         return judge(few(head, head));
     }
-    let made = end(head, n, columns, positions, lower_ends, watches);
+    let made = end(head, n, columns, positions, lower_ends, upper_ends, watches);
     judge(made.reply)
 }

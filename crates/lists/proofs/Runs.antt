@@ -1,4 +1,4 @@
--- Laws of runs of numbers: their parts, tests over them, and the last that passes.
+-- Laws of runs of numbers: their parts, tests over them, the first and the last that pass.
 use mathlib.Core.Path.{_≡_, refl, sym, ap, _∙_}
 use mathlib.Core.Logic.{_⊎_, inl, inr}
 use Prim.Native.Nat.{ℕ, zero, suc, _+_, _-_, _≤_, _<_}
@@ -10,7 +10,7 @@ use mathlib.Core.Bool.{Bool, true, false, _&&_, _||_, not}
 use mathlib.Core.List.{List, [], _∷_, _++_, map, List·Memᴰ, List·Memᴰ·head, List·Memᴰ·tail, List·Memᴰ·not-nil, List·Memᴰ·cases-cons, append-nil}
 use lib.ListN.{length, getD}
 use borrow.Author.Tests.{not-true, not-false}
-use Rattle.lists.specs.Lists.{keep, filter, any, lastOr, run, between}
+use Rattle.lists.specs.Lists.{keep, filter, any, headOr, lastOr, run, between}
 use Rattle.lists.proofs.Booleans.{either, clash, refute, none-left, none-right}
 use Rattle.lists.proofs.Filters.{filter-append, filter-filter}
 
@@ -59,6 +59,11 @@ pub filter-none : (f : ℕ → Bool) (a k : ℕ) → ((q : ℕ) → a ≤ q → 
 unfolding filter run
 filter-none f a zero h = refl
 filter-none f a (suc k) h = rw (h a (le-refl a) (omega arith)) (filter-none f (suc a) k (λ q u v. h q (omega arith) (omega arith)))
+
+pub filter-all : (f : ℕ → Bool) (a k : ℕ) → ((q : ℕ) → a ≤ q → q < a + k → f q ≡ true) → filter f (run a k) ≡ run a k
+unfolding filter run
+filter-all f a zero h = refl
+filter-all f a (suc k) h = rw (h a (le-refl a) (omega arith)) (ap (λ (r : List ℕ). a ∷ r) (filter-all f (suc a) k (λ q u v. h q (omega arith) (omega arith))))
 
 pub any-none : (f : ℕ → Bool) (a k : ℕ) → ((q : ℕ) → a ≤ q → q < a + k → f q ≡ false) → any f (run a k) ≡ false
 unfolding any run
@@ -129,6 +134,33 @@ last-at f z a k y l = go (last-spec f z a k)
     go : ((x ≡ z) × ((q : ℕ) → a ≤ q → q < a + k → f q ≡ false)) ⊎ Last f a k x → x ≡ y
     go (inl t) = absurd (clash (f y) (l .passes) (t .1 y (l .low) (l .high)))
     go (inr m) = cmp m (order x y)
+
+-- ---- the first of a run that passes
+
+pub record First (f : ℕ → Bool) (a k y : ℕ) : Type 0 where
+  pub low : a ≤ y
+  pub high : y < a + k
+  pub passes : f y ≡ true
+  pub before : (q : ℕ) → a ≤ q → q < y → f q ≡ false
+
+-- none passes, or the first that does is found
+pub first-spec : (f : ℕ → Bool) (z a k : ℕ) → ((headOr z (filter f (run a k)) ≡ z) × ((q : ℕ) → a ≤ q → q < a + k → f q ≡ false)) ⊎ First f a k (headOr z (filter f (run a k)))
+unfolding filter headOr run
+first-spec f z a zero = inl (refl, λ q u v. absurd (omega arith))
+first-spec f z a (suc k) = go (f a) refl (first-spec f z (suc a) k)
+  where
+    R : List ℕ
+    R = filter f (run (suc a) k)
+
+    from : f a ≡ false → (q : ℕ) → a ≤ q → (suc a ≤ q → f q ≡ false) → Dec (suc a ≤ q) → f q ≡ false
+    from e q u r (yes w) = r w
+    from e q u r (no n) = let s : q ≡ a = omega arith in rw s e
+
+    go : (b : Bool) → f a ≡ b → ((headOr z R ≡ z) × ((q : ℕ) → suc a ≤ q → q < suc a + k → f q ≡ false)) ⊎ First f (suc a) k (headOr z R)
+        → ((headOr z (keep b a R) ≡ z) × ((q : ℕ) → a ≤ q → q < a + suc k → f q ≡ false)) ⊎ First f a (suc k) (headOr z (keep b a R))
+    go true e r = inr (record { low = le-refl a; high = omega arith; passes = e; before = λ q u v. absurd (omega arith) })
+    go false e (inl t) = inl (t .0, λ q u v. from e q u (λ w. t .1 q w (omega arith)) (decLe (suc a) q))
+    go false e (inr t) = inr (record { low = omega arith; high = omega arith; passes = t .passes; before = λ q u v. from e q u (λ w. t .before q w v) (decLe (suc a) q) })
 
 pub any-true : (f : ℕ → Bool) (a k : ℕ) → any f (run a k) ≡ true → (q : ℕ) × (a ≤ q) × (q < a + k) × (f q ≡ true)
 any-true f a k e = go (last-spec f 0 a k)

@@ -21,6 +21,11 @@ module _ {A : Type 0} where
   any f [] = false
   any f (x ∷ xs) = f x || any f xs
 
+  -- the first element, or z where there is none
+  unfoldable pub headOr : A → List A → A
+  headOr z [] = z
+  headOr z (x ∷ xs) = x
+
   -- the last element, or z where there is none
   unfoldable pub lastOr : A → List A → A
   lastOr z [] = z

@@ -1,83 +1,153 @@
--- The list of n of a book, read off the cells, and a look: its answer, and what it leaves.
-use mathlib.Core.Path.{_≡_, refl, ap, _∙_}
-use Prim.Native.Nat.{ℕ, _≤_}
+-- The lists of a book that passed, read off the cells, and the looks: what they answer and leave.
+use mathlib.Core.Path.{_≡_, refl, sym, ap, ap₂, _∙_}
+use Prim.Native.Nat.{ℕ, _+_, _-_, _≤_, _<_}
 use native.Mathlib.Omega.{arith}
-use mathlib.Core.Bool.{Bool}
-use mathlib.Core.List.{List, []}
-use lib.Dec.{ltb}
-use lib.ListN.{length, length-map}
-use borrow.Author.Tests.{ltb-false}
-use Rattle.lists.specs.Lists.{filter, laid}
-use Rattle.lists.proofs.Filters.{length-filter}
-use Rattle.skyline.specs.Skyline.{windowStart, stabbed}
+use mathlib.Core.Bool.{Bool, true}
+use mathlib.Core.List.{List, [], _∷_, _++_}
+use lib.Dec.{ltb, eqb}
+use lib.ListN.{length}
+use borrow.Author.Tests.{ltb-false, eqb-false, lt-ltb, le-ltb}
+use Rattle.lists.specs.Lists.{laid}
+use Rattle.lists.proofs.Booleans.{none-left, none-right}
+use Rattle.skyline.specs.Skyline.{windowStart}
 use Rattle.head.specs.declared.Head.{Head}
+use Rattle.head.specs.declared.Reply.{Reply}
 use Rattle.head.specs.declared.Answer.{Answer}
 use Rattle.head.specs.declared.Answer.the-variants.{Accepted, Refused}
 use Rattle.head.specs.declared.Refusal.{Refusal}
-use Rattle.head.specs.Refusals.{numberOf}
-use Rattle.head.proofs.Numbers.{zero-passed, accepted-number}
-use Rattle.model.specs.Rows.{Row, Tables, rowsIn, listed}
-use Rattle.model.specs.Book.{bookRows, listOf, lookCells, lookAnswer, lookReply, lookOut}
-use Rattle.model.proofs.Replying.{refused-reply, refused-left, accepted-reply, accepted-left}
-use Rattle.rows.proofs.Reading.{length-rows}
-use Rattle.changes.specs.Picked.{bareRows}
-use Rattle.changes.proofs.Picking.{bare-listed}
-use Rattle.model.specs.Promises.{Looked}
-use Rattle.judging.proofs.Answering.{Passed, rows-stand, answer-passed}
+use Rattle.head.specs.declared.Refusal.the-variants.{ShortOutput}
+use Rattle.head.specs.Refusals.{number, numberOf, firstOf, granted}
+use Rattle.head.specs.Replies.{outcome}
+use Rattle.head.proofs.Numbers.{zero-passed, accepted-number, firstOf-append, accepted-granted, positive}
+use Rattle.model.specs.Rows.{Tables, listed}
+use Rattle.model.specs.Book.{answerOf, bookRows, listOf, pastListOf, replyOf, lookCells, lookAnswer, lookReply, lookOut, pastCells, pastAnswer, pastReply, pastOut}
+use Rattle.model.specs.Promises.{Looked, PastLooked}
+use Rattle.model.proofs.Replying.{refused-reply, refused-left}
+use Rattle.listing.specs.Picked.{listedAt, listedIn, Window}
+use Rattle.listing.proofs.Picking.{picked-few}
+use Rattle.listing.proofs.Listing.{whole-consecutive, listed-rows}
+use Rattle.judging.proofs.Answering.{Passed, InRange, in-range, rows-stand, answer-passed, stays}
+use Rattle.looking.specs.Shown.{roomAnswer, Shown, sizeAnswer, pairAnswer}
 
 module _ (h : Head) (t : Tables) where
-  -- at most 1,024 rows of a book that passed are listed
-  pub few-listed : Passed h t → (start : ℕ) {count : ℕ} → count ≡ length (listed start (bareRows (t .positions) (t .lowerEnds) (h .rows))) → count ≤ 1024
-  unfolding listed bareRows
-  few-listed p start c = omega (arith, c, length-map (filter test rs) Row.position, length-filter test rs, length-rows 0 (h .rows) bare)
-    where
-      bare : Tables
-      bare = record { columns = []; positions = t .positions; lowerEnds = t .lowerEnds }
+  -- the first position held
+  abbrev pub first : ℕ
+  first = windowStart (h .newest) (h .capacity)
 
-      rs : List Row
-      rs = rowsIn 0 (h .rows) bare
+  -- the list of the window from a to b, by the cells of the tables
+  abbrev pub cellsOf : ℕ → ℕ → List ℕ
+  cellsOf a b = listedIn a b first (t .lowerEnds) (t .upperEnds)
 
-      test : Row → Bool
-      test r = stabbed start (r .lowerEnd) (r .position)
+  module _ (p : Passed h t) where
+    filled : h .newest + 1 ≡ first + h .held
+    filled = whole-consecutive h t (p .whole) .1
+
+    -- a window of held positions lies within the cells
+    pub window-in : (a b : ℕ) → first ≤ a → a ≤ b + 1 → b ≤ h .newest → Window first a b (t .lowerEnds) (t .upperEnds)
+    unfolding windowStart
+    window-in a b u v w =
+        let stand = rows-stand h t p in
+        record { starts = omega arith; low = u; near = v; lower-room = omega (arith, filled); upper-room = omega (arith, filled) }
+
+    -- and its list is that of the rows
+    pub list-cells : (a b : ℕ) → first ≤ a → a ≤ b + 1 → b ≤ h .newest → listed a b (bookRows h t) ≡ cellsOf a b
+    unfolding bookRows
+    list-cells a b u v w =
+        listed-rows first (h .dimensions) (h .held) t (whole-consecutive h t (p .whole) .0) a b (omega arith) (omega (arith, filled))
+
+    -- at most 1,024 rows are listed
+    pub few-listed : (a b : ℕ) {count : ℕ} → b ≤ h .newest → count ≡ length (cellsOf a b) → count ≤ 1024
+    unfolding listedIn
+    few-listed a b w c = omega (arith, filled, p .few-held, p .settings, picked-few (listedAt a b first (t .lowerEnds) (t .upperEnds)) first (b + 1 - first))
+
+    -- the window of n
+    pub start-in : {n a : ℕ} → InRange h n → a ≡ windowStart (h .newest) n → (first ≤ a) × (a ≤ h .newest + 1)
+    unfolding windowStart
+    start-in r e = (omega arith, omega arith)
+
+    -- the window of n1 and n2
+    pub pair-in : {n1 n2 a b : ℕ} → 1 ≤ n1 → n1 ≤ n2 → n2 ≤ h .capacity → a ≡ windowStart (h .newest) n2 → b ≡ h .newest + 1 - n1
+        → (first ≤ a) × (a ≤ b + 1) × (b ≤ h .newest)
+    unfolding windowStart
+    pair-in u v w e f = (omega arith, omega arith, omega arith)
+
+  -- ---- answers
+
+  -- what passed the tests before is answered by those behind
+  behind : (cs more : List (Bool × ℕ)) → positive cs ≡ true → firstOf cs ≡ 0 → firstOf (cs ++ more) ≡ firstOf more
+  behind cs more f e = firstOf-append cs more f ∙ accepted-granted (firstOf cs) e (firstOf more) (firstOf cs)
+
+  -- what a look at these positions leaves, the other tests passed
+  shown-reply : {answer : ℕ} {positions cells before after : List ℕ} {r : Reply} → answer ≡ roomAnswer (length before) positions → cells ≡ positions → Shown h cells before r after
+      → (outcome r ≡ replyOf answer h h (length positions)) × (after ≡ granted answer (laid positions before) before)
+  shown-reply e f s = rw (e, ← f) (s .reply, s .out)
 
   module _ (n : ℕ) where
-    -- the list of n by the cells of the tables
-    pub list-cells : {start : ℕ} → start ≡ windowStart (h .newest) n → listed start (bareRows (t .positions) (t .lowerEnds) (h .rows)) ≡ listOf h (bookRows h t) n
-    unfolding listOf bookRows
-    list-cells e = rw e (bare-listed (windowStart (h .newest) n) (h .dimensions) (h .rows) t)
+    -- an accepted look at the list of n
+    pub size-passed : {a : Answer} → numberOf a ≡ sizeAnswer h n t → a ≡ Accepted → Passed h t × InRange h n
+    unfolding sizeAnswer
+    size-passed {a} e f =
+        let p = answer-passed h t _ (accepted-number a e f) in
+        (p .0, in-range h n (zero-passed _ _ _ (p .1) .0))
 
-    -- a list counted off the cells is too long for the output exactly if the list is
-    pub list-room : (room : ℕ) {start count : ℕ} → start ≡ windowStart (h .newest) n → count ≡ length (listed start (bareRows (t .positions) (t .lowerEnds) (h .rows)))
-        → ltb room count ≡ ltb room (length (listOf h (bookRows h t) n))
-    list-room room s c = rw (c, list-cells s)
+    module _ (out : List ℕ) {a : Answer} (e : numberOf a ≡ sizeAnswer h n t) where
+      -- what a refused look leaves
+      pub look-refused : {k : Refusal} → a ≡ Refused k → Looked h n t out (record { answer = a; head = h; count = 0 }) out
+      unfolding lookReply lookOut lookAnswer sizeAnswer answerOf
+      look-refused f =
+          let g = stays _ ((ltb (length out) (length (lookCells h n t)), number ShortOutput) ∷ []) e f refl in
+          record { reply = refused-reply g f h h (length (lookCells h n t)); out = refused-left g f out (laid (lookCells h n t) out) }
 
-    -- an accepted look: the tables passed, and the list has room
-    pub look-passed : {room : ℕ} {a : Answer} → numberOf a ≡ lookAnswer h n t room → a ≡ Accepted → Passed h t × (length (listOf h (bookRows h t) n) ≤ room)
-    unfolding lookAnswer lookCells
-    look-passed {room} {a} e f =
+      -- what an accepted look leaves
+      pub look-done : {start : ℕ} {r : Reply} {after : List ℕ} → a ≡ Accepted → start ≡ windowStart (h .newest) n → Shown h (cellsOf start (h .newest)) out r after → Looked h n t out r after
+      unfolding lookReply lookOut lookAnswer lookCells listOf sizeAnswer answerOf roomAnswer
+      look-done {start} f s v =
+          let p = size-passed e f in
+          let w = start-in (p .0) (p .1) s in
+          let cells = ap (λ (k : ℕ). listed k (h .newest) (bookRows h t)) (sym s) ∙ list-cells (p .0) start (h .newest) (w .0) (w .1) (omega arith) in
+          let q = shown-reply (behind _ _ refl (accepted-number a e f)) (sym cells) v in
+          record { reply = q .0; out = q .1 }
+
+  module _ (n1 n2 : ℕ) where
+    -- an accepted look at the past list of n1 and n2
+    pub pair-passed : {a : Answer} → numberOf a ≡ pairAnswer h n1 n2 t → a ≡ Accepted → Passed h t × (1 ≤ n1) × (n1 ≤ n2) × (n2 ≤ h .capacity)
+    unfolding pairAnswer
+    pair-passed {a} e f =
         let p = answer-passed h t _ (accepted-number a e f) in
         let s = zero-passed _ _ _ (p .1) in
         let o = zero-passed _ _ _ (s .1) in
-        (p .0, ltb-false room (length (listOf h (bookRows h t) n)) (o .0))
+        let some : (n1 ≡ 0) → ⊥ = eqb-false n1 0 (none-left (eqb n1 0) (ltb (h .capacity) n2) (s .0)) in
+        (p .0, omega (arith, some), ltb-false n2 n1 (o .0), ltb-false (h .capacity) n2 (none-right (eqb n1 0) (ltb (h .capacity) n2) (s .0)))
 
-    -- so the rows stand in the cells, and those listed fit the output
-    pub look-fits : {room start : ℕ} {a : Answer} → numberOf a ≡ lookAnswer h n t room → a ≡ Accepted → start ≡ windowStart (h .newest) n
-        → (h .rows ≤ length (t .positions)) × ((h .rows ≤ length (t .lowerEnds)) × (length (listed start (bareRows (t .positions) (t .lowerEnds) (h .rows))) ≤ room))
-    look-fits e f s =
-        let p = look-passed e f in
-        let stand = rows-stand h t (p .0) in
-        (stand .0, (stand .1, rw (list-cells s) (p .1)))
+    module _ (out : List ℕ) {a : Answer} (e : numberOf a ≡ pairAnswer h n1 n2 t) where
+      -- what a refused look at a past list leaves
+      pub past-refused : {k : Refusal} → a ≡ Refused k → PastLooked h n1 n2 t out (record { answer = a; head = h; count = 0 }) out
+      unfolding pastReply pastOut pastAnswer pairAnswer answerOf
+      past-refused f =
+          let g = stays _ ((ltb (length out) (length (pastCells h n1 n2 t)), number ShortOutput) ∷ []) e f refl in
+          record { reply = refused-reply g f h h (length (pastCells h n1 n2 t)); out = refused-left g f out (laid (pastCells h n1 n2 t) out) }
 
-    module _ (out : List ℕ) {a : Answer} (e : numberOf a ≡ lookAnswer h n t (length out)) where
-      -- what a refused look leaves
-      pub look-refused : {k : Refusal} → a ≡ Refused k → Looked h n t out (record { answer = a; head = h; count = 0 }) out
-      unfolding lookReply lookOut
-      look-refused f = record { reply = refused-reply e f h h (length (lookCells h n t)); out = refused-left e f out (laid (lookCells h n t) out) }
+      -- what an accepted one leaves
+      pub past-done : {start end : ℕ} {r : Reply} {after : List ℕ} → a ≡ Accepted → start ≡ windowStart (h .newest) n2 → end ≡ h .newest + 1 - n1 → Shown h (cellsOf start end) out r after
+          → PastLooked h n1 n2 t out r after
+      unfolding pastReply pastOut pastAnswer pastCells pastListOf pairAnswer answerOf roomAnswer
+      past-done {start} {end} f s d v =
+          let p = pair-passed e f in
+          let w = pair-in (p .0) (p .1) (p .2) (p .3) s d in
+          let cells = ap₂ (λ (k l : ℕ). listed k l (bookRows h t)) (sym s) (sym d) ∙ list-cells (p .0) start end (w .0) (w .1) (w .2) in
+          let q = shown-reply (behind _ _ refl (accepted-number a e f)) (sym cells) v in
+          record { reply = q .0; out = q .1 }
 
-      -- what an accepted look leaves
-      pub look-done : {start count : ℕ} {after : List ℕ} → a ≡ Accepted → start ≡ windowStart (h .newest) n
-          → count ≡ length (listed start (bareRows (t .positions) (t .lowerEnds) (h .rows))) → after ≡ laid (listed start (bareRows (t .positions) (t .lowerEnds) (h .rows))) out
-          → Looked h n t out (record { answer = a; head = h; count = count }) after
-      unfolding lookReply lookOut lookCells
-      look-done f s c l =
-          record { reply = accepted-reply e f h refl (c ∙ ap length (list-cells s)); out = accepted-left e f out (l ∙ ap (λ (ps : List ℕ). laid ps out) (list-cells s)) }
+-- ---- the positions of a window
+
+module _ (h : Head) (cells out : List ℕ) where
+  -- positions that do not fit
+  pub shown-none : length out < length cells → Shown h cells out (record { answer = Refused ShortOutput; head = h; count = 0 }) out
+  unfolding roomAnswer firstOf replyOf granted
+  shown-none l = let short = lt-ltb (length out) (length cells) l in record { reply = rw short; out = rw short }
+
+  -- positions written
+  pub shown-all : {count : ℕ} {after : List ℕ} → length cells ≤ length out → count ≡ length cells → after ≡ laid cells out
+      → Shown h cells out (record { answer = Accepted; head = h; count = count }) after
+  unfolding roomAnswer firstOf replyOf granted
+  shown-all l c e = let fits = le-ltb (length out) (length cells) l in record { reply = rw (fits, c); out = rw fits e }

@@ -1,13 +1,12 @@
-// The look: the list of n written into lent cells.
+// The looks: the list of n, and the past list of n1 and n2, written into lent cells.
 ghost use mathlib.Core.Path.{_≡_};
-ghost use mathlib.Core.List.{[], _∷_};
-ghost use Rattle.head.specs.declared.Refusal.the-variants.{WindowSize};
-ghost use Rattle.head.specs.Refusals.{number, numberOf};
-ghost use Rattle.model.specs.Book.{answerOf, outOfRange, lookAnswer};
-ghost use Rattle.model.specs.Promises.{tables, Looked};
-use changes::count_listed;
-use changes::start_of;
-use changes::write_listed;
+ghost use Prim.Native.Nat.{_+_, _-_, _≤_};
+ghost use Rattle.skyline.specs.Skyline.{windowStart};
+ghost use Rattle.head.specs.Heads.{lastPosition};
+ghost use Rattle.head.specs.Refusals.{numberOf};
+ghost use Rattle.model.specs.Promises.{tables, Looked, PastLooked};
+ghost use Rattle.listing.specs.Picked.{listedIn, Window};
+ghost use Rattle.looking.specs.Shown.{Shown, sizeAnswer, pairAnswer};
 use head::Answer;
 use head::Head;
 use head::Refusal;
@@ -15,41 +14,85 @@ use head::Reply;
 use judging::judge;
 use judging::out_of_range;
 use judging::with_test;
+use listing::count_listed;
+use listing::start_of;
+use listing::write_listed;
 
-// The answer of a look but for the output: 3, 11, 12, 5.
-fn judge_size(head: Head, n: u32, columns: &[u32], positions: &[u32], lower_ends: &[u32]) -> Answer
-    ensures { λ r. ⌜ numberOf r ≡ answerOf head
-        (tables (now (columns .entry)) (now (positions .entry)) (now («lower_ends» .entry)))
-        ((outOfRange head n, number WindowSize) ∷ []) ⌝ }
-{
-    with_test(
-        judge(head, columns, positions, lower_ends),
-        out_of_range(head, n),
-        Refusal::WindowSize,
-    )
-}
-
-// The answer of a look with room for this many positions.
-fn judge_look(
+// The answer of a look at the list of n but for the output: 3, 11, 12, 5.
+fn judge_size(
     head: Head,
     n: u32,
     columns: &[u32],
     positions: &[u32],
     lower_ends: &[u32],
-    room: usize,
+    upper_ends: &[u32],
 ) -> Answer
-    ensures { λ r. ⌜ numberOf r ≡ lookAnswer head n
-        (tables (now (columns .entry)) (now (positions .entry)) (now («lower_ends» .entry))) room ⌝ }
+    ensures { λ r. ⌜ numberOf r ≡ sizeAnswer head n (tables (now (columns .entry)) (now (positions .entry)) (now («lower_ends» .entry)) (now («upper_ends» .entry))) ⌝ }
 {
-    let answer = judge_size(head, n, columns, positions, lower_ends);
-    match answer {
-        Answer::Accepted => {}
-        Answer::Refused(_) => {
-            return answer;
-        }
+    with_test(
+        judge(head, columns, positions, lower_ends, upper_ends),
+        out_of_range(head, n),
+        Refusal::WindowSize,
+    )
+}
+
+// The answer of a look at the past list of n1 and n2 but for the output: 3, 11, 12, 5, 14.
+fn judge_pair(
+    head: Head,
+    n1: u32,
+    n2: u32,
+    columns: &[u32],
+    positions: &[u32],
+    lower_ends: &[u32],
+    upper_ends: &[u32],
+) -> Answer
+    ensures { λ r. ⌜ numberOf r ≡ pairAnswer head n1 n2 (tables (now (columns .entry)) (now (positions .entry)) (now («lower_ends» .entry)) (now («upper_ends» .entry))) ⌝ }
+{
+    let judged = judge(head, columns, positions, lower_ends, upper_ends);
+    let beyond = (n1 == 0) | (head.capacity < n2);
+    let sized = with_test(judged, beyond, Refusal::WindowSize);
+    with_test(sized, n2 < n1, Refusal::WindowOrder)
+}
+
+// The last position of the window that ends n - 1 positions before the newest, or 0.
+fn end_of(head: Head, n: u32) -> u32
+    requires { ⌜ head .newest ≤ lastPosition ⌝ }
+    ensures { λ r. ⌜ r ≡ head .newest + 1 - n ⌝ }
+{
+    if head.newest < n {
+        return 0;
     }
-    let count = count_listed(positions, lower_ends, head.rows as usize, start_of(head, n));
-    with_test(answer, room < count, Refusal::ShortOutput)
+    head.newest - n + 1
+}
+
+// Writes the positions of the list of the window from a to b into out, oldest first, if there is room, and hands back how many.
+fn write_list(
+    head: Head,
+    a: u32,
+    b: u32,
+    lower_ends: &[u32],
+    upper_ends: &[u32],
+    out: &mut [u32],
+) -> Reply
+    requires { ⌜ head .newest ≤ lastPosition ⌝ }
+    requires { ⌜ Window (windowStart (head .newest) (head .capacity)) a b (now «lower_ends») (now «upper_ends») ⌝ }
+    ensures { λ r. ⌜ Shown head (listedIn a b (windowStart (head .newest) (head .capacity)) (now («lower_ends» .entry)) (now («upper_ends» .entry))) (now (out .entry)) r (now (out .exit)) ⌝ }
+{
+    let first = start_of(head, head.capacity);
+    let count = count_listed(lower_ends, upper_ends, first, a, b);
+    if out.len() < count {
+        return Reply {
+            answer: Answer::Refused(Refusal::ShortOutput),
+            head,
+            count: 0,
+        };
+    }
+    let written = write_listed(lower_ends, upper_ends, first, a, b, out);
+    Reply {
+        answer: Answer::Accepted,
+        head,
+        count: written,
+    }
 }
 
 // Writes the positions of the list of n into out, oldest first, and hands back how many.
@@ -59,13 +102,12 @@ pub fn look(
     columns: &[u32],
     positions: &[u32],
     lower_ends: &[u32],
+    upper_ends: &[u32],
     out: &mut [u32],
 ) -> Reply
-    ensures { λ r. ⌜ Looked head n
-        (tables (now (columns .entry)) (now (positions .entry)) (now («lower_ends» .entry)))
-        (now (out .entry)) r (now (out .exit)) ⌝ }
+    ensures { λ r. ⌜ Looked head n (tables (now (columns .entry)) (now (positions .entry)) (now («lower_ends» .entry)) (now («upper_ends» .entry))) (now (out .entry)) r (now (out .exit)) ⌝ }
 {
-    let answer = judge_look(head, n, columns, positions, lower_ends, out.len());
+    let answer = judge_size(head, n, columns, positions, lower_ends, upper_ends);
     match answer {
         Answer::Accepted => {}
         Answer::Refused(_) => {
@@ -76,16 +118,35 @@ pub fn look(
             };
         }
     }
-    let count = write_listed(
-        positions,
-        lower_ends,
-        head.rows as usize,
-        start_of(head, n),
-        out,
-    );
-    Reply {
-        answer,
-        head,
-        count,
+    let a = start_of(head, n);
+    write_list(head, a, head.newest, lower_ends, upper_ends, out)
+}
+
+// Writes the positions of the past list of n1 and n2 into out, oldest first, and hands back how many.
+pub fn past(
+    head: Head,
+    n1: u32,
+    n2: u32,
+    columns: &[u32],
+    positions: &[u32],
+    lower_ends: &[u32],
+    upper_ends: &[u32],
+    out: &mut [u32],
+) -> Reply
+    ensures { λ r. ⌜ PastLooked head n1 n2 (tables (now (columns .entry)) (now (positions .entry)) (now («lower_ends» .entry)) (now («upper_ends» .entry))) (now (out .entry)) r (now (out .exit)) ⌝ }
+{
+    let answer = judge_pair(head, n1, n2, columns, positions, lower_ends, upper_ends);
+    match answer {
+        Answer::Accepted => {}
+        Answer::Refused(_) => {
+            return Reply {
+                answer,
+                head,
+                count: 0,
+            };
+        }
     }
+    let a = start_of(head, n2);
+    let b = end_of(head, n1);
+    write_list(head, a, b, lower_ends, upper_ends, out)
 }

@@ -1,39 +1,36 @@
 -- The audit says yes exactly if some tape leaves the book.
-use mathlib.Core.Path.{_≡_, sym, ap, _∙_, subst}
+use mathlib.Core.Path.{_≡_, refl, sym, ap, _∙_}
 use mathlib.Core.Logic.{_↔_}
 use Prim.Native.Nat.{ℕ, _-_, _≤_}
 use native.Mathlib.Omega.{arith}
-use mathlib.Core.Bool.{true}
-use mathlib.Core.List.{List, []}
-use lib.ListN.{length, getD}
+use mathlib.Core.Bool.{true, false}
+use mathlib.Core.List.{List}
+use lib.ListN.{length, length-map}
+use Rattle.lists.specs.Lists.{any}
+use Rattle.skyline.specs.Skyline.{windowStart}
 use Rattle.head.specs.declared.Head.{Head}
 use Rattle.head.specs.Replies.{yes}
 use Rattle.head.specs.Heads.{settingsHold, lastPosition}
 use Rattle.head.proofs.Settings.{settings-within}
-use Rattle.model.specs.Rows.{Row, Tables, filled}
-use Rattle.model.specs.Reference.{Reference, quoteAt, newest, headOf, rowsOf}
+use Rattle.model.specs.Rows.{Row, Tables, rowsIn, filled}
+use Rattle.model.specs.Reference.{Reference, quoteAt, newest, headOf, rowOf, rowsOf}
 use Rattle.model.specs.Book.{bookRows}
-use Rattle.model.specs.Audit.{Small, auditFinding, Tape}
+use Rattle.model.specs.Audit.{Small, wrongEnd, auditFinding, Tape}
 use Rattle.model.proofs.Tables.{rows-filled}
-use Rattle.model.proofs.Sound.{Wide, rows-wide, rows-few, rows-sound}
+use Rattle.model.proofs.Sound.{Wide, positions-are, row-held, rows-wide, rows-few, rows-whole}
 use Rattle.model.proofs.Plays.{holding, opening-plays, opening-took, opening-accepted, accepted-settings, opening-next}
 use Rattle.model.proofs.AuditTables.{length-read, read-fit, read-small, clean-filled, filled-clean}
-use Rattle.model.proofs.Rules.{Passed, untorn-whole, yes-iff-passed}
+use Rattle.model.proofs.Rules.{Passed, yes-iff-passed}
+use Rattle.model.proofs.RightEnds.{are-ends}
+use Rattle.model.proofs.Torn.{Whole, window-few, untorn-whole, whole-untorn}
 use Rattle.model.proofs.RulesToTape.{tapeOf, length-tape, tape-wide, tape-small, tape-rows}
-use Rattle.model.proofs.TapeToRules.{tape-rules}
 
--- what a reference model leaves in the tables passes
-pub left-passes : (s : Reference) (t : Tables) → 1 ≤ s .capacity → newest s ≤ lastPosition → Wide s → ((k : ℕ) → Small (getD (s .quotes) k []))
-    → filled (s .dimensions) (s .capacity) (rowsOf s) t ≡ t → Passed (headOf s) t
-unfolding headOf bookRows
-left-passes s t some room wide small left =
-    let fit = rows-wide s wide in
-    let read : bookRows (headOf s) t ≡ rowsOf s = rw left at (rows-filled (s .dimensions) (s .capacity) (rowsOf s) t (rows-few s some) fit) in
-    record {
-      untorn = rw read (rows-sound s some room);
-      rules = rw read (tape-rules s small);
-      clean = filled-clean (s .dimensions) (s .capacity) (rowsOf s) t fit left;
-    }
+-- the rows of a reference model have the ends that the audit asks
+own-ends : (s : Reference) → any (wrongEnd (s .dimensions) (s .directions) (rowsOf s)) (rowsOf s) ≡ false
+unfolding rowOf windowStart
+own-ends s =
+    are-ends (s .dimensions) (s .directions) (windowStart (newest s) (s .capacity)) (newest s) (s .quotes) (rowsOf s) (omega arith) (positions-are s)
+    (λ r m. rw (row-held s r m .4)) (λ r m. rw (row-held s r m .4) (refl, refl))
 
 module _ (h : Head) (t : Tables) (hold : settingsHold (h .dimensions) (h .capacity) (h .directions) ≡ true) where
   -- the columns of a quote
@@ -44,35 +41,64 @@ module _ (h : Head) (t : Tables) (hold : settingsHold (h .dimensions) (h .capaci
   abbrev N : ℕ
   N = h .capacity
 
+  some : 1 ≤ N
+  some = settings-within d N (h .directions) hold .some-capacity
+
+  -- the reference model with these quotes, and the head's settings
+  abbrev with : List (List ℕ) → Reference
+  with qs = holding d N (h .directions) qs
+
+  -- what it leaves in the tables passes, with its newest position and counts in the head
+  pub left-passes : (qs : List (List ℕ)) → newest (with qs) ≡ h .newest → headOf (with qs) .live ≡ h .live → headOf (with qs) .held ≡ h .held → newest (with qs) ≤ lastPosition → Wide (with qs)
+      → filled d N (rowsOf (with qs)) t ≡ t → Passed h t
+  unfolding headOf bookRows
+  left-passes qs n lives helds room wide left =
+      let s = with qs in
+      let fit = rows-wide s wide in
+      let w = rows-whole s some room in
+      let read : bookRows h t ≡ rowsOf s = ap (λ (k : ℕ). rowsIn d k t) (sym helds) ∙ rw left at (rows-filled d N (rowsOf s) t (rows-few s some) fit) in
+      let whole : Whole h (rowsOf s) = record {
+        low-newest = rw n at room;
+        window = rw n at (positions-are s);
+        lower-ends = w .lower-ends;
+        upper-ends = rw n at (w .upper-ends);
+        live-count = sym lives;
+      } in
+      record {
+        untorn = rw read (whole-untorn h (rowsOf s) (sym helds) some whole);
+        ends-right = rw read (own-ends s);
+        clean = rw helds at (filled-clean d N (rowsOf s) t fit left);
+      }
+
   -- what a tape leaves passes
   tape-passes : Tape h t → Passed h t
   unfolding quoteAt headOf
   tape-passes T =
       let qs = T .quotes in
-      let left = rw (opening-next h hold) at (T .head) in
-      let took = opening-took d N (h .directions) hold qs (ap Head.newest left ∙ sym (T .count)) in
-      let held = opening-plays d N (h .directions) hold qs (took .0) (took .1) in
-      let s = holding d N (h .directions) qs in
-      subst (λ (k : Head). Passed k t) (ap headOf (sym held) ∙ left)
-      (left-passes s t (settings-within d N (h .directions) hold .some-capacity) (took .1) (λ p u v. took .0 (p - 1) (omega arith)) (T .values)
-      (rw (opening-next h hold, held) at (T .tables)))
+      let took = opening-took d N (h .directions) hold qs (rw (opening-next h hold) at (T .newest) ∙ sym (T .count)) in
+      let plays = opening-plays d N (h .directions) hold qs (took .0) (took .1) in
+      left-passes qs (rw (opening-next h hold, plays) at (T .newest)) (rw (opening-next h hold, plays) at (T .live)) (rw (opening-next h hold, plays) at (T .held)) (took .1)
+      (λ p u v. took .0 (p - 1) (omega arith)) (rw (opening-next h hold, plays) at (T .tables))
 
   -- a book that passes is left by a tape
   passes-tape : Small (t .columns) → Passed h t → Tape h t
   unfolding headOf bookRows
   passes-tape small P =
-      let w = untorn-whole h rs (P .untorn) in
-      let rows-small = read-small d (h .rows) t small in
-      let left = tape-rows d (h .directions) N M rs (w .rises) rows-small (P .rules) in
-      let fit = read-fit d N (h .rows) t (w .few-rows) (P .clean .columns-room) in
-      let held = opening-plays d N (h .directions) hold qs (tape-wide d (h .directions) M rs fit) (rw counted (w .low-newest)) in
+      let w = untorn-whole h rs (sym rows-counted) some (P .untorn) in
+      let few : h .held ≤ N = omega (arith, rows-counted, length-map rs Row.position, ap length (w .window), window-few N some M) in
+      let rows-small = read-small d (h .held) t small in
+      let left = tape-rows d (h .directions) N M rs (w .window) (P .ends-right) in
+      let fit = read-fit d N (h .held) t few (P .clean .columns-room) in
+      let plays = opening-plays d N (h .directions) hold qs (tape-wide d M rs fit) (rw counted (w .low-newest)) in
       record {
         quotes = qs;
-        values = tape-small d (h .directions) M rs rows-small;
+        values = tape-small d M rs rows-small;
         accepted = opening-accepted h hold;
         count = counted;
-        head = rw (opening-next h hold, held, left, counted, length-read);
-        tables = rw (opening-next h hold, held, left) (clean-filled d N (h .rows) t (w .few-rows) (P .clean));
+        newest = rw (opening-next h hold, plays) counted;
+        live = rw (opening-next h hold, plays, left) (sym (w .live-count));
+        held = rw (opening-next h hold, plays, left) rows-counted;
+        tables = rw (opening-next h hold, plays, left) (clean-filled d N (h .held) t few (P .clean));
       }
     where
       rs : List Row
@@ -82,12 +108,16 @@ module _ (h : Head) (t : Tables) (hold : settingsHold (h .dimensions) (h .capaci
       M = h .newest
 
       qs : List (List ℕ)
-      qs = tapeOf d (h .directions) M rs
+      qs = tapeOf d M rs
 
       counted : length qs ≡ M
-      counted = length-tape d (h .directions) M rs
+      counted = length-tape d M rs
 
--- with cells of 32 bits, the audit says yes exactly if some tape of an accepted opening and accepted quotes leaves this head and these tables
+      rows-counted : length rs ≡ h .held
+      rows-counted = length-read d (h .held) t
+
+-- with cells of 32 bits, the audit says yes exactly if some tape of an accepted opening and accepted quotes leaves this newest position, these
+-- counts and these tables
 pub audit-iff-tape : (h : Head) (t : Tables) → Small (t .columns) → (auditFinding h t ≡ yes) ↔ Tape h t
 audit-iff-tape h t small =
     let y = yes-iff-passed h t in (

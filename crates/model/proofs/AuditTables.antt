@@ -105,10 +105,12 @@ read-small d k t small r m =
 pub record Clean (d N k : ℕ) (t : Tables) : Type 0 where
   pub columns-room : N * d ≤ length (t .columns)
   pub positions-room : N ≤ length (t .positions)
-  pub ends-room : N ≤ length (t .lowerEnds)
+  pub lower-room : N ≤ length (t .lowerEnds)
+  pub upper-room : N ≤ length (t .upperEnds)
   pub columns-zero : zeroFrom (k * d) (N * d) (t .columns) ≡ true
   pub positions-zero : zeroFrom k N (t .positions) ≡ true
-  pub ends-zero : zeroFrom k N (t .lowerEnds) ≡ true
+  pub lower-zero : zeroFrom k N (t .lowerEnds) ≡ true
+  pub upper-zero : zeroFrom k N (t .upperEnds) ≡ true
 
 -- clean tables are as if filled with the rows that are read from them
 pub clean-filled : (d N k : ℕ) (t : Tables) → k ≤ N → Clean d N k t → filled d N (rowsIn d k t) t ≡ t
@@ -118,13 +120,16 @@ clean-filled d N k t h c =
       map-map Row.columns (rowAt d t) (run 0 k),
       map-map Row.position (rowAt d t) (run 0 k),
       map-map Row.lowerEnd (rowAt d t) (run 0 k),
+      map-map Row.upperEnd (rowAt d t) (run 0 k),
       columns-read (t .columns) d 0 k,
       cells-read (t .positions) 0 k (omega arith),
       cells-read (t .lowerEnds) 0 k (omega arith),
+      cells-read (t .upperEnds) 0 k (omega arith),
       zero-mul,
       padded-same (N * d) (k * d) (t .columns) (mul-le-mul-right d h) (c .columns-room) (c .columns-zero),
       padded-same N k (t .positions) h (c .positions-room) (c .positions-zero),
-      padded-same N k (t .lowerEnds) h (c .ends-room) (c .ends-zero),
+      padded-same N k (t .lowerEnds) h (c .lower-room) (c .lower-zero),
+      padded-same N k (t .upperEnds) h (c .upper-room) (c .upper-zero),
     )
 
 -- tables that are as if filled with rows are clean behind these
@@ -133,8 +138,10 @@ unfolding filled
 filled-clean d N rs t fit e = record {
   columns-room = padded-room (N * d) (flat (map Row.columns rs)) (t .columns) (ap Tables.columns e);
   positions-room = padded-room N (map Row.position rs) (t .positions) (ap Tables.positions e);
-  ends-room = padded-room N (map Row.lowerEnd rs) (t .lowerEnds) (ap Tables.lowerEnds e);
+  lower-room = padded-room N (map Row.lowerEnd rs) (t .lowerEnds) (ap Tables.lowerEnds e);
+  upper-room = padded-room N (map Row.upperEnd rs) (t .upperEnds) (ap Tables.upperEnds e);
   columns-zero = rw (← (cells-counted d rs fit)) (padded-zero (N * d) (flat (map Row.columns rs)) (t .columns) (ap Tables.columns e));
   positions-zero = rw length-map at (padded-zero N (map Row.position rs) (t .positions) (ap Tables.positions e));
-  ends-zero = rw length-map at (padded-zero N (map Row.lowerEnd rs) (t .lowerEnds) (ap Tables.lowerEnds e));
+  lower-zero = rw length-map at (padded-zero N (map Row.lowerEnd rs) (t .lowerEnds) (ap Tables.lowerEnds e));
+  upper-zero = rw length-map at (padded-zero N (map Row.upperEnd rs) (t .upperEnds) (ap Tables.upperEnds e));
 }

@@ -1,32 +1,34 @@
--- How many changes a quote can write: at most one for each row before and one for the new row, on any tables that are not torn.
+-- How many changes a quote can write: at most one for each live row before and one for the new row, on any tables that are not torn.
 use mathlib.Core.Path.{_≡_, refl, sym, ap, _∙_}
 use mathlib.Core.Logic.{_⊎_, inl, inr}
-use Prim.Native.Nat.{ℕ, suc, _+_, _*_, _≤_}
+use Prim.Native.Nat.{ℕ, suc, _+_, _*_, _≤_, _<_}
 use native.Mathlib.Nat.{le-refl}
 use native.Mathlib.Omega.{arith}
-use mathlib.Core.Bool.{Bool, true, false, _&&_, _||_, not}
-use mathlib.Core.List.{List, [], _∷_, _++_, map}
+use mathlib.Core.Bool.{Bool, true, false, _&&_, _||_, not, cond}
+use mathlib.Core.List.{List, [], _∷_, _++_, map, List·Memᴰ, List·Memᴰ·head, List·Memᴰ·append-cases, List·Memᴰ·eq-of-singleton}
 use lib.Dec.{ltb, leb, eqb}
 use lib.ListN.{length, take, length-append, length-take, length-map}
-use borrow.Author.Tests.{le-ltb, not-false}
-use Rattle.lists.specs.Lists.{flat, run, contains, rising}
-use Rattle.lists.proofs.Booleans.{and-left, or-cases, or-left, or-right, none-left}
+use borrow.Author.Tests.{le-ltb, eqb-true, eq-eqb, not-false}
+use Rattle.lists.specs.Lists.{filter, flat, run, contains, rising}
+use Rattle.lists.proofs.Booleans.{and-left, or-left, or-right, none-left}
 use Rattle.lists.proofs.Filters.{length-filter, map-append, map-map}
-use Rattle.lists.proofs.Members.{contains-filter}
+use Rattle.lists.proofs.Members.{mem-none, into-filter, of-filter, into-map, of-map, contains-mem, mem-contains, contains-filter}
 use Rattle.lists.proofs.Runs.{length-run}
-use Rattle.lists.proofs.Rising.{rising-filter}
-use Rattle.lists.proofs.Apart.{parts-fit, rising-map-filter, rising-snoc, rising-wide, contains-map-filter, contains-append}
-use Rattle.skyline.specs.Skyline.{windowStart, stabbed}
+use Rattle.lists.proofs.Rising.{rising-between, rising-filter}
+use Rattle.lists.proofs.Apart.{parts-fit, rising-map-filter, rising-snoc, rising-wide, contains-append}
+use Rattle.skyline.specs.Skyline.{windowStart}
+use Rattle.skyline.specs.Past.{covers}
+use Rattle.skyline.proofs.Past.{of-covers}
 use Rattle.head.specs.declared.Head.{Head}
 use Rattle.head.specs.declared.Refusal.the-variants.{Settings, ColumnCount, TapeFull, ShortLoan, Torn, ShortOutput}
 use Rattle.head.specs.Refusals.{number, firstOf}
-use Rattle.head.specs.Heads.{settingsHold, lastPosition}
-use Rattle.head.proofs.Settings.{settings-within}
+use Rattle.head.specs.Heads.{settingsHold, afterQuote, lastPosition}
+use Rattle.head.proofs.Settings.{Within, settings-within}
 use Rattle.frames.specs.declared.Message.{Message}
-use Rattle.model.specs.Rows.{Row, Tables, rowAt, rowsIn, expiring, renamedRow, listed, remains, remaining, lowerEndAmong, rowsAfter}
+use Rattle.model.specs.Rows.{Row, Tables, rowAt, rowsIn, isLive, liveRows, listed, expiring, overOlder, retiredBy, rowAfter, lowerEndAmong, rowsAfter}
 use Rattle.model.specs.Changes.{leave, join, missing, changesBy, changes, allChanges, frames}
 use Rattle.model.specs.Book.{shortLoan, tornRows, tornWatches, standing, bookRows, listOf, watchfulAnswer, quoteRows, quoteHead, quoteBytes, quoteAnswer, ChangesFit}
-use Rattle.model.proofs.Rules.{Whole, untorn-whole}
+use Rattle.model.proofs.Torn.{Whole, upperAstray, upper-place, window-few, untorn-whole}
 use Rattle.model.proofs.ChangeFrames.{frames-append, changes-bytes}
 
 -- leaves and joins of two rising lists are no more than the members of a rising list that has those of both
@@ -63,62 +65,111 @@ module _ (h : Head) (x : List ℕ) (rs : List Row) (ok : Whole h rs) where
 
   -- the rows that stay, and the rows after the quote
   abbrev left : List Row
-  left = remaining (h .dimensions) (h .directions) x gone rs
+  left = filter (λ r. not (eqb (r .position) gone)) rs
 
   abbrev next : List Row
   next = rowsAfter (h .dimensions) (h .directions) (h .capacity) (h .newest) x rs
 
-  -- the positions of the rows and the new one
+  -- a row that stays, after the quote
+  abbrev after : Row → Row
+  after = rowAfter (h .dimensions) (h .directions) x (h .newest + 1) gone
+
+  -- the positions of the live rows and the new one
   abbrev all : List ℕ
-  all = map Row.position rs ++ ((h .newest + 1) ∷ [])
+  all = map Row.position (liveRows rs) ++ ((h .newest + 1) ∷ [])
+
+  -- the window covers the row
+  abbrev onList : ℕ → ℕ → Row → Bool
+  onList a b r = covers a b (r .lowerEnd) (r .position) (r .upperEnd)
+
+  risen : rising start (h .newest) (map Row.position rs) ≡ true
+  unfolding windowStart
+  risen = rw (ok .window) (rising-between start (h .newest) (omega arith))
 
   next-positions : map Row.position next ≡ map Row.position left ++ ((h .newest + 1) ∷ [])
-  unfolding rowsAfter renamedRow
+  unfolding rowsAfter rowAfter
   next-positions =
-      map-append Row.position (map (renamedRow gone) left) (row ∷ [])
-      ∙ ap (λ (l : List ℕ). l ++ ((h .newest + 1) ∷ [])) (map-map Row.position (renamedRow gone) left)
+      map-append Row.position (map after left) (row ∷ [])
+      ∙ ap (λ (l : List ℕ). l ++ ((h .newest + 1) ∷ [])) (map-map Row.position after left)
     where
       row : Row
-      row = record { position = h .newest + 1; lowerEnd = lowerEndAmong (h .dimensions) (h .directions) x left; columns = x }
-
-  left-rises : rising start (h .newest) (map Row.position left) ≡ true
-  unfolding remaining
-  left-rises = rising-map-filter Row.position (remains (h .dimensions) (h .directions) x gone) start (h .newest) rs (ok .rises)
+      row = record { position = h .newest + 1; lowerEnd = lowerEndAmong (h .dimensions) (h .directions) x left; upperEnd = 0; columns = x }
 
   -- the new position behind a part of the old ones
   behind : (l : List ℕ) → rising start (h .newest) l ≡ true → rising start (h .newest + 1) (l ++ ((h .newest + 1) ∷ [])) ≡ true
   unfolding windowStart
   behind l e = rising-snoc start (h .newest) (h .newest + 1) l (omega arith) (omega arith) e
 
-  -- an old position is one of all, and so is a position after the quote
-  old-among : (p : ℕ) → contains p (map Row.position rs) ≡ true → contains p all ≡ true
-  old-among p t = rw contains-append (or-left (contains p (map Row.position rs)) (contains p ((h .newest + 1) ∷ [])) t)
+  -- a live row's position is one of all
+  live-among : (r : Row) → List·Memᴰ r rs → r .upperEnd ≡ 0 → contains (r .position) all ≡ true
+  unfolding liveRows isLive
+  live-among r m e =
+      rw contains-append (or-left (contains (r .position) (map Row.position (liveRows rs))) (contains (r .position) ((h .newest + 1) ∷ []))
+      (mem-contains (r .position) (map Row.position (liveRows rs)) (into-map Row.position r (liveRows rs) (into-filter isLive r rs m (eq-eqb (r .upperEnd) 0 e)))))
 
-  next-among : (p : ℕ) → contains p (map Row.position next) ≡ true → contains p all ≡ true
-  unfolding remaining
-  next-among p t = pick (or-cases (contains p (map Row.position left)) (contains p newcomer) (rw (next-positions, contains-append) at t))
+  -- a row whose upper end is in its place, 0 or above the window's end, is live
+  live-above : (b : ℕ) (r : Row) → List·Memᴰ r rs → h .newest ≤ b → (r .upperEnd ≡ 0) ⊎ (b < r .upperEnd) → r .upperEnd ≡ 0
+  live-above b r m k (inl e) = e
+  live-above b r m k (inr w) = absurd (go (upper-place (h .newest) r (mem-none (upperAstray (h .newest)) r rs m (ok .upper-ends))))
     where
-      newcomer : List ℕ
-      newcomer = (h .newest + 1) ∷ []
+      go : (r .upperEnd ≡ 0) ⊎ ((r .position < r .upperEnd) × (r .upperEnd ≤ h .newest)) → ⊥
+      go (inl e) = omega arith
+      go (inr t) = let u = t .1 in omega arith
 
-      pick : (contains p (map Row.position left) ≡ true) ⊎ (contains p newcomer ≡ true) → contains p all ≡ true
-      pick (inl u) = old-among p (contains-map-filter Row.position (remains (h .dimensions) (h .directions) x gone) rs p u)
-      pick (inr u) = rw contains-append (or-right (contains p (map Row.position rs)) (contains p newcomer) u)
-
-  -- at most one change for each old row and one for the new row
-  rows-change : (n s s' : ℕ) → length (changes n (listed s rs) (listed s' next)) ≤ suc (length rs)
+  old-among : (a p : ℕ) → contains p (listed a (h .newest) rs) ≡ true → contains p all ≡ true
   unfolding listed
-  rows-change n s s' =
-      let fit = changes-among start (h .newest + 1) n (listed s rs) (listed s' next) all
-      (rising-wide start (h .newest) (h .newest + 1) (listed s rs) (omega arith) (rising-map-filter Row.position (onList s) start (h .newest) rs (ok .rises)))
-      (rising-map-filter Row.position (onList s') start (h .newest + 1) next (rw next-positions (behind (map Row.position left) left-rises)))
-      (behind (map Row.position rs) (ok .rises))
-      (λ p t. old-among p (contains-map-filter Row.position (onList s) rs p t))
-      (λ p t. next-among p (contains-map-filter Row.position (onList s') next p t)) in
-      omega (arith, length-append (map Row.position rs) ((h .newest + 1) ∷ []), length-map rs Row.position)
+  old-among a p t =
+      let m = of-map Row.position p (filter (onList a (h .newest)) rs) (contains-mem p (listed a (h .newest) rs) t) in
+      let r = m .0 in
+      let f = of-filter (onList a (h .newest)) r rs (m .1) in
+      let c = of-covers a (h .newest) (r .lowerEnd) (r .position) (r .upperEnd) (f .1) in
+      rw (m .2) (live-among r (f .0) (live-above (h .newest) r (f .0) (le-refl (h .newest)) (c .above)))
+
+  -- a row that is covered after the quote was live before it
+  stays-among : (a b : ℕ) (r : Row) → h .newest ≤ b → List·Memᴰ r left → onList a b (after r) ≡ true → contains (r .position) all ≡ true
+  unfolding rowAfter retiredBy
+  stays-among a b r k m t = live-among r old (go (eqb (r .upperEnd) 0) refl (of-covers a b _ (r .position) _ t .above))
     where
-      onList : ℕ → Row → Bool
-      onList s r = stabbed s (r .lowerEnd) (r .position)
+      old : List·Memᴰ r rs
+      old = of-filter (λ r. not (eqb (r .position) gone)) r rs m .0
+
+      over : Bool
+      over = overOlder (h .dimensions) (h .directions) x r
+
+      go : (z : Bool) → eqb (r .upperEnd) 0 ≡ z → (cond (z && over) (h .newest + 1) (r .upperEnd) ≡ 0) ⊎ (b < cond (z && over) (h .newest + 1) (r .upperEnd)) → r .upperEnd ≡ 0
+      go true e s = eqb-true (r .upperEnd) 0 e
+      go false e s = live-above b r old k s
+
+  next-among : (a b p : ℕ) → h .newest ≤ b → contains p (listed a b next) ≡ true → contains p all ≡ true
+  unfolding listed rowAfter rowsAfter
+  next-among a b p k t =
+      let m = of-map Row.position p (filter (onList a b) next) (contains-mem p (listed a b next) t) in
+      let f = of-filter (onList a b) (m .0) next (m .1) in
+      rw (m .2) (pick (m .0) (f .1) (List·Memᴰ·append-cases (map after left) (f .0)))
+    where
+      row : Row
+      row = record { position = h .newest + 1; lowerEnd = lowerEndAmong (h .dimensions) (h .directions) x left; upperEnd = 0; columns = x }
+
+      pick : (r : Row) → onList a b r ≡ true → List·Memᴰ r (map after left) ⊎ List·Memᴰ r (row ∷ []) → contains (r .position) all ≡ true
+      pick r c (inl m) = let o = of-map after r left m in old (o .0) (o .1) r (o .2) c
+        where
+          old : (q : Row) → List·Memᴰ q left → (r : Row) → r ≡ after q → onList a b r ≡ true → contains (r .position) all ≡ true
+          old q n r e c = rw e (stays-among a b q k n (rw e at c))
+      pick r c (inr m) =
+          rw (List·Memᴰ·eq-of-singleton m, contains-append) (or-right (contains (h .newest + 1) (map Row.position (liveRows rs))) (contains (h .newest + 1) ((h .newest + 1) ∷ []))
+          (mem-contains (h .newest + 1) ((h .newest + 1) ∷ []) (List·Memᴰ·head refl)))
+
+  -- at most one change for each live row and one for the new row
+  rows-change : (n a a' b' : ℕ) → h .newest ≤ b' → length (changes n (listed a (h .newest) rs) (listed a' b' next)) ≤ suc (length (liveRows rs))
+  unfolding listed liveRows
+  rows-change n a a' b' k =
+      let fit = changes-among start (h .newest + 1) n (listed a (h .newest) rs) (listed a' b' next) all
+      (rising-wide start (h .newest) (h .newest + 1) (listed a (h .newest) rs) (omega arith) (rising-map-filter Row.position (onList a (h .newest)) start (h .newest) rs risen))
+      (rising-map-filter Row.position (onList a' b') start (h .newest + 1) next (rw next-positions (behind (map Row.position left) (rising-map-filter Row.position (λ r. not (eqb (r .position) gone)) start (h .newest) rs risen))))
+      (behind (map Row.position (liveRows rs)) (rising-map-filter Row.position isLive start (h .newest) rs risen))
+      (λ p t. old-among a p t)
+      (λ p t. next-among a' b' p k t) in
+      omega (arith, length-append (map Row.position (liveRows rs)) ((h .newest + 1) ∷ []), length-map (liveRows rs) Row.position)
 
 -- where no watch has more than 1,025 changes, each has 7,175 bytes at most
 all-bytes : (watched : List ℕ) (before after : ℕ → List ℕ) → ((n : ℕ) → length (changes n (before n) (after n)) ≤ 1025)
@@ -140,14 +191,29 @@ few-standing : (ws : List ℕ) → length (standing ws) ≤ 8
 unfolding standing
 few-standing ws = omega (arith, length-filter (ltb 0) (take 8 ws), length-take 8 ws)
 
-length-rows : (h : Head) (t : Tables) → length (bookRows h t) ≡ h .rows
+length-rows : (h : Head) (t : Tables) → length (bookRows h t) ≡ h .held
 unfolding bookRows rowsIn
-length-rows h t = length-map (run 0 (h .rows)) (rowAt (h .dimensions) t) ∙ length-run 0 (h .rows)
+length-rows h t = length-map (run 0 (h .held)) (rowAt (h .dimensions) t) ∙ length-run 0 (h .held)
+
+-- a quote moves the newest position on, or leaves it
+newest-onward : (h : Head) (live held : ℕ) → h .newest ≤ afterQuote h live held .newest
+unfolding afterQuote
+newest-onward h live held = go (ltb (h .newest) lastPosition)
+  where
+    go : (b : Bool) → h .newest ≤ cond b (record { dimensions = h .dimensions; capacity = h .capacity; directions = h .directions; newest = h .newest + 1; live = live; held = held }) h .newest
+    go true = omega arith
+    go false = le-refl (h .newest)
+
+-- at most N rows are live
+live-few : (h : Head) (rs : List Row) → 1 ≤ h .capacity → Whole h rs → h .live ≤ h .capacity
+unfolding liveRows
+live-few h rs some ok =
+    omega (arith, ok .live-count, length-filter isLive rs, length-map rs Row.position, ap length (ok .window), window-few (h .capacity) some (h .newest))
 
 -- a quote on tables that are not torn writes no more
 pub changes-fit : (h : Head) (x : List ℕ) (t : Tables) (ws : List ℕ) → settingsHold (h .dimensions) (h .capacity) (h .directions) ≡ true
     → tornRows h (bookRows h t) ≡ false → ChangesFit h x t ws
-unfolding listOf quoteRows quoteBytes
+unfolding listOf quoteRows quoteHead quoteBytes
 changes-fit h x t ws holds whole =
     record { changes-each = each; changes-most = most; bytes-most = omega (arith, few-standing ws, all-bytes (standing ws) (listOf h rs) (listOf next-head next) (λ n. omega (arith, each n, most))) }
   where
@@ -160,14 +226,20 @@ changes-fit h x t ws holds whole =
     next-head : Head
     next-head = quoteHead h x t ws
 
+    within : Within (h .dimensions) (h .capacity)
+    within = settings-within (h .dimensions) (h .capacity) (h .directions) holds
+
     ok : Whole h rs
-    ok = untorn-whole h rs whole
+    ok = untorn-whole h rs (sym (length-rows h t)) (within .some-capacity) whole
 
-    each : (n : ℕ) → length (changes n (listOf h rs n) (listOf next-head next n)) ≤ h .rows + 1
-    each n = omega (arith, rows-change h x rs ok n (windowStart (h .newest) n) (windowStart (next-head .newest) n), length-rows h t)
+    onward : h .newest ≤ next-head .newest
+    onward = newest-onward h (length (liveRows next)) (length next)
 
-    most : h .rows + 1 ≤ 1025
-    most = let w = settings-within (h .dimensions) (h .capacity) (h .directions) holds in omega (arith, ok .few-rows)
+    each : (n : ℕ) → length (changes n (listOf h rs n) (listOf next-head next n)) ≤ h .live + 1
+    each n = omega (arith, rows-change h x rs ok n (windowStart (h .newest) n) (windowStart (next-head .newest) n) (next-head .newest) onward, ok .live-count)
+
+    most : h .live + 1 ≤ 1025
+    most = omega (arith, within .small-capacity, live-few h rs (within .some-capacity) ok)
 
 -- a last refusal that is never given where the first and the third are not
 never-last : (a b c d e o : Bool) → (a ≡ false → c ≡ false → o ≡ false)

@@ -23,7 +23,7 @@ use Rattle.frames.specs.declared.Message.{Message}
 use Rattle.frames.specs.Frames.{messagesFrom}
 use Rattle.model.specs.Changes.{join, allChanges, frames}
 use Rattle.model.specs.Reference.{Reference, newest, over, skylineOf, outside, withQuote, withWatched, opening, tells, referenceStep}
-use Rattle.model.specs.Calls.{Call, Open, Quote, Look, Watch, End, Outputs, Lent, Seen, lengthsOf, expectedStep}
+use Rattle.model.specs.Calls.{Call, Open, Quote, Look, Watch, End, Past, Outputs, Lent, Seen, lengthsOf, expectedStep}
 use Rattle.model.specs.Watcher.{Held, Nothing, Holding, heedsAll, reads, watcherStep, heldBy}
 use Rattle.model.proofs.Simulation.{in-range}
 use Rattle.model.proofs.Heeding.{first-heeded, other-joins, all-heeded}
@@ -116,10 +116,18 @@ module _ (n : ℕ) (s : Reference) (l : Lent) (ok : Bounded s) (o : Outputs) whe
       go zero = refl
       go (suc k) = refl
 
-  -- a look changes nothing
+  -- a look changes nothing, now or back
   looks : (m : ℕ) → Follows (Look m)
   unfolding expectedStep referenceStep tells lengthsOf watcherStep granted
   looks m = go (answered (Look m))
+    where
+      go : (a : ℕ) → heldBy n s ≡ heldBy n (granted a s s)
+      go zero = refl
+      go (suc k) = refl
+
+  looks-back : (n1 n2 : ℕ) → Follows (Past n1 n2)
+  unfolding expectedStep referenceStep tells lengthsOf watcherStep granted
+  looks-back n1 n2 = go (answered (Past n1 n2))
     where
       go : (a : ℕ) → heldBy n s ≡ heldBy n (granted a s s)
       go zero = refl
@@ -214,3 +222,4 @@ module _ (n : ℕ) (s : Reference) (l : Lent) (ok : Bounded s) (o : Outputs) whe
   follows (Look m) = looks m
   follows (Watch m) = watches m
   follows (End m) = ends m
+  follows (Past n1 n2) = looks-back n1 n2

@@ -6,12 +6,12 @@ use native.Mathlib.Omega.{arith}
 use mathlib.Core.Bool.{true, false}
 use mathlib.Core.List.{[], List·Memᴰ·not-nil}
 use borrow.Author.Tests.{not-false}
-use Rattle.lists.specs.Lists.{rising, laid, padded}
+use Rattle.lists.specs.Lists.{filter, rising, laid, padded}
 use Rattle.lists.proofs.Writing.{length-padded, padded-again}
 use Rattle.head.specs.Refusals.{granted}
 use Rattle.head.specs.Heads.{freshHead, settingsHold}
 use Rattle.head.proofs.Numbers.{zero-passed}
-use Rattle.model.specs.Rows.{filled}
+use Rattle.model.specs.Rows.{filled, liveRows}
 use Rattle.model.specs.Reference.{Reference, unopened, rowsOf, headOf, opened, opening, tooShort, tells, referenceStep}
 use Rattle.model.specs.Book.{shortTables, shortLoan, replyOf, openAnswer, openReply, openTables, openWatches}
 use Rattle.model.specs.Calls.{Open, Outputs, Lent, bookSeen, headAfter, worldAfter, bookStep, lengthsOf, shown, expectedStep}
@@ -33,7 +33,7 @@ module _ (d N directions : ℕ) (l : Lent) where
   no-rows = rows-none fresh refl
 
   head-fresh : headOf fresh ≡ freshHead d N directions
-  unfolding headOf opening
+  unfolding headOf opening liveRows filter
   head-fresh = rw no-rows
 
   nothing : Fit d []

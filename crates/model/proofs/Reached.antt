@@ -1,14 +1,16 @@
 -- Books that lists of calls leave: the first one, the next one, the reference model that each simulates, and what follows:
--- neither 11 nor 12 is said of them, and each lower end names a row.
+-- neither 11 nor 12 is said of them, and each end names a row.
 use mathlib.Core.Path.{_≡_, refl, sym, ap, subst, _∙_}
 use mathlib.Core.Logic.{_⊎_, inl, inr}
-use Prim.Native.Nat.{ℕ}
-use mathlib.Core.Bool.{Bool, _&&_, not}
-use mathlib.Core.List.{List, [], _∷_, _++_, map, List·Memᴰ, List·Memᴰ·head, List·Memᴰ·tail}
-use lib.Dec.{ltb}
-use Rattle.lists.specs.Lists.{filter, lastOr}
-use Rattle.lists.proofs.Members.{of-filter, of-map}
-use Rattle.skyline.specs.Skyline.{windowStart, rows, lowerEnd}
+use Prim.Native.Nat.{ℕ, suc, _-_, _≤_, _<_}
+use native.Mathlib.Omega.{arith}
+use mathlib.Core.Bool.{Bool, true, not}
+use mathlib.Core.List.{List, [], _∷_, _++_, map, List·Memᴰ}
+use Rattle.lists.specs.Lists.{between}
+use Rattle.lists.proofs.Runs.{into-run}
+use Rattle.skyline.specs.Skyline.{windowStart}
+use Rattle.skyline.specs.Past.{lowerEnd, upperEnd}
+use Rattle.skyline.proofs.Ends.{lower-spec, upper-within}
 use Rattle.head.specs.declared.Refusal.the-variants.{Settings}
 use Rattle.head.specs.Refusals.{number, firstOf}
 use Rattle.head.specs.Heads.{settingsHold}
@@ -16,7 +18,7 @@ use Rattle.model.specs.Rows.{Row}
 use Rattle.model.specs.Reference.{Reference, unopened, newest, over, rowOf, rowsOf, headOf, opened}
 use Rattle.model.specs.Book.{bookRows, watchfulAnswer}
 use Rattle.model.specs.Calls.{Call, Outputs, Lending, Lent, Seen, World, bookStep, Expected, expectedStep, runs, worldFirst, expectedFirst, Reached}
-use Rattle.model.proofs.Sound.{positions-are}
+use Rattle.model.proofs.Sound.{positions-are, row-held}
 use Rattle.model.proofs.Simulation.{Invariant, Simulation, bookWith, simulation-by, judged-watchful, simulation-rows}
 use Rattle.model.proofs.Replay.{replay-ends}
 
@@ -65,48 +67,43 @@ reached-judged more =
     (λ w. watchfulAnswer (w .head) (w .lent .tables) (w .lent .watches) more ≡ firstOf ((not (settingsHold (w .head .dimensions) (w .head .capacity) (w .head .directions)), number Settings) ∷ more))
     (λ l. refl) (λ s l f. judged-watchful s l f more more refl)
 
--- ---- lower ends
+-- ---- ends
 
--- the last of a list is one of it, if there is any
-last-mem : (z : ℕ) (l : List ℕ) → (lastOr z l ≡ z) ⊎ List·Memᴰ (lastOr z l) l
-unfolding lastOr
-last-mem z [] = inl refl
-last-mem z (x ∷ xs) = inr (go (last-mem x xs))
-  where
-    go : (lastOr x xs ≡ x) ⊎ List·Memᴰ (lastOr x xs) xs → List·Memᴰ (lastOr x xs) (x ∷ xs)
-    go (inl e) = List·Memᴰ·head e
-    go (inr m) = List·Memᴰ·tail m
-
--- a row's lower end is 0 or the position of a row
-abbrev NamesRow : List Row → Row → Type 0
-NamesRow rs r = (r .lowerEnd ≡ 0) ⊎ List·Memᴰ (r .lowerEnd) (map Row.position rs)
+-- 0 or the position of a row
+abbrev pub Named : List Row → ℕ → Type 0
+Named rs p = (p ≡ 0) ⊎ List·Memᴰ p (map Row.position rs)
 
 module _ (s : Reference) where
-  -- the positions that have a row
-  abbrev kept : List ℕ
-  kept = rows (over s) (windowStart (newest s) (s .capacity)) (newest s)
+  -- a position of the window of N has a row
+  held-position : (p : ℕ) → windowStart (newest s) (s .capacity) ≤ p → p ≤ newest s → List·Memᴰ p (map Row.position (rowsOf s))
+  unfolding between
+  held-position p h k = rw (positions-are s) (into-run (windowStart (newest s) (s .capacity)) (suc (newest s) - windowStart (newest s) (s .capacity)) p h (omega arith))
 
-  -- the lower end of a position is the last of some of them
-  lower-named : (p : ℕ) → (rowOf s p .lowerEnd ≡ 0) ⊎ List·Memᴰ (rowOf s p .lowerEnd) kept
-  unfolding rowOf lowerEnd
-  lower-named p = go (last-mem 0 (filter older kept))
+  -- so both ends of a row of the reference model name one
+  lower-named : (r : Row) → List·Memᴰ r (rowsOf s) → Named (rowsOf s) (r .lowerEnd)
+  unfolding rowOf
+  lower-named r m = let t = row-held s r m in rw (t .4) (go (t .0) (t .2) (lower-spec (over s) S (t .0) .named))
     where
-      older : ℕ → Bool
-      older q = ltb q p && over s q p
+      S : ℕ
+      S = windowStart (newest s) (s .capacity)
 
-      go : (lastOr 0 (filter older kept) ≡ 0) ⊎ List·Memᴰ (lastOr 0 (filter older kept)) (filter older kept) → (rowOf s p .lowerEnd ≡ 0) ⊎ List·Memᴰ (rowOf s p .lowerEnd) kept
-      go (inl e) = inl e
-      go (inr m) = inr (of-filter older (lastOr 0 (filter older kept)) kept m .0)
+      go : (p : ℕ) → p ≤ newest s → (lowerEnd (over s) S p ≡ 0) ⊎ ((S ≤ lowerEnd (over s) S p) × (lowerEnd (over s) S p < p) × (over s (lowerEnd (over s) S p) p ≡ true))
+          → Named (rowsOf s) (lowerEnd (over s) S p)
+      go p h (inl e) = inl e
+      go p h (inr u) = inr (held-position (lowerEnd (over s) S p) (u .0) (let w = u .1 in omega arith))
 
-  -- so every row of the reference model names one
-  row-named : (r : Row) → List·Memᴰ r (rowsOf s) → NamesRow (rowsOf s) r
-  unfolding rowsOf
-  row-named r m =
-      let t = of-map (rowOf s) r kept m in
-      subst (NamesRow (rowsOf s)) (sym (t .2)) (rw (positions-are s) (lower-named (t .0)))
+  upper-named : (r : Row) → List·Memᴰ r (rowsOf s) → Named (rowsOf s) (r .upperEnd)
+  unfolding rowOf
+  upper-named r m = let t = row-held s r m in rw (t .4) (go (t .0) (t .1) (upper-within (over s) (newest s) (t .0)))
+    where
+      go : (p : ℕ) → windowStart (newest s) (s .capacity) ≤ p → (upperEnd (over s) (newest s) p ≡ 0) ⊎ ((p < upperEnd (over s) (newest s) p) × (upperEnd (over s) (newest s) p ≤ newest s))
+          → Named (rowsOf s) (upperEnd (over s) (newest s) p)
+      go p h (inl e) = inl e
+      go p h (inr u) = inr (held-position (upperEnd (over s) (newest s) p) (let w = u .0 in omega arith) (u .1))
 
--- each lower end of a book that calls left is 0 or the position of one of its rows
+-- both ends of each row of a book that calls left are 0 or the position of one of its rows
 pub reached-names : {w : World} → Reached w → (r : Row) → List·Memᴰ r (bookRows (w .head) (w .lent .tables))
-    → (r .lowerEnd ≡ 0) ⊎ List·Memᴰ (r .lowerEnd) (map Row.position (bookRows (w .head) (w .lent .tables)))
+    → Named (bookRows (w .head) (w .lent .tables)) (r .lowerEnd) × Named (bookRows (w .head) (w .lent .tables)) (r .upperEnd)
 reached-names {w} g r =
-    subst (λ (rs : List Row). List·Memᴰ r rs → NamesRow rs r) (sym (simulation-rows (expected g) w (reached-simulation g))) (row-named (expected g .reference) r)
+    let s = expected g .reference in
+    subst (λ (rs : List Row). List·Memᴰ r rs → Named rs (r .lowerEnd) × Named rs (r .upperEnd)) (sym (simulation-rows (expected g) w (reached-simulation g))) (λ m. (lower-named s r m, upper-named s r m))

@@ -1,17 +1,17 @@
 -- The one theorem of demand 3: calls that were made, each on what the one before left and each meeting its promise, refine the reference
 -- model.
 use mathlib.Core.Path.{_≡_, refl, sym, ap, subst, _∙_}
-use Prim.Native.Nat.{ℕ, zero, suc, zero-le}
+use Prim.Native.Nat.{ℕ, zero, suc}
 use mathlib.Core.List.{List, [], _∷_}
 use lib.ListN.{take}
-use Rattle.model.specs.Calls.{Call, Outputs, Lending, Lent, Seen, World, bookSeen, worldAfter, bookStep, runs, worldFirst, expectedFirst, expectedAtEnd, worldAtEnd, referenceAtEnd}
+use Rattle.model.specs.Calls.{Call, Outputs, Lending, Lent, Seen, World, bookSeen, worldAfter, bookStep, runs, worldFirst, expectedAtEnd, worldAtEnd, referenceAtEnd}
 use Rattle.model.specs.Watcher.{Nothing, watcher}
-use Rattle.model.specs.Claims.{Made, opened, quoted, looked, watched, ended, AllMade, none, next, lastHead, Refines}
+use Rattle.model.specs.Claims.{Made, opened, quoted, looked, watched, ended, pastLooked, AllMade, none, next, lastHead, Refines}
 use Rattle.model.proofs.Simulation.{shown-same}
 use Rattle.model.proofs.Replay.{replay, replay-ends}
-use Rattle.model.proofs.Kept.{kept-iff-listed, dropped-never-listed}
+use Rattle.model.proofs.Kept.{live-row-iff-listed, retired-row-never-listed, held-row-listed-alone, held-row-iff-past}
 use Rattle.model.proofs.Watcher.{watcher-holds-skyline}
-use Rattle.model.proofs.Passing.{small-runs, simulation-passes}
+use Rattle.model.proofs.Passing.{simulation-passes}
 
 -- what is seen of a call that met its promise is what the book model says
 made-seen : {c : Call} {o : Outputs} {w : World} {s : Seen} → Made c o w s → s ≡ bookSeen c o w
@@ -21,6 +21,7 @@ made-seen (quoted m) = rw (m .reply, m .lent, m .out)
 made-seen (looked m) = rw (m .reply, m .out)
 made-seen (watched m) = rw (m .reply, m .watches, m .out)
 made-seen (ended m) = rw (m .reply, m .watches)
+made-seen (pastLooked m) = rw (m .reply, m .out)
 
 -- so is what is seen of a list of calls, and the book at its end
 all-made : {cs : List Lending} {w : World} {ss : List Seen} {end : World} → AllMade cs w ss end → (ss ≡ runs bookStep cs w .0) × (end ≡ runs bookStep cs w .1)
@@ -57,8 +58,10 @@ calls-refine cs l ss end m =
       head-last = rw (made .0, made .1) at (head-made m);
       lent-alike = j .lent;
       lent-filled = rw (j .lent) (shown-same (referenceAtEnd cs l) (expectedAtEnd cs l .lent) (j .since));
-      kept-iff-listed = kept-iff-listed cs l;
-      dropped-never-listed = dropped-never-listed cs l;
+      live-iff-listed = live-row-iff-listed cs l;
+      retired-never-listed = retired-row-never-listed cs l;
+      held-listed-alone = held-row-listed-alone cs l;
+      held-iff-past = held-row-iff-past cs l;
       watcher-holds-list = λ n k. ap (λ (seen : List Seen). watcher n (take k cs) seen Nothing) (sym (first-seen k cs (worldFirst l))) ∙ watcher-holds-skyline n (take k cs) l;
-      passes-audit = λ small e. simulation-passes (expectedAtEnd cs l) (worldAtEnd cs l) j (small-runs cs (expectedFirst l) small (λ i j. zero-le)) e;
+      passes-audit = simulation-passes (expectedAtEnd cs l) (worldAtEnd cs l) j;
     }

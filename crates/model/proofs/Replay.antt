@@ -3,26 +3,28 @@
 use mathlib.Core.Path.{_≡_, refl, ap₂}
 use mathlib.Core.Logic.{inl, inr}
 use mathlib.Core.List.{List, [], _∷_}
-use Rattle.lists.specs.Lists.{laid}
+use Rattle.lists.specs.Lists.{filter, laid}
 use Rattle.head.specs.Refusals.{firstOf, granted}
 use Rattle.head.specs.Heads.{settingsHold}
+use Rattle.model.specs.Rows.{liveRows}
 use Rattle.model.specs.Reference.{Reference, unopened, headOf, opened, tells, referenceStep}
-use Rattle.model.specs.Book.{answerOf, watchfulAnswer, replyOf, quoteAnswer, quoteReply, quoteTables, quoteOut, lookAnswer, lookReply, lookOut, watchAnswer, watchReply, watchWatches, watchOut, endAnswer, endReply, endWatches}
-use Rattle.model.specs.Calls.{Call, Open, Quote, Look, Watch, End, Outputs, Lending, Lent, Seen, World, bookSeen, headAfter, worldAfter, bookStep, lengthsOf, shown, Expected, expectedStep, runs, worldFirst, expectedFirst}
+use Rattle.model.specs.Book.{answerOf, watchfulAnswer, replyOf, quoteAnswer, quoteReply, quoteTables, quoteOut, lookAnswer, lookReply, lookOut, pastAnswer, pastReply, pastOut, watchAnswer, watchReply, watchWatches, watchOut, endAnswer, endReply, endWatches}
+use Rattle.model.specs.Calls.{Call, Open, Quote, Look, Watch, End, Past, Outputs, Lending, Lent, Seen, World, bookSeen, headAfter, worldAfter, bookStep, lengthsOf, shown, Expected, expectedStep, runs, worldFirst, expectedFirst}
 use Rattle.model.proofs.Sound.{rows-none}
 use Rattle.model.proofs.Simulation.{Invariant, Simulation, Agree, referenceWith, bookWith, simulation-by}
 use Rattle.model.proofs.Opening.{opens}
 use Rattle.model.proofs.Quoting.{quotes}
-use Rattle.model.proofs.Watching.{looks, watches, ends}
+use Rattle.model.proofs.Watching.{looks, watches, ends, looks-back}
 
 -- before the first accepted opening every call but an opening is refused by both models
 unopened-agrees : (c : Call) (o : Outputs) (l : Lent) → Agree c o (referenceWith unopened l) (bookWith unopened l)
-unfolding bookSeen headAfter worldAfter bookStep expectedStep referenceStep tells lengthsOf laid shown opened settingsHold headOf firstOf granted answerOf watchfulAnswer replyOf quoteAnswer quoteReply quoteTables quoteOut lookAnswer lookReply lookOut watchAnswer watchReply watchWatches watchOut endAnswer endReply endWatches
+unfolding bookSeen headAfter worldAfter bookStep expectedStep referenceStep tells lengthsOf laid shown opened settingsHold headOf firstOf granted answerOf watchfulAnswer replyOf quoteAnswer quoteReply quoteTables quoteOut lookAnswer lookReply lookOut pastAnswer pastReply pastOut watchAnswer watchReply watchWatches watchOut endAnswer endReply endWatches
 unopened-agrees (Open d N directions) o l = opens d N directions l o unopened (inl refl)
 unopened-agrees (Quote x) o l = (refl, record { head = refl; lent = refl; since = inl refl })
 unopened-agrees (Look n) o l = (refl, record { head = refl; lent = refl; since = inl refl })
 unopened-agrees (Watch n) o l = (refl, record { head = refl; lent = refl; since = inl refl })
 unopened-agrees (End n) o l = (refl, record { head = refl; lent = refl; since = inl refl })
+unopened-agrees (Past n1 n2) o l = (refl, record { head = refl; lent = refl; since = inl refl })
 
 opened-agrees : (c : Call) (o : Outputs) (s : Reference) (l : Lent) → Invariant s l → Agree c o (referenceWith s l) (bookWith s l)
 opened-agrees (Open d N directions) o s l f = opens d N directions l o s (inr f)
@@ -30,6 +32,7 @@ opened-agrees (Quote x) o s l f = quotes s l f x o
 opened-agrees (Look n) o s l f = looks s l f n o
 opened-agrees (Watch n) o s l f = watches s l f n o
 opened-agrees (End n) o s l f = ends s l f n o
+opened-agrees (Past n1 n2) o s l f = looks-back s l f n1 n2 o
 
 -- every call on a book that simulates the reference model is seen alike, and leaves such a book
 pub call-agrees : (c : Call) (o : Outputs) (k : Expected) (w : World) → Simulation k w → Agree c o k w
@@ -45,7 +48,7 @@ run-agrees (c ∷ cs) k w j =
     (ap₂ {C = List Seen} (λ (s : Seen) (l : List Seen). s ∷ l) (one .0) (rest .0), rest .1)
 
 start : (l : Lent) → Simulation (expectedFirst l) (worldFirst l)
-unfolding headOf
+unfolding headOf liveRows filter
 start l = record { head = rw (rows-none unopened refl); lent = refl; since = inl refl }
 
 -- over every list of calls both models show the same

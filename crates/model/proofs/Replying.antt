@@ -1,11 +1,11 @@
 -- From a call's own answer to the model's: what it hands back and leaves where it is refused, and where it is accepted.
-use mathlib.Core.Path.{_≡_, refl, sym, ap, _∙_}
+use mathlib.Core.Path.{_≡_}
 use Prim.Native.Nat.{ℕ}
 use Rattle.head.specs.declared.Head.{Head}
 use Rattle.head.specs.declared.Refusal.{Refusal}
 use Rattle.head.specs.declared.Answer.{Answer}
 use Rattle.head.specs.declared.Answer.the-variants.{Accepted, Refused}
-use Rattle.head.specs.Refusals.{number, numberOf, granted}
+use Rattle.head.specs.Refusals.{numberOf, granted}
 use Rattle.head.specs.Replies.{outcome}
 use Rattle.head.proofs.Numbers.{accepted-number, refused-number, refused-granted}
 use Rattle.model.specs.Book.{replyOf}

@@ -2,11 +2,12 @@
 use mathlib.Core.Path.{_≡_, refl, sym, ap, ap₂, _∙_}
 use mathlib.Core.Logic.{_⊎_, inl, inr}
 use Prim.Native.Nat.{ℕ, _≤_}
+use native.Mathlib.Omega.{arith}
 use mathlib.Core.Bool.{Bool, true, false, _&&_, not}
 use mathlib.Core.List.{List, _∷_}
-use lib.Dec.{ltb, leb}
+use lib.Dec.{ltb, leb, eqb}
 use lib.ListN.{length}
-use borrow.Author.Tests.{ltb-false, leb-true, not-false}
+use borrow.Author.Tests.{ltb-false, leb-true, eqb-false, not-false}
 use Rattle.lists.specs.Lists.{run, rising, padded}
 use Rattle.lists.proofs.Booleans.{and-left, and-right, none-left, none-right}
 use Rattle.head.specs.declared.Head.{Head}
@@ -15,10 +16,10 @@ use Rattle.head.specs.Refusals.{number, firstOf}
 use Rattle.head.specs.Heads.{settingsHold, lastPosition}
 use Rattle.head.proofs.Settings.{settings-within}
 use Rattle.model.specs.Rows.{Tables, rowsIn, filled}
-use Rattle.model.specs.Reference.{Reference, unopened, newest, skylineOf, rowsOf, headOf, opened, outside}
-use Rattle.model.specs.Book.{shortTables, shortLoan, tornRows, tornWatches, standing, bookRows, listOf, answerOf, watchfulAnswer}
+use Rattle.model.specs.Reference.{Reference, unopened, newest, skylineOf, pastOf, rowsOf, headOf, opened, outside, outsidePast}
+use Rattle.model.specs.Book.{shortTables, shortLoan, tornRows, tornWatches, standing, bookRows, pastListOf, listOf, answerOf, watchfulAnswer}
 use Rattle.model.specs.Calls.{Call, Outputs, Lent, World, bookStep, shown, Expected, expectedStep}
-use Rattle.model.proofs.Quotes.{skyline-listed}
+use Rattle.model.proofs.Quotes.{past-listed, skyline-listed}
 use Rattle.model.proofs.Tables.{rows-filled}
 use Rattle.model.proofs.Sound.{Wide, rows-none, rows-few, rows-wide, rows-sound, standing-padded, watches-sound}
 
@@ -70,6 +71,13 @@ in-range s n e =
     let t = not-false (leb 1 n && leb n (s .capacity)) e in
     (leb-true 1 n (and-left (leb 1 n) (leb n (s .capacity)) t), leb-true n (s .capacity) (and-right (leb 1 n) (leb n (s .capacity)) t))
 
+-- n1 and n2 that are refused neither with 5 nor with 14 have 1 ≤ n1 ≤ n2 ≤ N
+pub in-past-range : (s : Reference) (n1 n2 : ℕ) → outsidePast s n1 n2 ≡ false → ltb n2 n1 ≡ false → (1 ≤ n1) × (n1 ≤ n2) × (n2 ≤ s .capacity)
+unfolding outsidePast
+in-past-range s n1 n2 e f =
+    let z = eqb-false n1 0 (none-left (eqb n1 0) (ltb (s .capacity) n2) e) in
+    (omega arith, ltb-false n2 n1 f, ltb-false (s .capacity) n2 (none-right (eqb n1 0) (ltb (s .capacity) n2) e))
+
 -- the book model's list of n of a reference model's rows
 pub list-is : (s : Reference) (n : ℕ) → 1 ≤ n → n ≤ s .capacity → listOf (headOf s) (rowsOf s) n ≡ skylineOf s n
 unfolding listOf headOf
@@ -108,6 +116,11 @@ module _ (s : Reference) (l : Lent) (f : Invariant s l) where
   -- and its skylines
   pub skyline-read : (n : ℕ) → 1 ≤ n → n ≤ s .capacity → listOf (headOf s) (bookRows (headOf s) (l .tables)) n ≡ skylineOf s n
   skyline-read n h k = rw rows-read (list-is s n h k)
+
+  -- and its past lists
+  pub past-read : (n1 n2 : ℕ) → 1 ≤ n1 → n1 ≤ n2 → n2 ≤ s .capacity → pastListOf (headOf s) (bookRows (headOf s) (l .tables)) n1 n2 ≡ pastOf s n1 n2
+  unfolding pastListOf headOf
+  past-read n1 n2 h j k = rw rows-read (past-listed s n1 n2 h j k)
 
   rows-whole : tornRows (headOf s) (rowsOf s) ≡ false
   rows-whole = rows-sound s some-capacity (f .within)

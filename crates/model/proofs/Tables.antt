@@ -25,6 +25,7 @@ begun rs t = record {
   columns = flat (map Row.columns rs) ++ t .columns;
   positions = map Row.position rs ++ t .positions;
   lowerEnds = map Row.lowerEnd rs ++ t .lowerEnds;
+  upperEnds = map Row.upperEnd rs ++ t .upperEnds;
 }
 
 -- a run from one further on
@@ -38,14 +39,14 @@ module _ (d : ℕ) where
   next-row : (r : Row) (rs : List Row) (t : Tables) (i : ℕ) → length (r .columns) ≡ d → rowAt d (begun (r ∷ rs) t) (suc i) ≡ rowAt d (begun rs t) i
   unfolding rowAt flat
   next-row r rs t i h =
-      ap (λ (c : List ℕ). record { position = getD (begun rs t .positions) i 0; lowerEnd = getD (begun rs t .lowerEnds) i 0; columns = take d c })
+      ap (λ (c : List ℕ). record { position = getD (begun rs t .positions) i 0; lowerEnd = getD (begun rs t .lowerEnds) i 0; upperEnd = getD (begun rs t .upperEnds) i 0; columns = take d c })
       (rw (append-assoc, suc-mul, add-comm, ← h) (drop-append-add (r .columns) (flat (map Row.columns rs) ++ t .columns) (i * length (r .columns))))
 
   -- the first row of the tables
   first-row : (r : Row) (rs : List Row) (t : Tables) → length (r .columns) ≡ d → rowAt d (begun (r ∷ rs) t) 0 ≡ r
   unfolding rowAt flat
   first-row r rs t h =
-      ap (λ (c : List ℕ). record { position = r .position; lowerEnd = r .lowerEnd; columns = c })
+      ap (λ (c : List ℕ). record { position = r .position; lowerEnd = r .lowerEnd; upperEnd = r .upperEnd; columns = c })
       (rw (append-assoc, zero-mul) (take-at (r .columns) (flat (map Row.columns rs) ++ t .columns) d h))
 
   -- rows that the tables begin with are read
@@ -74,7 +75,7 @@ module _ (d : ℕ) where
     -- what is filled is read back
     pub rows-filled : rowsIn d (length rs) (filled d N rs t) ≡ rs
     unfolding filled padded
-    rows-filled = begun-read rs record { columns = _; positions = _; lowerEnds = _ } fit
+    rows-filled = begun-read rs record { columns = _; positions = _; lowerEnds = _; upperEnds = _ } fit
 
     -- the last filling counts
     pub filled-again : (rs' : List Row) → filled d N rs' (filled d N rs t) ≡ filled d N rs' t
@@ -84,18 +85,22 @@ module _ (d : ℕ) where
           padded-again (N * d) (flat (map Row.columns rs')) (flat (map Row.columns rs)) (t .columns) cells-fit,
           padded-again N (map Row.position rs') (map Row.position rs) (t .positions) (rw length-map few),
           padded-again N (map Row.lowerEnd rs') (map Row.lowerEnd rs) (t .lowerEnds) (rw length-map few),
+          padded-again N (map Row.upperEnd rs') (map Row.upperEnd rs) (t .upperEnds) (rw length-map few),
         )
 
     -- tables that are long enough keep their lengths
     pub filled-long : shortTables t d N ≡ false → (d' N' : ℕ) → shortTables (filled d N rs t) d' N' ≡ shortTables t d' N'
     unfolding filled shortTables
     filled-long h d' N' =
-        let a = none-left (ltb (length (t .columns)) (N * d) || ltb (length (t .positions)) N) (ltb (length (t .lowerEnds)) N) h in
+        let c = ltb (length (t .columns)) (N * d) in
+        let p = ltb (length (t .positions)) N in
+        let l = ltb (length (t .lowerEnds)) N in
+        let u = ltb (length (t .upperEnds)) N in
+        let three = none-left (c || p || l) u h in
+        let two = none-left (c || p) l three in
         rw (
-          length-padded (N * d) (flat (map Row.columns rs)) (t .columns) cells-fit
-              (ltb-false (length (t .columns)) (N * d) (none-left (ltb (length (t .columns)) (N * d)) (ltb (length (t .positions)) N) a)),
-          length-padded N (map Row.position rs) (t .positions) (rw length-map few)
-              (ltb-false (length (t .positions)) N (none-right (ltb (length (t .columns)) (N * d)) (ltb (length (t .positions)) N) a)),
-          length-padded N (map Row.lowerEnd rs) (t .lowerEnds) (rw length-map few)
-              (ltb-false (length (t .lowerEnds)) N (none-right (ltb (length (t .columns)) (N * d) || ltb (length (t .positions)) N) (ltb (length (t .lowerEnds)) N) h)),
+          length-padded (N * d) (flat (map Row.columns rs)) (t .columns) cells-fit (ltb-false (length (t .columns)) (N * d) (none-left c p two)),
+          length-padded N (map Row.position rs) (t .positions) (rw length-map few) (ltb-false (length (t .positions)) N (none-right c p two)),
+          length-padded N (map Row.lowerEnd rs) (t .lowerEnds) (rw length-map few) (ltb-false (length (t .lowerEnds)) N (none-right (c || p) l three)),
+          length-padded N (map Row.upperEnd rs) (t .upperEnds) (rw length-map few) (ltb-false (length (t .upperEnds)) N (none-right (c || p || l) u h)),
         )

@@ -1,4 +1,4 @@
--- A look, a watch and an end are answered alike by both models.
+-- A look, a look at a past list, a watch and an end are answered alike by both models.
 use mathlib.Core.Path.{_≡_, refl, sym, ap, _∙_}
 use mathlib.Core.Logic.{inr}
 use Prim.Native.Nat.{ℕ, zero, suc, _≤_}
@@ -12,14 +12,14 @@ use Rattle.lists.specs.Lists.{contains, rising, insert, without, laid, padded}
 use Rattle.lists.proofs.Filters.{length-filter}
 use Rattle.lists.proofs.Rising.{rising-filter, length-insert, rising-insert}
 use Rattle.lists.proofs.Writing.{length-padded, padded-again}
-use Rattle.head.specs.declared.Refusal.the-variants.{Settings, WindowSize, AlreadyWatched, NoFreeRecord, NotWatched, ShortOutput}
+use Rattle.head.specs.declared.Refusal.the-variants.{Settings, WindowSize, WindowOrder, AlreadyWatched, NoFreeRecord, NotWatched, ShortOutput}
 use Rattle.head.specs.Refusals.{number, firstOf, granted}
 use Rattle.head.proofs.Numbers.{zero-passed, firstOf-alike}
 use Rattle.model.specs.Changes.{join, frames}
-use Rattle.model.specs.Reference.{Reference, skylineOf, rowOf, rowsOf, headOf, opened, outside, withWatched, tells, referenceStep}
-use Rattle.model.specs.Book.{shortLoan, bookRows, listOf, replyOf, outOfRange, lookCells, lookAnswer, lookReply, lookOut, watchBytes, watchAnswer, watchReply, watchWatches, watchOut, endAnswer, endReply, endWatches}
-use Rattle.model.specs.Calls.{Look, Watch, End, Outputs, Lent, bookSeen, headAfter, worldAfter, bookStep, lengthsOf, shown, expectedStep}
-use Rattle.model.proofs.Simulation.{Invariant, Simulation, Agree, referenceWith, bookWith, long-records, in-range, simulation, shown-opened, shown-still, watches-read, skyline-read, judged, judged-watchful}
+use Rattle.model.specs.Reference.{Reference, skylineOf, pastOf, rowOf, rowsOf, headOf, opened, outside, outsidePast, withWatched, tells, referenceStep}
+use Rattle.model.specs.Book.{shortLoan, bookRows, listOf, replyOf, outOfRange, lookCells, lookAnswer, lookReply, lookOut, pastCells, pastAnswer, pastReply, pastOut, watchBytes, watchAnswer, watchReply, watchWatches, watchOut, endAnswer, endReply, endWatches}
+use Rattle.model.specs.Calls.{Look, Watch, End, Past, Outputs, Lent, bookSeen, headAfter, worldAfter, bookStep, lengthsOf, shown, expectedStep}
+use Rattle.model.proofs.Simulation.{Invariant, Simulation, Agree, referenceWith, bookWith, long-records, in-range, in-past-range, simulation, shown-opened, shown-still, watches-read, skyline-read, past-read, judged, judged-watchful}
 
 -- the watches are no part of the head
 head-rewatched : (s : Reference) (ns : List ℕ) → headOf (withWatched s ns) ≡ headOf s
@@ -162,3 +162,42 @@ module _ (s : Reference) (l : Lent) (f : Invariant s l) (n : ℕ) where
       go : (a : ℕ) → end-answer ≡ a → Agree (End n) o (referenceWith s l) (bookWith s l)
       go zero e = rw (end-answers, e, watches-read s l f, shown-rewatched ns few risen, head-rewatched s ns) (refl, simulation-rewatched ns few risen)
       go (suc k) e = rw (end-answers, e, shown-still s l f) (refl, simulation s l f)
+
+-- ---- past look
+
+module _ (s : Reference) (l : Lent) (f : Invariant s l) (n1 n2 : ℕ) (o : Outputs) where
+  -- the refusals behind 5, with these positions to write
+  abbrev behind : List ℕ → List (Bool × ℕ)
+  behind cells = (ltb n2 n1, number WindowOrder) ∷ (ltb (length (o .cells)) (length cells), number ShortOutput) ∷ []
+
+  -- the reference model's answer
+  abbrev past-answer : ℕ
+  past-answer = firstOf ((not (opened s), number Settings) ∷ (outsidePast s n1 n2, number WindowSize) ∷ behind (pastOf s n1 n2))
+
+  past-cells : outsidePast s n1 n2 ≡ false → ltb n2 n1 ≡ false → pastCells (headOf s) n1 n2 (l .tables) ≡ pastOf s n1 n2
+  unfolding pastCells
+  past-cells e g = let r = in-past-range s n1 n2 e g in past-read s l f n1 n2 (r .0) (r .1) (r .2)
+
+  past-answers : pastAnswer (headOf s) n1 n2 (l .tables) (length (o .cells)) ≡ past-answer
+  unfolding pastAnswer outsidePast headOf
+  past-answers =
+      judged s l f ((outsidePast s n1 n2, number WindowSize) ∷ behind cells) ((outsidePast s n1 n2, number WindowSize) ∷ behind (pastOf s n1 n2))
+      (firstOf-alike (outsidePast s n1 n2) (number WindowSize) (behind cells) (behind (pastOf s n1 n2))
+      (λ e. firstOf-alike (ltb n2 n1) (number WindowOrder) (short cells) (short (pastOf s n1 n2)) (λ g. ap (λ (c : List ℕ). firstOf (short c)) (past-cells e g))))
+    where
+      cells : List ℕ
+      cells = pastCells (headOf s) n1 n2 (l .tables)
+
+      short : List ℕ → List (Bool × ℕ)
+      short c = (ltb (length (o .cells)) (length c), number ShortOutput) ∷ []
+
+  -- the past look is seen alike
+  pub looks-back : Agree (Past n1 n2) o (referenceWith s l) (bookWith s l)
+  unfolding bookSeen headAfter worldAfter bookStep expectedStep referenceStep tells lengthsOf pastReply pastOut replyOf granted laid
+  looks-back = go past-answer refl
+    where
+      go : (a : ℕ) → past-answer ≡ a → Agree (Past n1 n2) o (referenceWith s l) (bookWith s l)
+      go zero e =
+          let a = zero-passed _ _ _ (zero-passed _ _ _ e .1) in
+          rw (past-answers, e, past-cells (a .0) (zero-passed _ _ _ (a .1) .0), shown-still s l f) (refl, simulation s l f)
+      go (suc k) e = rw (past-answers, e, shown-still s l f) (refl, simulation s l f)

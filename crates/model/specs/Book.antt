@@ -1,36 +1,42 @@
 -- The book model: what each call answers and leaves in everything lent, for any head, tables, watch records and output.
-use Prim.Native.Nat.{ℕ, suc, _+_, _*_, _≤_}
+use Prim.Native.Nat.{ℕ, suc, _+_, _-_, _*_, _≤_}
 use mathlib.Core.Bool.{Bool, true, _&&_, _||_, not, cond}
 use mathlib.Core.List.{List, [], _∷_, map}
 use lib.Dec.{ltb, leb, eqb}
 use lib.ListN.{length, take}
-use Rattle.lists.specs.Lists.{filter, any, lastOr, contains, rising, insert, without, laid, padded}
+use Rattle.lists.specs.Lists.{filter, any, lastOr, between, contains, rising, insert, without, laid, padded}
 use Rattle.skyline.specs.Skyline.{windowStart}
 use Rattle.head.specs.declared.Head.{Head}
-use Rattle.head.specs.declared.Refusal.the-variants.{Settings, ColumnCount, WindowSize, TapeFull, AlreadyWatched, NoFreeRecord, NotWatched, ShortLoan, Torn, ShortOutput}
+use Rattle.head.specs.declared.Refusal.the-variants.{Settings, ColumnCount, WindowSize, TapeFull, AlreadyWatched, NoFreeRecord, NotWatched, ShortLoan, Torn, ShortOutput, WindowOrder}
 use Rattle.head.specs.Refusals.{number, firstOf, granted}
 use Rattle.head.specs.Replies.{Outcome}
 use Rattle.head.specs.Heads.{freshHead, settingsHold, afterQuote, lastPosition}
-use Rattle.model.specs.Rows.{Row, Tables, rowsIn, filled, listed, rowsAfter}
+use Rattle.model.specs.Rows.{Row, Tables, rowsIn, filled, liveRows, listed, rowsAfter}
 use Rattle.model.specs.Changes.{join, changes, allChanges, frames}
 
 -- a table is shorter than these settings ask
 unfoldable pub shortTables : Tables → ℕ → ℕ → Bool
-shortTables t d N = ltb (length (t .columns)) (N * d) || ltb (length (t .positions)) N || ltb (length (t .lowerEnds)) N
+shortTables t d N = ltb (length (t .columns)) (N * d) || ltb (length (t .positions)) N || ltb (length (t .lowerEnds)) N || ltb (length (t .upperEnds)) N
 
 -- a table is shorter than these settings ask, or there are fewer than eight watch records
 unfoldable pub shortLoan : Tables → List ℕ → ℕ → ℕ → Bool
 shortLoan t ws d N = shortTables t d N || ltb (length ws) 8
 
--- the head or the rows are torn: one of 01's conditions under 12 holds; a book that no call left need not be torn
+-- the head or the rows held are torn: one of the conditions of 01 and 02 under 12 holds; a book that no call left need not be torn
 unfoldable pub tornRows : Head → List Row → Bool
 tornRows h rs =
-    ltb (h .capacity) (h .rows)
-    || ltb lastPosition (h .newest)
-    || (eqb (h .rows) 0 && ltb 0 (h .newest) || ltb 0 (h .rows) && eqb (h .newest) 0)
-    || not (rising (windowStart (h .newest) (h .capacity)) (h .newest) (map Row.position rs))
-    || not (eqb (lastOr 0 (map Row.position rs)) (h .newest))
+    let M = h .newest in
+    let start = windowStart M (h .capacity) in
+    let positions = map Row.position rs in
+    ltb (h .capacity) (h .held)
+    || ltb lastPosition M
+    || (eqb (h .held) 0 && ltb 0 M || ltb 0 (h .held) && eqb M 0)
+    || not (rising start M positions)
+    || not (eqb (lastOr 0 positions) M)
     || any (λ r. not (ltb (r .lowerEnd) (r .position))) rs
+    || any (λ p. not (contains p positions)) (between start M)
+    || not (eqb (h .live) (length (liveRows rs)))
+    || any (λ r. ltb 0 (r .upperEnd) && not (ltb (r .position) (r .upperEnd) && leb (r .upperEnd) M)) rs
 
 -- records that rise from lo on, none above N, and end in empties
 unfoldable pub ordered : ℕ → ℕ → List ℕ → Bool
@@ -45,13 +51,17 @@ tornWatches N ws = not (ordered 1 N (take 8 ws))
 unfoldable pub standing : List ℕ → List ℕ
 standing ws = filter (ltb 0) (take 8 ws)
 
--- the rows of a book
+-- the rows that a book holds, live and retired
 unfoldable pub bookRows : Head → Tables → List Row
-bookRows h t = rowsIn (h .dimensions) (h .rows) t
+bookRows h t = rowsIn (h .dimensions) (h .held) t
 
--- the list of n by the rows' lower ends
+-- the past list of n1 and n2 by the rows' ends
+unfoldable pub pastListOf : Head → List Row → ℕ → ℕ → List ℕ
+pastListOf h rs n1 n2 = listed (windowStart (h .newest) n2) (h .newest + 1 - n1) rs
+
+-- the list of n by the rows' ends
 unfoldable pub listOf : Head → List Row → ℕ → List ℕ
-listOf h rs n = listed (windowStart (h .newest) n) rs
+listOf h rs n = listed (windowStart (h .newest) n) (h .newest) rs
 
 -- the answer of a call on the tables alone, 0 if accepted: 3, 11, 12, then what the call adds
 unfoldable pub answerOf : Head → Tables → List (Bool × ℕ) → ℕ
@@ -99,7 +109,7 @@ module _ (h : Head) (x : List ℕ) (t : Tables) (ws : List ℕ) where
 
   -- the head after the quote
   unfoldable pub quoteHead : Head
-  quoteHead = afterQuote h (length quoteRows)
+  quoteHead = afterQuote h (length (liveRows quoteRows)) (length quoteRows)
 
   -- the changes of every watch, as frames
   unfoldable pub quoteBytes : List ℕ
@@ -123,11 +133,11 @@ module _ (h : Head) (x : List ℕ) (t : Tables) (ws : List ℕ) where
   unfoldable pub quoteOut : List ℕ → List ℕ
   quoteOut out = granted (quoteAnswer (length out)) (laid quoteBytes out) out
 
--- how much a quote can write: for every n at most one change for each row and one more, which is 1,025 at most, and 57,400 bytes for
+-- how much a quote can write: for every n at most one change for each live row and one more, which is 1,025 at most, and 57,400 bytes for
 -- all watches
 pub record ChangesFit (h : Head) (x : List ℕ) (t : Tables) (ws : List ℕ) : Type 0 where
-  pub changes-each : (n : ℕ) → length (changes n (listOf h (bookRows h t) n) (listOf (quoteHead h x t ws) (quoteRows h x t ws) n)) ≤ h .rows + 1
-  pub changes-most : h .rows + 1 ≤ 1025
+  pub changes-each : (n : ℕ) → length (changes n (listOf h (bookRows h t) n) (listOf (quoteHead h x t ws) (quoteRows h x t ws) n)) ≤ h .live + 1
+  pub changes-most : h .live + 1 ≤ 1025
   pub bytes-most : length (quoteBytes h x t ws) ≤ 57400
 
 -- ---- look
@@ -147,6 +157,26 @@ module _ (h : Head) (n : ℕ) (t : Tables) where
   -- the output after a look
   unfoldable pub lookOut : List ℕ → List ℕ
   lookOut out = granted (lookAnswer (length out)) (laid lookCells out) out
+
+-- ---- past look
+module _ (h : Head) (n1 n2 : ℕ) (t : Tables) where
+  -- the positions of the past list of n1 and n2
+  unfoldable pub pastCells : List ℕ
+  pastCells = pastListOf h (bookRows h t) n1 n2
+
+  -- the answer of a past look with this room for its positions: 3, 11, 12, then 5, 14, 13
+  unfoldable pub pastAnswer : ℕ → ℕ
+  pastAnswer room =
+      answerOf h t ((eqb n1 0 || ltb (h .capacity) n2, number WindowSize) ∷ (ltb n2 n1, number WindowOrder)
+      ∷ (ltb room (length pastCells), number ShortOutput) ∷ [])
+
+  -- what a past look hands back
+  unfoldable pub pastReply : ℕ → Outcome
+  pastReply room = replyOf (pastAnswer room) h h (length pastCells)
+
+  -- the output after a past look
+  unfoldable pub pastOut : List ℕ → List ℕ
+  pastOut out = granted (pastAnswer (length out)) (laid pastCells out) out
 
 -- ---- watch and end
 module _ (h : Head) (n : ℕ) (t : Tables) (ws : List ℕ) where

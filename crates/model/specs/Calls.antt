@@ -9,9 +9,9 @@ use Rattle.head.specs.declared.Head.{Head}
 use Rattle.head.specs.Heads.{freshHead}
 use Rattle.head.specs.Refusals.{granted}
 use Rattle.head.specs.Replies.{Outcome}
-use Rattle.model.specs.Rows.{Row, Tables, filled}
+use Rattle.model.specs.Rows.{Row, Tables, filled, liveRows}
 use Rattle.model.specs.Reference.{Reference, unopened, Lengths, rowsOf, opened, referenceStep}
-pub use Rattle.model.specs.Reference.{Call, Open, Quote, Look, Watch, End}
+pub use Rattle.model.specs.Reference.{Call, Open, Quote, Look, Watch, End, Past}
 use Rattle.model.specs.Book
 
 -- what the outputs of a call hold: bytes for frames, cells for positions; a call writes into those that it uses, the other stays as lent
@@ -68,6 +68,10 @@ bookSeen (End n) o w =
     let ws = w .lent .watches in
     let lent : Lent = record { tables = t; watches = Book.endWatches (w .head) n t ws } in
     record { outcome = Book.endReply (w .head) n t ws; outputs = o; lent = lent }
+bookSeen (Past n1 n2) o w =
+    let t = w .lent .tables in
+    let outputs : Outputs = record { bytes = o .bytes; cells = Book.pastOut (w .head) n1 n2 t (o .cells) } in
+    record { outcome = Book.pastReply (w .head) n1 n2 t (length (o .cells)); outputs = outputs; lent = w .lent }
 
 -- the head that the next call gets: the one handed back, unless by a refused opening
 unfoldable pub headAfter : Call → Outcome → Head → Head
@@ -76,6 +80,7 @@ headAfter (Quote x) outcome h = outcome .head
 headAfter (Look n) outcome h = outcome .head
 headAfter (Watch n) outcome h = outcome .head
 headAfter (End n) outcome h = outcome .head
+headAfter (Past n1 n2) outcome h = outcome .head
 
 -- the book after a call of which this was seen
 unfoldable pub worldAfter : Call → Seen → World → World
@@ -91,6 +96,7 @@ lengthsOf l o = record {
   columns = length (l .tables .columns);
   positions = length (l .tables .positions);
   lowerEnds = length (l .tables .lowerEnds);
+  upperEnds = length (l .tables .upperEnds);
   watches = length (l .watches);
   bytes = length (o .bytes);
   cells = length (o .cells);
@@ -152,6 +158,10 @@ module _ (cs : List Lending) (l : Lent) where
 -- the positions of the rows that the head and the tables of a book hold
 abbrev pub positionsIn : World → List ℕ
 positionsIn w = map Row.position (Book.bookRows (w .head) (w .lent .tables))
+
+-- the positions of those of them that are live
+abbrev pub livePositionsIn : World → List ℕ
+livePositionsIn w = map Row.position (liveRows (Book.bookRows (w .head) (w .lent .tables)))
 
 -- a book that some list of calls leaves, from a head of zeros and anything lent
 pub record Reached (w : World) : Type 0 where

@@ -1,7 +1,7 @@
 -- Changes of a watched skyline, as messages and as bytes.
 use Prim.Native.Nat.{ℕ}
-use mathlib.Core.Bool.{Bool, not}
-use mathlib.Core.List.{List, [], _∷_, _++_, map}
+use mathlib.Core.Bool.{not}
+use mathlib.Core.List.{List, [], _++_, map}
 use Rattle.lists.specs.Lists.{filter, flat, contains}
 use Rattle.frames.specs.declared.Message.{Message}
 use Rattle.frames.specs.declared.Message.the-variants.{Change}

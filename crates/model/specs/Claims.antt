@@ -1,7 +1,7 @@
 -- Calls that were made, each meeting its promise on what the one before left, and all that demand 3 says of a list of them.
 use mathlib.Core.Path.{_≡_}
 use mathlib.Core.Logic.{_↔_}
-use Prim.Native.Nat.{ℕ, _≤_}
+use Prim.Native.Nat.{ℕ, _+_, _-_, _≤_}
 use mathlib.Core.Bool.{true}
 use mathlib.Core.List.{List, [], _∷_, List·Memᴰ}
 use lib.ListN.{take}
@@ -10,11 +10,11 @@ use Rattle.head.specs.declared.Reply.{Reply}
 use Rattle.head.specs.Heads.{freshHead}
 use Rattle.head.specs.Replies.{outcome, yes}
 use Rattle.model.specs.Rows.{Tables}
-use Rattle.model.specs.Reference.{newest, skylineOf, headOf, opened as isOpened, withQuotes}
-use Rattle.model.specs.Calls.{Call, Open, Quote, Look, Watch, End, Outputs, Lending, Lent, Seen, World, headAfter, worldAfter, shown, expectedStep, runs, expectedFirst, expectedAtEnd, referenceAtEnd, positionsIn}
-use Rattle.model.specs.Promises.{world, Opened, Quoted, Looked, Watched, Ended}
+use Rattle.model.specs.Reference.{newest, skylineOf, pastOf, headOf, opened as isOpened, withQuotes}
+use Rattle.model.specs.Calls.{Call, Open, Quote, Look, Watch, End, Past, Outputs, Lending, Lent, Seen, World, headAfter, worldAfter, shown, expectedStep, runs, expectedFirst, expectedAtEnd, referenceAtEnd, positionsIn, livePositionsIn}
+use Rattle.model.specs.Promises.{world, Opened, Quoted, Looked, PastLooked, Watched, Ended}
 use Rattle.model.specs.Watcher.{Nothing, watcher, heldBy}
-use Rattle.model.specs.Audit.{SmallQuotes, auditFinding}
+use Rattle.model.specs.Audit.{auditFinding}
 
 -- what is seen of a call that left this reply, these outputs, these tables and these watches
 abbrev pub seen : Reply → Outputs → Tables → List ℕ → Seen
@@ -32,6 +32,8 @@ pub data Made : Call → Outputs → World → Seen → Type 0 where
       → Watched h n t ws (o .bytes) r ws' bytes → Made (Watch n) o (world h t ws) (seen r (record { bytes = bytes; cells = o .cells }) t ws')
   ended : {n : ℕ} {o : Outputs} {h : Head} {t : Tables} {ws : List ℕ} {r : Reply} {ws' : List ℕ}
       → Ended h n t ws r ws' → Made (End n) o (world h t ws) (seen r o t ws')
+  pastLooked : {n1 n2 : ℕ} {o : Outputs} {h : Head} {t : Tables} {ws : List ℕ} {r : Reply} {cells : List ℕ}
+      → PastLooked h n1 n2 t (o .cells) r cells → Made (Past n1 n2) o (world h t ws) (seen r (record { bytes = o .bytes; cells = cells }) t ws)
 
 -- a list of calls was made on a book, each on what the one before left (it gets the head handed back, unless by a refused opening), and
 -- left this to be seen after each, and this book at the end
@@ -51,7 +53,7 @@ pub record Refines (cs : List Lending) (l : Lent) (ss : List Seen) (end : World)
   -- refusal, count, head, every byte and cell of the outputs, tables, records and all else lent: after each call as the reference
   -- model shows
   pub seen-alike : ss ≡ runs expectedStep cs (expectedFirst l) .0
-  -- the head that stands at the end is the reference model's: its settings, M and number of rows, or zeros where no opening was accepted
+  -- the head that stands at the end is the reference model's: its settings, M, live and held rows, or zeros where no opening was accepted
   pub head-alike : end .head ≡ headOf (referenceAtEnd cs l)
   -- and the one last handed back by a call that was no refused opening, or the zeros where there was none
   pub head-last : end .head ≡ lastHead cs ss (freshHead 0 0 0)
@@ -59,13 +61,19 @@ pub record Refines (cs : List Lending) (l : Lent) (ss : List Seen) (end : World)
   pub lent-alike : end .lent ≡ expectedAtEnd cs l .lent
   -- from the first accepted opening on the N places of each table are filled from its rows, and the eight records from its watched n
   pub lent-filled : shown (referenceAtEnd cs l) (end .lent) ≡ end .lent
-  -- a position has a row at the end exactly if some n from 1 to N lists it
-  pub kept-iff-listed : (p : ℕ)
-      → List·Memᴰ p (positionsIn end) ↔ ((n : ℕ) × (1 ≤ n) × (n ≤ referenceAtEnd cs l .capacity) × List·Memᴰ p (skylineOf (referenceAtEnd cs l) n))
-  -- one without a row is listed by no n up to N, then or after any further quotes
-  pub dropped-never-listed : (more : List (List ℕ)) (p n : ℕ) → p ≤ newest (referenceAtEnd cs l) → n ≤ referenceAtEnd cs l .capacity
-      → (List·Memᴰ p (positionsIn end) → ⊥) → List·Memᴰ p (skylineOf (withQuotes (referenceAtEnd cs l) more) n) → ⊥
+  -- a position has a live row at the end exactly if some n from 1 to N lists it
+  pub live-iff-listed : (p : ℕ)
+      → List·Memᴰ p (livePositionsIn end) ↔ ((n : ℕ) × (1 ≤ n) × (n ≤ referenceAtEnd cs l .capacity) × List·Memᴰ p (skylineOf (referenceAtEnd cs l) n))
+  -- one without a live row is listed by no n up to N, then or after any further quotes
+  pub retired-never-listed : (more : List (List ℕ)) (p n : ℕ) → p ≤ newest (referenceAtEnd cs l) → n ≤ referenceAtEnd cs l .capacity
+      → (List·Memᴰ p (livePositionsIn end) → ⊥) → List·Memᴰ p (skylineOf (withQuotes (referenceAtEnd cs l) more) n) → ⊥
+  -- every position held at the end is the past list with n1 and n2 at its own place
+  pub held-listed-alone : (p : ℕ) → List·Memᴰ p (positionsIn end)
+      → pastOf (referenceAtEnd cs l) (newest (referenceAtEnd cs l) + 1 - p) (newest (referenceAtEnd cs l) + 1 - p) ≡ p ∷ []
+  -- a position has a row at the end, live or retired, exactly if some n1 and n2 with 1 ≤ n1 ≤ n2 ≤ N have it on their past list
+  pub held-iff-past : (p : ℕ)
+      → List·Memᴰ p (positionsIn end) ↔ ((n1 : ℕ) × (n2 : ℕ) × (1 ≤ n1) × (n1 ≤ n2) × (n2 ≤ referenceAtEnd cs l .capacity) × List·Memᴰ p (pastOf (referenceAtEnd cs l) n1 n2))
   -- after each call a watcher of n who applied the changes holds the list of n, and nothing while n is not watched
   pub watcher-holds-list : (n k : ℕ) → watcher n (take k cs) (take k ss) Nothing ≡ heldBy n (referenceAtEnd (take k cs) l)
-  -- once an opening was accepted the book passes the audit, where the quotes are numbers of 32 bits
-  pub passes-audit : SmallQuotes cs → isOpened (referenceAtEnd cs l) ≡ true → auditFinding (end .head) (end .lent .tables) ≡ yes
+  -- once an opening was accepted the book passes the audit
+  pub passes-audit : isOpened (referenceAtEnd cs l) ≡ true → auditFinding (end .head) (end .lent .tables) ≡ yes

@@ -1,4 +1,4 @@
--- 01's marked cases M1 to M10 and its worked tape: one table of questions with their answers, and the answers that the definitions give.
+-- 01's marked cases M1 to M10 and its worked tape, and a tape with past lists: one table of questions with their answers, and the answers that the definitions give.
 use Prim.Native.Nat.{ℕ}
 use mathlib.Core.Bool.{Bool, true, false, _&&_}
 use mathlib.Core.List.{List, [], _∷_, _++_, map}
@@ -7,9 +7,9 @@ use lib.ListN.{length, take, replicate}
 use Rattle.lists.specs.Lists.{run}
 use Rattle.head.specs.declared.Head.{Head}
 use Rattle.head.specs.Replies.{Finding, yes, no, refused}
-use Rattle.model.specs.Rows.{Row, Tables}
+use Rattle.model.specs.Rows.{Row, Tables, liveRows}
 use Rattle.model.specs.Reference.{Reference, opening, skylineOf, rowOf, rowsOf}
-use Rattle.model.specs.Calls.{Call, Open, Quote, Look, Watch, End, Outputs, Lending, Lent, Seen, bookStep, expectedStep, runs, worldFirst, expectedFirst}
+use Rattle.model.specs.Calls.{Call, Open, Quote, Look, Watch, End, Past, Outputs, Lending, Lent, Seen, bookStep, expectedStep, runs, worldFirst, expectedFirst}
 use Rattle.model.specs.Audit.{auditFinding, plays}
 
 -- the two models that calls are run by
@@ -21,13 +21,15 @@ pub data Model : Type 0 where
 pub data Question : Type 0 where
   -- the list of each of these n, after the first k quotes of the tape
   Lists : ℕ → List ℕ → Question
-  -- the positions of the rows, after the first k quotes of the tape
+  -- the positions of the live rows, after the first k quotes of the tape
   Rows : ℕ → Question
   -- the lower end of a position, after the first k quotes of the tape
   LowerEnd : ℕ → ℕ → Question
-  -- the number of rows after each quote of the tape, in a book of N
+  -- the lower and the upper ends of the rows held, after the first k quotes of the tape
+  Ends : ℕ → Question
+  -- the number of live rows after each quote of the tape, in a book of N
   RowCounts : ℕ → Question
-  -- of each of these calls the refusal (0 for none), the newest position, the number of rows, and what is written
+  -- of each of these calls the refusal (0 for none), the newest position, the number of live rows, and what is written
   Lines : Model → List Call → Question
   -- what the audit says of a book: 1 for yes, 0 for no
   Audit : Head → Tables → Question
@@ -67,7 +69,7 @@ tape =
 
 -- tables and watch records of any content, longer than a book of 2 columns and 5 places asks
 abbrev lent : Lent
-lent = record { tables = record { columns = replicate 12 9; positions = replicate 6 9; lowerEnds = replicate 6 9 }; watches = replicate 9 5 }
+lent = record { tables = record { columns = replicate 12 9; positions = replicate 6 9; lowerEnds = replicate 6 9; upperEnds = replicate 6 9 }; watches = replicate 9 5 }
 
 -- each call that takes an n, at N and at N + 1, on an empty book
 abbrev edges : List Call
@@ -102,19 +104,53 @@ print =
     ∷ (0 ∷ 8 ∷ 3 ∷ 7 ∷ 8 ∷ [])
     ∷ []
 
+-- the calls of a tape with past lists
+abbrev pastTape : List Call
+pastTape =
+    Open 2 5 0 ∷ quote 5 5 ∷ quote 3 8 ∷ quote 4 4 ∷ Past 3 3 ∷ Past 2 3 ∷ quote 7 2 ∷ quote 4 4 ∷ quote 6 6 ∷ Past 1 3 ∷ Past 2 3 ∷ Past 3 5
+    ∷ quote 2 9 ∷ quote 4 3 ∷ Past 1 5 ∷ Past 2 5 ∷ Past 2 2 ∷ Past 5 5 ∷ Look 5 ∷ Past 0 5 ∷ Past 1 6 ∷ Past 6 5 ∷ Past 1 0 ∷ []
+
+-- its print, and the refusals 5, 5, 14 and 14 behind it
+abbrev pastPrint : List (List ℕ)
+pastPrint =
+    (0 ∷ 0 ∷ 0 ∷ [])
+    ∷ (0 ∷ 1 ∷ 1 ∷ [])
+    ∷ (0 ∷ 2 ∷ 2 ∷ [])
+    ∷ (0 ∷ 3 ∷ 2 ∷ [])
+    ∷ (0 ∷ 3 ∷ 2 ∷ 1 ∷ [])
+    ∷ (0 ∷ 3 ∷ 2 ∷ 1 ∷ 2 ∷ [])
+    ∷ (0 ∷ 4 ∷ 3 ∷ [])
+    ∷ (0 ∷ 5 ∷ 4 ∷ [])
+    ∷ (0 ∷ 6 ∷ 5 ∷ [])
+    ∷ (0 ∷ 6 ∷ 5 ∷ 4 ∷ 5 ∷ [])
+    ∷ (0 ∷ 6 ∷ 5 ∷ 4 ∷ 5 ∷ [])
+    ∷ (0 ∷ 6 ∷ 5 ∷ 2 ∷ 3 ∷ 4 ∷ [])
+    ∷ (0 ∷ 7 ∷ 5 ∷ [])
+    ∷ (0 ∷ 8 ∷ 3 ∷ [])
+    ∷ (0 ∷ 8 ∷ 3 ∷ 4 ∷ 7 ∷ 8 ∷ [])
+    ∷ (0 ∷ 8 ∷ 3 ∷ 4 ∷ 5 ∷ 7 ∷ [])
+    ∷ (0 ∷ 8 ∷ 3 ∷ 7 ∷ [])
+    ∷ (0 ∷ 8 ∷ 3 ∷ 4 ∷ [])
+    ∷ (0 ∷ 8 ∷ 3 ∷ 4 ∷ 7 ∷ 8 ∷ [])
+    ∷ (5 ∷ 8 ∷ 3 ∷ [])
+    ∷ (5 ∷ 8 ∷ 3 ∷ [])
+    ∷ (14 ∷ 8 ∷ 3 ∷ [])
+    ∷ (14 ∷ 8 ∷ 3 ∷ [])
+    ∷ []
+
 -- ---- the audit's books
 
--- one column, N = 2, low, M = 2, and this many rows
+-- one column, N = 2, low, M = 2, and this many rows, all live
 abbrev book : ℕ → Head
-book count = record { dimensions = 1; capacity = 2; directions = 0; newest = 2; rows = count }
+book count = record { dimensions = 1; capacity = 2; directions = 0; newest = 2; live = count; held = count }
 
 -- a sole row at 2
 abbrev sole : ℕ → Tables
-sole value = record { columns = value ∷ 0 ∷ []; positions = 2 ∷ 0 ∷ []; lowerEnds = 0 ∷ 0 ∷ [] }
+sole value = record { columns = value ∷ 0 ∷ []; positions = 2 ∷ 0 ∷ []; lowerEnds = 0 ∷ 0 ∷ []; upperEnds = 0 ∷ 0 ∷ [] }
 
 -- rows of value 3 at 1 and 5 at 2, the second with this lower end
 abbrev pair : ℕ → Tables
-pair end = record { columns = 3 ∷ 5 ∷ []; positions = 1 ∷ 2 ∷ []; lowerEnds = 0 ∷ end ∷ [] }
+pair end = record { columns = 3 ∷ 5 ∷ []; positions = 1 ∷ 2 ∷ []; lowerEnds = 0 ∷ end ∷ []; upperEnds = 0 ∷ 0 ∷ [] }
 
 -- ---- the table
 
@@ -139,7 +175,7 @@ table =
     -- M8
     ∷ record { question = Audit (book 1) (sole 4294967295); answer = (0 ∷ []) ∷ [] }
     -- M9
-    ∷ record { question = Audit (book 1) (sole 4294967294); answer = (1 ∷ []) ∷ [] }
+    ∷ record { question = Audit (book 1) (sole 4294967294); answer = (0 ∷ []) ∷ [] }
     -- M10
     ∷ record { question = Audit (book 2) (pair 0); answer = (0 ∷ []) ∷ [] }
     ∷ record { question = Audit (book 2) (pair 1); answer = (1 ∷ []) ∷ [] }
@@ -147,6 +183,10 @@ table =
     -- the worked tape
     ∷ record { question = Lines ByReference tape; answer = print }
     ∷ record { question = Lines ByBook tape; answer = print }
+    -- the tape with past lists
+    ∷ record { question = Lines ByReference pastTape; answer = pastPrint }
+    ∷ record { question = Lines ByBook pastTape; answer = pastPrint }
+    ∷ record { question = Ends 8; answer = (0 ∷ 0 ∷ 5 ∷ 0 ∷ 0 ∷ []) ∷ (0 ∷ 8 ∷ 8 ∷ 0 ∷ 0 ∷ []) ∷ [] }
     ∷ []
 
 -- ---- the definitions' answers
@@ -169,10 +209,11 @@ written (Quote x) o = o .bytes
 written (Look n) o = o .cells
 written (Watch n) o = o .bytes
 written (End n) o = []
+written (Past n1 n2) o = o .cells
 
--- the refusal of a call, the newest position, the number of rows, and what is written
+-- the refusal of a call, the newest position, the number of live rows, and what is written
 abbrev line : Call → Seen → List ℕ
-line c s = s .outcome .number ∷ s .outcome .head .newest ∷ s .outcome .head .rows ∷ take (s .outcome .count) (written c (s .outputs))
+line c s = s .outcome .number ∷ s .outcome .head .newest ∷ s .outcome .head .live ∷ take (s .outcome .count) (written c (s .outputs))
 
 -- a line for each call
 abbrev lines : List Call → List Seen → List (List ℕ)
@@ -183,9 +224,10 @@ lines (c ∷ cs) (s ∷ ss) = line c s ∷ lines cs ss
 -- the answer that the definitions give
 abbrev pub answerTo : Question → List (List ℕ)
 answerTo (Lists k ns) = map (skylineOf (after 5 k)) ns
-answerTo (Rows k) = map Row.position (rowsOf (after 5 k)) ∷ []
+answerTo (Rows k) = map Row.position (liveRows (rowsOf (after 5 k))) ∷ []
 answerTo (LowerEnd k p) = (rowOf (after 5 k) p .lowerEnd ∷ []) ∷ []
-answerTo (RowCounts N) = map (λ k. length (rowsOf (after N k)) ∷ []) (run 1 8)
+answerTo (Ends k) = map Row.lowerEnd (rowsOf (after 5 k)) ∷ map Row.upperEnd (rowsOf (after 5 k)) ∷ []
+answerTo (RowCounts N) = map (λ k. length (liveRows (rowsOf (after N k))) ∷ []) (run 1 8)
 answerTo (Lines m cs) = lines cs (seen m cs)
 answerTo (Audit h t) = findingNumbers (auditFinding h t) ∷ []
 

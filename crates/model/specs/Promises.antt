@@ -10,9 +10,10 @@ use Rattle.model.specs.Rows.{Tables}
 use Rattle.model.specs.Book
 use Rattle.model.specs.Calls.{World}
 
--- the three lent tables
-abbrev pub tables : List ℕ → List ℕ → List ℕ → Tables
-tables columns positions lowerEnds = record { columns = columns; positions = positions; lowerEnds = lowerEnds }
+-- the four lent tables
+abbrev pub tables : List ℕ → List ℕ → List ℕ → List ℕ → Tables
+tables columns positions lowerEnds upperEnds =
+    record { columns = columns; positions = positions; lowerEnds = lowerEnds; upperEnds = upperEnds }
 
 -- a book: the head, the lent tables and the watches
 abbrev pub world : Head → Tables → List ℕ → World
@@ -34,6 +35,11 @@ pub record Quoted (h : Head) (x : List ℕ) (t : Tables) (ws before : List ℕ) 
 pub record Looked (h : Head) (n : ℕ) (t : Tables) (before : List ℕ) (r : Reply) (after : List ℕ) : Type 0 where
   pub reply : outcome r ≡ Book.lookReply h n t (length before)
   pub out : after ≡ Book.lookOut h n t before
+
+-- what a look at the past list of n1 and n2 leaves of the output
+pub record PastLooked (h : Head) (n1 n2 : ℕ) (t : Tables) (before : List ℕ) (r : Reply) (after : List ℕ) : Type 0 where
+  pub reply : outcome r ≡ Book.pastReply h n1 n2 t (length before)
+  pub out : after ≡ Book.pastOut h n1 n2 t before
 
 -- what a watch of n leaves of watches ws and output
 pub record Watched (h : Head) (n : ℕ) (t : Tables) (ws before : List ℕ) (r : Reply) (ws' after : List ℕ) : Type 0 where

@@ -1,17 +1,18 @@
 -- The reference model (01: the plain desk): it keeps every quote and works each answer out from the definitions.
-use Prim.Native.Nat.{ℕ, _-_, _*_}
+use Prim.Native.Nat.{ℕ, _+_, _-_, _*_}
 use mathlib.Core.Bool.{Bool, _&&_, _||_, not}
 use mathlib.Core.List.{List, [], _∷_, _++_, map}
 use lib.Dec.{ltb, leb, eqb}
 use lib.ListN.{length, getD}
-use Rattle.lists.specs.Lists.{contains, insert, without}
+use Rattle.lists.specs.Lists.{between, contains, insert, without}
 use Rattle.dominance.specs.Dominance.{dominates}
-use Rattle.skyline.specs.Skyline.{windowStart, skyline, rows, lowerEnd}
+use Rattle.skyline.specs.Skyline.{windowStart, skyline}
+use Rattle.skyline.specs.Past.{lowerEnd, upperEnd}
 use Rattle.head.specs.declared.Head.{Head}
-use Rattle.head.specs.declared.Refusal.the-variants.{Settings, ColumnCount, WindowSize, TapeFull, AlreadyWatched, NoFreeRecord, NotWatched, ShortLoan, ShortOutput}
+use Rattle.head.specs.declared.Refusal.the-variants.{Settings, ColumnCount, WindowSize, TapeFull, AlreadyWatched, NoFreeRecord, NotWatched, ShortLoan, ShortOutput, WindowOrder}
 use Rattle.head.specs.Refusals.{number, firstOf, granted}
 use Rattle.head.specs.Heads.{freshHead, settingsHold, lastPosition}
-use Rattle.model.specs.Rows.{Row}
+use Rattle.model.specs.Rows.{Row, liveRows}
 use Rattle.model.specs.Changes.{join, allChanges, frames}
 
 -- what the reference model holds: the settings (zeros at first), every quote accepted since they were taken, the watched n
@@ -47,17 +48,34 @@ module _ (s : Reference) where
   unfoldable pub skylineOf : ℕ → List ℕ
   skylineOf n = skyline over (windowStart newest n) newest
 
+  -- the skyline of the window that begins with that of n2 and ended n1 quotes back, with the quote at M counted (02, 1/13: the past
+  -- list); empty where it ended before the first
+  unfoldable pub pastOf : ℕ → ℕ → List ℕ
+  pastOf n1 n2 = skyline over (windowStart newest n2) (newest + 1 - n1)
+
   -- the row at a position
   unfoldable pub rowOf : ℕ → Row
-  rowOf p = record { position = p; lowerEnd = lowerEnd over (windowStart newest (s .capacity)) newest p; columns = quoteAt (s .quotes) p }
+  rowOf p = record {
+    position = p;
+    lowerEnd = lowerEnd over (windowStart newest (s .capacity)) p;
+    upperEnd = upperEnd over newest p;
+    columns = quoteAt (s .quotes) p;
+  }
 
-  -- the rows of the window of N, oldest first
+  -- the rows held: one for every position of the window of N, oldest first
   unfoldable pub rowsOf : List Row
-  rowsOf = map rowOf (rows over (windowStart newest (s .capacity)) newest)
+  rowsOf = map rowOf (between (windowStart newest (s .capacity)) newest)
 
   -- the head that a call hands back
   unfoldable pub headOf : Head
-  headOf = record { dimensions = s .dimensions; capacity = s .capacity; directions = s .directions; newest = newest; rows = length rowsOf }
+  headOf = record {
+    dimensions = s .dimensions;
+    capacity = s .capacity;
+    directions = s .directions;
+    newest = newest;
+    live = length (liveRows rowsOf);
+    held = length rowsOf;
+  }
 
   -- the settings were taken by an opening
   unfoldable pub opened : Bool
@@ -66,6 +84,10 @@ module _ (s : Reference) where
   -- n is 0 or above N
   unfoldable pub outside : ℕ → Bool
   outside n = not (leb 1 n && leb n (s .capacity))
+
+  -- n1 is 0, or n2 above N
+  unfoldable pub outsidePast : ℕ → ℕ → Bool
+  outsidePast n1 n2 = eqb n1 0 || ltb (s .capacity) n2
 
   -- with more quotes
   abbrev pub withQuotes : List (List ℕ) → Reference
@@ -85,26 +107,29 @@ module _ (s : Reference) where
 unfoldable pub opening : ℕ → ℕ → ℕ → Reference
 opening d N directions = record { dimensions = d; capacity = N; directions = directions; quotes = []; watched = [] }
 
--- a call on a book: an opening with d, N and directions; a quote with its columns; a look, a watch and the end of a watch with their n
+-- a call on a book: an opening with d, N and directions; a quote with its columns; a look, a watch and the end of a watch with their n;
+-- a look at a past list with its n1 and n2
 pub data Call : Type 0 where
   Open : ℕ → ℕ → ℕ → Call
   Quote : List ℕ → Call
   Look : ℕ → Call
   Watch : ℕ → Call
   End : ℕ → Call
+  Past : ℕ → ℕ → Call
 
--- the lengths of what a call is lent: the three tables, the watch records, and the outputs for frames (bytes) and for positions (cells)
+-- the lengths of what a call is lent: the four tables, the watch records, and the outputs for frames (bytes) and for positions (cells)
 pub record Lengths : Type 0 where
   pub columns : ℕ
   pub positions : ℕ
   pub lowerEnds : ℕ
+  pub upperEnds : ℕ
   pub watches : ℕ
   pub bytes : ℕ
   pub cells : ℕ
 
 -- lengths that are enough for every book and every answer: 1,024 rows of six columns, eight records, 57,400 bytes, 1,024 cells
 abbrev pub ample : Lengths
-ample = record { columns = 6144; positions = 1024; lowerEnds = 1024; watches = 8; bytes = 57400; cells = 1024 }
+ample = record { columns = 6144; positions = 1024; lowerEnds = 1024; upperEnds = 1024; watches = 8; bytes = 57400; cells = 1024 }
 
 -- what the model tells of a call: 0 or the number of its refusal, the head and the count handed back, what is written at the start of
 -- each output, and the model after it
@@ -118,7 +143,7 @@ pub record Told : Type 0 where
 
 -- a table or the watch list is too short for these settings
 unfoldable pub tooShort : Lengths → ℕ → ℕ → Bool
-tooShort l d N = ltb (l .columns) (N * d) || ltb (l .positions) N || ltb (l .lowerEnds) N || ltb (l .watches) 8
+tooShort l d N = ltb (l .columns) (N * d) || ltb (l .positions) N || ltb (l .lowerEnds) N || ltb (l .upperEnds) N || ltb (l .watches) 8
 
 -- a call with these refusals, tried in order: if accepted it tells the next model, the count, and what is written as bytes and as
 -- cells; a refused one leaves the model as it is
@@ -157,3 +182,8 @@ referenceStep (Watch n) l s =
 referenceStep (End n) l s =
     tells ((not (opened s), number Settings) ∷ (outside s n, number WindowSize) ∷ (not (contains n (s .watched)), number NotWatched) ∷ [])
     (headOf s) 0 [] [] (withWatched s (without n (s .watched))) s
+referenceStep (Past n1 n2) l s =
+    let written = pastOf s n1 n2 in
+    tells ((not (opened s), number Settings) ∷ (outsidePast s n1 n2, number WindowSize) ∷ (ltb n2 n1, number WindowOrder)
+    ∷ (ltb (l .cells) (length written), number ShortOutput) ∷ [])
+    (headOf s) (length written) [] written s s

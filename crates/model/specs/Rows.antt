@@ -1,4 +1,4 @@
--- The rows of a book, the three lent tables that hold them, and what a quote does to rows of any content.
+-- The rows of a book, the four lent tables that hold them, and what a quote does to rows of any content.
 use Prim.Native.Nat.{ℕ, _+_, _-_, _*_}
 use mathlib.Core.Bool.{Bool, _&&_, not, cond}
 use mathlib.Core.List.{List, [], _∷_, _++_, map}
@@ -6,25 +6,28 @@ use lib.Dec.{eqb}
 use lib.ListN.{getD, take, drop}
 use Rattle.lists.specs.Lists.{filter, lastOr, flat, run, padded}
 use Rattle.dominance.specs.Dominance.{dominates}
-use Rattle.skyline.specs.Skyline.{stabbed}
+use Rattle.skyline.specs.Past.{covers}
 
--- a row: position, lower end and columns
+-- a row: position, lower end, upper end and columns
 pub record Row : Type 0 where
   pub position : ℕ
   pub lowerEnd : ℕ
+  pub upperEnd : ℕ
   pub columns : List ℕ
 
--- the three lent tables of cells
+-- the four lent tables of cells
 pub record Tables : Type 0 where
   pub columns : List ℕ
   pub positions : List ℕ
   pub lowerEnds : List ℕ
+  pub upperEnds : List ℕ
 
 -- the row at place i of the tables, of d columns
 unfoldable pub rowAt : ℕ → Tables → ℕ → Row
 rowAt d t i = record {
   position = getD (t .positions) i 0;
   lowerEnd = getD (t .lowerEnds) i 0;
+  upperEnd = getD (t .upperEnds) i 0;
   columns = take d (drop (i * d) (t .columns));
 }
 
@@ -38,7 +41,20 @@ filled d N rs t = record {
   columns = padded (N * d) (flat (map Row.columns rs)) (t .columns);
   positions = padded N (map Row.position rs) (t .positions);
   lowerEnds = padded N (map Row.lowerEnd rs) (t .lowerEnds);
+  upperEnds = padded N (map Row.upperEnd rs) (t .upperEnds);
 }
+
+-- a row is live: its upper end is 0; else it is retired
+unfoldable pub isLive : Row → Bool
+isLive r = eqb (r .upperEnd) 0
+
+-- the live rows, oldest first
+unfoldable pub liveRows : List Row → List Row
+liveRows rs = filter isLive rs
+
+-- the list of the window from a to b: the positions of the rows that it covers
+unfoldable pub listed : ℕ → ℕ → List Row → List ℕ
+listed a b rs = map Row.position (filter (λ r. covers a b (r .lowerEnd) (r .position) (r .upperEnd)) rs)
 
 -- the position that expires (01: ages out) with the quote behind the newest, or 0
 unfoldable pub expiring : ℕ → ℕ → ℕ
@@ -48,30 +64,31 @@ expiring newest N = newest + 1 - N
 unfoldable pub renamed : ℕ → ℕ → ℕ
 renamed g lower = cond (eqb lower g) 0 lower
 
--- a row once position g has expired
-unfoldable pub renamedRow : ℕ → Row → Row
-renamedRow g r = record { position = r .position; lowerEnd = renamed g (r .lowerEnd); columns = r .columns }
-
--- the list of the window that starts at s: the positions of the rows that s stabs
-unfoldable pub listed : ℕ → List Row → List ℕ
-listed s rs = map Row.position (filter (λ r. stabbed s (r .lowerEnd) (r .position)) rs)
-
 module _ (d directions : ℕ) where
-  -- a row stays when quote x comes and position g expires: x does not dominate it, and it is not at g
-  unfoldable pub remains : List ℕ → ℕ → Row → Bool
-  remains x g r = not (eqb (r .position) g) && not (dominates d directions x (r .columns))
+  -- a younger quote x dominates this row
+  unfoldable pub overOlder : List ℕ → Row → Bool
+  overOlder x r = dominates d directions x (r .columns)
 
-  -- the rows that stay when quote x comes and position g expires
-  unfoldable pub remaining : List ℕ → ℕ → List Row → List Row
-  remaining x g rs = filter (remains x g) rs
+  -- this row dominates a younger quote x
+  unfoldable pub overYounger : Row → List ℕ → Bool
+  overYounger r x = dominates d directions (r .columns) x
 
-  -- the lower end of quote x among these rows: the position of the youngest that dominates it, or 0
+  -- a row's upper end once quote x stands at position p: p if the row was live and x dominates it
+  unfoldable pub retiredBy : List ℕ → ℕ → Row → ℕ
+  retiredBy x p r = cond (eqb (r .upperEnd) 0 && overOlder x r) p (r .upperEnd)
+
+  -- a row once quote x stands at position p and position g has expired
+  unfoldable pub rowAfter : List ℕ → ℕ → ℕ → Row → Row
+  rowAfter x p g r = record { position = r .position; lowerEnd = renamed g (r .lowerEnd); upperEnd = retiredBy x p r; columns = r .columns }
+
+  -- the lower end of quote x among these rows, live or retired: the position of the youngest that dominates it, or 0
   unfoldable pub lowerEndAmong : List ℕ → List Row → ℕ
-  lowerEndAmong x rs = lastOr 0 (map Row.position (filter (λ r. dominates d directions (r .columns) x) rs))
+  lowerEndAmong x rs = lastOr 0 (map Row.position (filter (λ r. overYounger r x) rs))
 
   -- the rows after quote x came behind the newest, in a book of N
   unfoldable pub rowsAfter : ℕ → ℕ → List ℕ → List Row → List Row
   rowsAfter N newest x rs =
-      let left = remaining x (expiring newest N) rs in
-      let row : Row = record { position = newest + 1; lowerEnd = lowerEndAmong x left; columns = x } in
-      map (renamedRow (expiring newest N)) left ++ (row ∷ [])
+      let g = expiring newest N in
+      let left = filter (λ r. not (eqb (r .position) g)) rs in
+      let row : Row = record { position = newest + 1; lowerEnd = lowerEndAmong x left; upperEnd = 0; columns = x } in
+      map (rowAfter x (newest + 1) g) left ++ (row ∷ [])

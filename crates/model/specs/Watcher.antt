@@ -7,7 +7,7 @@ use lib.ListN.{length, take}
 use Rattle.lists.specs.Lists.{contains, insert, without}
 use Rattle.head.specs.Refusals.{granted}
 use Rattle.frames.specs.declared.Message.{Message}
-use Rattle.frames.specs.declared.Message.the-variants.{Quote, Sized, Change, Open, End, Refused}
+use Rattle.frames.specs.declared.Message.the-variants.{Quote, Sized, Change, Pair, Open, End, Refused}
 use Rattle.frames.specs.Kinds.{leaveKind, joinKind}
 use Rattle.frames.specs.Frames.{messagesFrom}
 use Rattle.model.specs.Reference.{Reference, skylineOf}
@@ -22,6 +22,7 @@ unfoldable pub heeds : ℕ → List ℕ → Message → List ℕ
 heeds n held (Quote k) = held
 heeds n held (Sized k m) = held
 heeds n held (Change k m p) = cond (eqb m n) (applied k p held) held
+heeds n held (Pair k n1 n2) = held
 heeds n held (Open d N directions) = held
 heeds n held End = held
 heeds n held (Refused k) = held
@@ -50,6 +51,7 @@ watcherStep n (Call.Quote x) seen held = reads n seen held
 watcherStep n (Call.Look m) seen held = held
 watcherStep n (Call.Watch m) seen held = reads n seen (granted (seen .outcome .number) (cond (eqb m n) (Holding []) held) held)
 watcherStep n (Call.End m) seen held = granted (seen .outcome .number) (cond (eqb m n) Nothing held) held
+watcherStep n (Call.Past n1 n2) seen held = held
 
 -- what the watcher of n holds after a list of calls of which this was seen
 unfoldable pub watcher : ℕ → List Lending → List Seen → Held → Held

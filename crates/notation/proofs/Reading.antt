@@ -12,15 +12,15 @@ use lib.Seq.{drop-cons}
 use borrow.Author.Tests.{lt-ltb, le-ltb, ltb-true, ltb-false, eq-eqb, ne-eqb, not-true, not-false}
 use Rattle.lists.proofs.Booleans.{and-left, and-right}
 use Rattle.head.specs.Refusals.{firstOf, granted}
-use Rattle.frames.specs.Kinds.{lookKind, watchKind, unwatchKind}
+use Rattle.frames.specs.Kinds.{lookKind, watchKind, unwatchKind, pastKind}
 use Rattle.frames.specs.Frames.{framed, frame}
 use Rattle.frames.specs.Writing.{writeAnswer, Wrote}
 use Rattle.frames.specs.declared.Written.{Written}
 use Rattle.frames.specs.declared.Message.{Message}
-use Rattle.frames.specs.declared.Message.the-variants.{Quote, Sized, Open}
+use Rattle.frames.specs.declared.Message.the-variants.{Quote, Sized, Pair, Open}
 use Rattle.notation.specs.declared.Fields.{Fields}
 use Rattle.notation.specs.Fields.{noField, after, fieldsFrom}
-use Rattle.notation.specs.Lines.{nothing, opens, opening, quoteOf, fits, ofNumber, said, saidBy, lineLength}
+use Rattle.notation.specs.Lines.{nothing, opens, opening, quoteOf, pairs, pairOf, fits, ofNumber, said, saidBy, lineLength}
 
 -- ---- messages
 
@@ -59,6 +59,25 @@ module _ (f : Fields) where
   unfolding quoteOf
   quote-of h k = rw (le-ltb (f .count) 1 h, le-ltb 6 (f .count) k)
 
+  -- the two numbers of a pair fit two bytes each
+  pub pairs-fit : pairs f ≡ true → (getD (f .numbers) 0 0 < 65536) × (getD (f .numbers) 1 0 < 65536)
+  unfolding pairs
+  pairs-fit t =
+      let two = eqb (f .count) 2 in
+      let one = ltb (getD (f .numbers) 0 0) 65536 in
+      let last = ltb (getD (f .numbers) 1 0) 65536 in (
+        ltb-true (getD (f .numbers) 0 0) 65536 (and-right two one (and-left (two && one) last t)),
+        ltb-true (getD (f .numbers) 1 0) 65536 (and-right (two && one) last t),
+      )
+
+  pub pair-not : (kind : ℕ) → pairs f ≡ false → nothing ≡ pairOf kind f
+  unfolding pairOf
+  pair-not kind t = rw t
+
+  pub pair-of : (kind : ℕ) → pairs f ≡ true → Pair kind (getD (f .numbers) 0 0) (getD (f .numbers) 1 0) ≡ pairOf kind f
+  unfolding pairOf
+  pair-of kind t = rw t
+
   pub fits-two : fits f ≡ true → getD (f .numbers) 0 0 < 65536
   unfolding fits
   fits-two t = ltb-true (getD (f .numbers) 0 0) 65536 (and-right (eqb (f .count) 1) (ltb (getD (f .numbers) 0 0) 65536) t)
@@ -79,13 +98,18 @@ module _ (f : Fields) where
         said-quote e = rw (t, ne-eqb letter 79 o, eq-eqb letter 81 e)
 
         module _ (q : letter ≡ 81 → ⊥) where
-          pub said-not : fits f ≡ false → nothing ≡ said letter f
+          pub said-past : letter ≡ 80 → pairOf pastKind f ≡ said letter f
           unfolding said
-          said-not h = rw (t, ne-eqb letter 79 o, ne-eqb letter 81 q, h)
+          said-past e = rw (t, ne-eqb letter 79 o, ne-eqb letter 81 q, eq-eqb letter 80 e)
 
-          pub said-number : fits f ≡ true → ofNumber letter (getD (f .numbers) 0 0) ≡ said letter f
-          unfolding said
-          said-number h = rw (t, ne-eqb letter 79 o, ne-eqb letter 81 q, h)
+          module _ (p : letter ≡ 80 → ⊥) where
+            pub said-not : fits f ≡ false → nothing ≡ said letter f
+            unfolding said
+            said-not h = rw (t, ne-eqb letter 79 o, ne-eqb letter 81 q, ne-eqb letter 80 p, h)
+
+            pub said-number : fits f ≡ true → ofNumber letter (getD (f .numbers) 0 0) ≡ said letter f
+            unfolding said
+            said-number h = rw (t, ne-eqb letter 79 o, ne-eqb letter 81 q, ne-eqb letter 80 p, h)
 
 -- the letters of a number
 module _ (letter n : ℕ) where

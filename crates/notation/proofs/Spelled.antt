@@ -14,12 +14,12 @@ use borrow.Author.Tests.{ltb-true, ltb-false, lt-ltb, le-ltb, ne-eqb}
 use Rattle.lists.specs.Lists.{flat}
 use Rattle.lists.proofs.Booleans.{either, and-left, and-right}
 use Rattle.text.specs.Text.{digitsUpTo, digits, field, line}
-use Rattle.frames.specs.declared.Message.the-variants.{Quote, Sized, Open}
-use Rattle.frames.specs.Kinds.{lookKind, watchKind, unwatchKind}
+use Rattle.frames.specs.declared.Message.the-variants.{Quote, Sized, Pair, Open}
+use Rattle.frames.specs.Kinds.{lookKind, watchKind, unwatchKind, pastKind}
 use Rattle.notation.specs.declared.Fields.{Fields}
 use Rattle.notation.specs.Fields.{noField, begun, grown, after, fieldsFrom}
 use Rattle.notation.specs.declared.Said.{Said}
-use Rattle.notation.specs.Lines.{opens, opening, quoteOf, fits, ofNumber, said, saidBy}
+use Rattle.notation.specs.Lines.{opens, opening, quoteOf, pairs, pairOf, fits, ofNumber, said, saidBy}
 use Rattle.notation.proofs.Steps.{begun-next, grown-next, after-space, after-digit}
 
 -- bytes behind bytes
@@ -153,6 +153,15 @@ opening-read d N directions h k j =
     (line-read 79 (d ∷ N ∷ directions ∷ []) (0 ∷ 0 ∷ 0 ∷ []) refl (omega arith)
     (rw (lt-ltb d 4294967296 (omega arith), lt-ltb N 4294967296 (omega arith), lt-ltb directions 4294967296 (omega arith))))
     ∙ rw (lt-ltb d 256 h, lt-ltb N 65536 k, lt-ltb directions 256 j)
+
+-- the line of a past look is read back
+pub past-read : (n1 n2 : ℕ) → n1 < 65536 → n2 < 65536 → saidBy (spelled 80 (n1 ∷ n2 ∷ [])) .message ≡ Pair pastKind n1 n2
+unfolding noField said fieldsOf pairOf pairs small
+past-read n1 n2 h k =
+    ap (λ (s : Said). s .message)
+    (line-read 80 (n1 ∷ n2 ∷ []) (0 ∷ 0 ∷ 0 ∷ 0 ∷ []) refl (omega arith)
+    (rw (lt-ltb n1 4294967296 (omega arith), lt-ltb n2 4294967296 (omega arith))))
+    ∙ rw (lt-ltb n1 65536 h, lt-ltb n2 65536 k)
 
 -- the line of a quote is read back, with its columns
 pub quote-read : (columns behind : List ℕ) → replicate (length columns) 0 ++ behind ≡ noField .numbers → 1 ≤ length columns → length columns ≤ 6 → small columns ≡ true

@@ -6,8 +6,8 @@ use lib.Dec.{ltb, eqb}
 use lib.ListN.{getD}
 use Rattle.head.specs.declared.Refusal.the-variants.{UnknownKind}
 use Rattle.frames.specs.declared.Message.{Message}
-use Rattle.frames.specs.declared.Message.the-variants.{Quote, Sized, Open, Refused}
-use Rattle.frames.specs.Kinds.{lookKind, watchKind, unwatchKind}
+use Rattle.frames.specs.declared.Message.the-variants.{Quote, Sized, Pair, Open, Refused}
+use Rattle.frames.specs.Kinds.{lookKind, watchKind, unwatchKind, pastKind}
 use Rattle.notation.specs.declared.Fields.{Fields}
 use Rattle.notation.specs.declared.Said.{Said}
 use Rattle.notation.specs.Fields.{noField, fieldsFrom}
@@ -29,6 +29,14 @@ opening f = cond (opens f) (Open (getD (f .numbers) 0 0) (getD (f .numbers) 1 0)
 unfoldable pub quoteOf : Fields → Message
 quoteOf f = cond (ltb (f .count) 1) nothing (cond (ltb 6 (f .count)) nothing (Quote (f .count)))
 
+-- two numbers that fit two bytes each
+unfoldable pub pairs : Fields → Bool
+pairs f = (eqb (f .count) 2 && ltb (getD (f .numbers) 0 0) 65536) && ltb (getD (f .numbers) 1 0) 65536
+
+-- the message of this kind with two numbers
+unfoldable pub pairOf : ℕ → Fields → Message
+pairOf kind f = cond (pairs f) (Pair kind (getD (f .numbers) 0 0) (getD (f .numbers) 1 0)) nothing
+
 -- a single number that fits two bytes
 unfoldable pub fits : Fields → Bool
 fits f = eqb (f .count) 1 && ltb (getD (f .numbers) 0 0) 65536
@@ -40,13 +48,14 @@ ofNumber letter n =
     (cond (eqb letter 87) (Sized watchKind n)
     (cond (eqb letter 85) (Sized unwatchKind n) nothing))
 
--- the message of a letter and its fields: O, Q, L, W or U
+-- the message of a letter and its fields: O, Q, P, L, W or U
 unfoldable pub said : ℕ → Fields → Message
 said letter f =
     cond (not (f .fair) || f .empty) nothing
     (cond (eqb letter 79) (opening f)
     (cond (eqb letter 81) (quoteOf f)
-    (cond (fits f) (ofNumber letter (getD (f .numbers) 0 0)) nothing)))
+    (cond (eqb letter 80) (pairOf pastKind f)
+    (cond (fits f) (ofNumber letter (getD (f .numbers) 0 0)) nothing))))
 
 -- what a line says
 unfoldable pub saidBy : List ℕ → Said

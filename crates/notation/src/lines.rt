@@ -3,12 +3,13 @@ ghost use mathlib.Core.Path.{_≡_};
 ghost use Prim.Native.Nat.{_+_};
 ghost use lib.ListN.{drop};
 ghost use Rattle.frames.specs.Writing.{Wrote};
-ghost use Rattle.notation.specs.Lines.{opens, opening, quoteOf, fits, said, saidBy, lineLength};
+ghost use Rattle.notation.specs.Lines.{opens, opening, quoteOf, pairs, pairOf, fits, said, saidBy, lineLength};
 use crate::Fields;
 use crate::Said;
 use crate::scanning::fields_from;
 use frames::LOOK;
 use frames::Message;
+use frames::PAST;
 use frames::UNWATCH;
 use frames::WATCH;
 use frames::Written;
@@ -47,6 +48,25 @@ fn quote(fields: Fields) -> Message
     Message::Quote(count as u8)
 }
 
+// Whether the fields are two numbers that fit two bytes each.
+fn pairs(fields: Fields) -> bool
+    ensures { λ r. ⌜ r ≡ pairs fields ⌝ }
+{
+    let numbers = fields.numbers;
+    (fields.count == 2) & (numbers[0] < 65536) & (numbers[1] < 65536)
+}
+
+// The message of this kind with two numbers.
+fn pair(kind: u8, fields: Fields) -> Message
+    ensures { λ r. ⌜ r ≡ pairOf kind fields ⌝ }
+{
+    let numbers = fields.numbers;
+    if !pairs(fields) {
+        return Message::Refused(Refusal::UnknownKind);
+    }
+    Message::Pair(kind, numbers[0] as u16, numbers[1] as u16)
+}
+
 // Whether the fields are a single number that fits two bytes.
 fn fits(fields: Fields) -> bool
     ensures { λ r. ⌜ r ≡ fits fields ⌝ }
@@ -68,6 +88,9 @@ fn message_of(letter: u8, fields: Fields) -> Message
     }
     if letter == 81 {
         return quote(fields);
+    }
+    if letter == 80 {
+        return pair(PAST, fields);
     }
     if !fits(fields) {
         return Message::Refused(Refusal::UnknownKind);

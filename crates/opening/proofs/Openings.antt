@@ -48,14 +48,14 @@ module _ (d N directions : ℕ) (t : Tables) {h : Head} {a : Answer} (fresh : h 
         }
 
     -- what an accepted opening leaves
-    pub open-done : {cs ps ls : List ℕ} → a ≡ Accepted → cs ≡ padded (N * d) (take 0 (t .columns)) (t .columns) → ps ≡ padded N (take 0 (t .positions)) (t .positions)
-        → ls ≡ padded N (take 0 (t .lowerEnds)) (t .lowerEnds)
-        → Opened d N directions t ws (record { answer = a; head = h; count = 0 }) (record { columns = cs; positions = ps; lowerEnds = ls }) empties
+    pub open-done : {cs ps ls us : List ℕ} → a ≡ Accepted → cs ≡ padded (N * d) (take 0 (t .columns)) (t .columns) → ps ≡ padded N (take 0 (t .positions)) (t .positions)
+        → ls ≡ padded N (take 0 (t .lowerEnds)) (t .lowerEnds) → us ≡ padded N (take 0 (t .upperEnds)) (t .upperEnds)
+        → Opened d N directions t ws (record { answer = a; head = h; count = 0 }) (record { columns = cs; positions = ps; lowerEnds = ls; upperEnds = us }) empties
     unfolding openReply openTables openWatches filled flat padded
-    open-done f c p l =
+    open-done f c p l u =
         let judged = e ∙ loan-opens d N directions t ws fresh eight in
         record {
           reply = accepted-reply judged f (freshHead 0 0 0) fresh refl;
-          lent = accepted-left judged f t (rw (c, p, l));
+          lent = accepted-left judged f t (rw (c, p, l, u));
           watches = accepted-left judged f ws (let beyond : drop 8 ws ≡ [] = drop-of-length-le ws {i = 8} (omega arith) in rw beyond);
         }

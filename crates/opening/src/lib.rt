@@ -15,14 +15,13 @@ pub fn open(
     columns: &mut [u32],
     positions: &mut [u32],
     lower_ends: &mut [u32],
+    upper_ends: &mut [u32],
     watches: [u32; 8],
 ) -> WatchReply
-    ensures { λ r. ⌜ Opened dimensions capacity directions
-        (tables (now (columns .entry)) (now (positions .entry)) (now («lower_ends» .entry))) watches (r .reply)
-        (tables (now (columns .exit)) (now (positions .exit)) (now («lower_ends» .exit))) (r .watches) ⌝ }
+    ensures { λ r. ⌜ Opened dimensions capacity directions (tables (now (columns .entry)) (now (positions .entry)) (now («lower_ends» .entry)) (now («upper_ends» .entry))) watches (r .reply) (tables (now (columns .exit)) (now (positions .exit)) (now («lower_ends» .exit)) (now («upper_ends» .exit))) (r .watches) ⌝ }
 {
     let head = Head::fresh(dimensions, capacity, directions);
-    let answer = judge_loan(head, columns, positions, lower_ends);
+    let answer = judge_loan(head, columns, positions, lower_ends, upper_ends);
     match answer {
         Answer::Accepted => {}
         Answer::Refused(_) => {
@@ -40,6 +39,7 @@ pub fn open(
     clear(columns, 0, n * (dimensions as usize));
     clear(positions, 0, n);
     clear(lower_ends, 0, n);
+    clear(upper_ends, 0, n);
     WatchReply {
         reply: Reply {
             answer,

@@ -1,22 +1,14 @@
-// The desk of the book player: a head, eight records and how much of each buffer is lent, and the calls that its lines
-// ask for.
-mod making;
+// The desk of the book player: a head, eight records and how much of each buffer is lent, and what a line changes
+// without a call.
 mod poking;
 
+use head::Answer;
 use head::Head;
 use head::Reply;
 use head::Verdict;
 use head::Watch;
-pub use making::play_audit;
-pub use making::play_end;
-pub use making::play_look;
-pub use making::play_open;
-pub use making::play_quote;
-pub use making::play_watch;
 pub use poking::begin;
-pub use poking::play_cell;
-pub use poking::play_head;
-pub use poking::play_lend;
+pub use poking::poke;
 
 // What is to be printed of a line: nothing, that it cannot be taken, a reply with bytes or with cells, a verdict, or
 // the tables.
@@ -34,6 +26,7 @@ pub struct Loan {
     pub columns: usize,
     pub positions: usize,
     pub lower_ends: usize,
+    pub upper_ends: usize,
     pub out: usize,
 }
 
@@ -48,6 +41,29 @@ pub struct Desk {
 }
 
 impl Desk {
+    // The desk before the first line: a head of zeros, no watches, every buffer lent whole.
+    pub fn first() -> Desk {
+        let zeros = Head::fresh(0, 0, 0);
+        Desk {
+            head: zeros,
+            records: [Watch { n: 0 }; 8],
+            loan: Loan {
+                columns: 6144,
+                positions: 1024,
+                lower_ends: 1024,
+                upper_ends: 1024,
+                out: 57400,
+            },
+            seen: Seen::Nothing,
+            reply: Reply {
+                answer: Answer::Accepted,
+                head: zeros,
+                count: 0,
+            },
+            verdict: Verdict::No,
+        }
+    }
+
     // The desk with something else to print.
     pub fn showing(self, seen: Seen) -> Desk {
         let head = self.head;

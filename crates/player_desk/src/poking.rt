@@ -1,4 +1,4 @@
-// What is changed without a call: lengths lent, cells, the head; and what a line is to print before any call.
+// What a line changes without a call: lengths lent, the head, a cell; and what it is to print before any call.
 use crate::Desk;
 use crate::Loan;
 use crate::Seen;
@@ -8,27 +8,13 @@ use player_lines::Command;
 use player_lines::Line;
 use player_lines::Name;
 
-// What a line prints unless it is a call.
-fn seen_of(command: Command) -> Seen {
-    match command {
-        Command::Unread => Seen::Unread,
-        Command::Show => Seen::Tables,
-        _ => Seen::Nothing,
-    }
-}
-
-// The desk before a line is played.
-pub fn begin(desk: Desk, line: Line) -> Desk {
-    let command = line.command;
-    desk.showing(seen_of(command))
-}
-
 // How long a buffer is: the name of none has no length.
 fn full(name: Name) -> usize {
     match name {
         Name::Columns => 6144,
         Name::Positions => 1024,
         Name::Lower => 1024,
+        Name::Upper => 1024,
         Name::Out => 57400,
         _ => 0,
     }
@@ -56,6 +42,9 @@ fn lent(loan: Loan, name: Name, k: usize) -> Loan {
         Name::Lower => {
             now.lower_ends = k;
         }
+        Name::Upper => {
+            now.upper_ends = k;
+        }
         _ => {
             now.out = k;
         }
@@ -64,40 +53,46 @@ fn lent(loan: Loan, name: Name, k: usize) -> Loan {
 }
 
 // A length lent from now on; one beyond its buffer is a line that cannot be taken.
-pub fn play_lend(desk: Desk, line: Line) -> Desk {
-    let command = line.command;
-    if let Command::Lend = command {
-        let numbers = line.numbers;
-        let name = line.name;
-        let k = numbers[0] as usize;
-        if full(name) < k {
-            return desk.showing(Seen::Unread);
-        }
-        if !can_lend(name) {
-            return desk.showing(Seen::Unread);
-        }
-        let loan = desk.loan;
-        return desk.lending(lent(loan, name, k));
+fn lend(desk: Desk, line: Line) -> Desk {
+    let numbers = line.numbers;
+    let name = line.name;
+    let k = numbers[0] as usize;
+    if full(name) < k {
+        return desk.showing(Seen::Unread);
     }
-    desk
+    if !can_lend(name) {
+        return desk.showing(Seen::Unread);
+    }
+    let loan = desk.loan;
+    desk.lending(lent(loan, name, k))
 }
 
 // The head replaced.
-pub fn play_head(desk: Desk, line: Line) -> Desk {
+fn replace_head(desk: Desk, line: Line) -> Desk {
+    let numbers = line.numbers;
+    let records = desk.records;
+    let head = Head {
+        dimensions: numbers[0],
+        capacity: numbers[1],
+        directions: numbers[2],
+        newest: numbers[3],
+        live: numbers[4],
+        held: numbers[5],
+    };
+    desk.holding(head, records)
+}
+
+// The desk before a line's call or its cell: what is lent, the head, and what the line prints unless it is a call.
+pub fn begin(desk: Desk, line: Line) -> Desk {
     let command = line.command;
-    if let Command::Head = command {
-        let numbers = line.numbers;
-        let records = desk.records;
-        let head = Head {
-            dimensions: numbers[0],
-            capacity: numbers[1],
-            directions: numbers[2],
-            newest: numbers[3],
-            rows: numbers[4],
-        };
-        return desk.holding(head, records);
+    let begun = desk.showing(Seen::Nothing);
+    match command {
+        Command::Unread => begun.showing(Seen::Unread),
+        Command::Show => begun.showing(Seen::Tables),
+        Command::Lend => lend(begun, line),
+        Command::Head => replace_head(begun, line),
+        _ => begun,
     }
-    desk
 }
 
 // A table with a cell poked, where it has one.
@@ -122,26 +117,24 @@ fn marked(desk: Desk, i: usize, v: u32) -> Desk {
 }
 
 // A cell of a table or a record poked.
-pub fn play_cell(
+pub fn poke(
     desk: Desk,
     line: Line,
     columns: &mut [u32],
     positions: &mut [u32],
     lower_ends: &mut [u32],
+    upper_ends: &mut [u32],
 ) -> Desk {
-    let command = line.command;
     let name = line.name;
     let numbers = line.numbers;
     let i = numbers[0] as usize;
     let v = numbers[1];
-    if let Command::Cell = command {
-        return match name {
-            Name::Columns => poked(desk, columns, i, v),
-            Name::Positions => poked(desk, positions, i, v),
-            Name::Lower => poked(desk, lower_ends, i, v),
-            Name::Watches => marked(desk, i, v),
-            _ => desk.showing(Seen::Unread),
-        };
+    match name {
+        Name::Columns => poked(desk, columns, i, v),
+        Name::Positions => poked(desk, positions, i, v),
+        Name::Lower => poked(desk, lower_ends, i, v),
+        Name::Upper => poked(desk, upper_ends, i, v),
+        Name::Watches => marked(desk, i, v),
+        _ => desk.showing(Seen::Unread),
     }
-    desk
 }

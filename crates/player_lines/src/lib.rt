@@ -11,6 +11,7 @@ pub enum Command {
     Open,
     Quote,
     Look,
+    Past,
     Watch,
     End,
     Audit,
@@ -26,6 +27,7 @@ pub enum Name {
     Columns,
     Positions,
     Lower,
+    Upper,
     Watches,
     Out,
 }

@@ -104,6 +104,9 @@ fn command_of(line: &[u8], to: usize) -> Command {
     if spells(line, 0, to, b"look") {
         return Command::Look;
     }
+    if spells(line, 0, to, b"past") {
+        return Command::Past;
+    }
     if spells(line, 0, to, b"watch") {
         return Command::Watch;
     }
@@ -139,6 +142,9 @@ fn name_of(line: &[u8], from: usize, to: usize) -> Name {
     if spells(line, from, to, b" lower") {
         return Name::Lower;
     }
+    if spells(line, from, to, b" upper") {
+        return Name::Upper;
+    }
     if spells(line, from, to, b" watches") {
         return Name::Watches;
     }
@@ -163,12 +169,13 @@ fn fits(command: Command, count: usize) -> bool {
         Command::Open => count == 3,
         Command::Quote => true,
         Command::Look => count == 1,
+        Command::Past => count == 2,
         Command::Watch => count == 1,
         Command::End => count == 1,
         Command::Audit => count == 0,
         Command::Lend => count == 1,
         Command::Cell => count == 2,
-        Command::Head => count == 5,
+        Command::Head => count == 6,
         Command::Show => count == 0,
         _ => false,
     }

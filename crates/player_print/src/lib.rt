@@ -25,14 +25,6 @@ pub fn flush(print: Print, gathered: &[u8]) -> Print {
     now
 }
 
-// Writes out what is gathered, unless a line was found.
-pub fn flush_unless(found: bool, print: Print, gathered: &[u8]) -> Print {
-    if found {
-        return print;
-    }
-    flush(print, gathered)
-}
-
 // What is gathered where there is this much room behind it; else it is written out.
 fn with_room(print: Print, room: usize, gathered: &[u8]) -> Print {
     let used = print.used;
@@ -144,7 +136,8 @@ fn put_reply(print: Print, desk: Desk, gathered: &mut [u8]) -> Print {
         head.capacity,
         head.directions,
         head.newest,
-        head.rows,
+        head.live,
+        head.held,
     ];
     put_short(print, b'A', &numbers, gathered)
 }
@@ -216,6 +209,7 @@ fn put_tables(
     columns: &[u32],
     positions: &[u32],
     lower_ends: &[u32],
+    upper_ends: &[u32],
     gathered: &mut [u8],
 ) -> Print {
     let head = desk.head;
@@ -223,6 +217,7 @@ fn put_tables(
     let mut now = put_cells(print, b'C', columns, column_cells(head), gathered);
     now = put_cells(now, b'P', positions, n, gathered);
     now = put_cells(now, b'E', lower_ends, n, gathered);
+    now = put_cells(now, b'U', upper_ends, n, gathered);
     put_records(now, desk, gathered)
 }
 
@@ -252,7 +247,7 @@ fn put_unread(print: Print, gathered: &mut [u8]) -> Print {
     put_short(print, b'?', &numbers, gathered)
 }
 
-// Prints what was seen of the line that was found.
+// Prints what was seen of the line that was found; where none was found, writes out what is gathered.
 pub fn print_line(
     print: Print,
     found: bool,
@@ -260,12 +255,13 @@ pub fn print_line(
     columns: &[u32],
     positions: &[u32],
     lower_ends: &[u32],
+    upper_ends: &[u32],
     out: &[u8],
     cells: &[u32],
     gathered: &mut [u8],
 ) -> Print {
     if !found {
-        return print;
+        return flush(print, gathered);
     }
     let mut now = print;
     now.lines = std::num::wrapping_add_u32(print.lines, 1);
@@ -276,6 +272,14 @@ pub fn print_line(
         Seen::Bytes => put_bytes_reply(now, desk, out, gathered),
         Seen::Cells => put_cells_reply(now, desk, cells, gathered),
         Seen::Verdict => put_verdict(now, desk, gathered),
-        Seen::Tables => put_tables(now, desk, columns, positions, lower_ends, gathered),
+        Seen::Tables => put_tables(
+            now,
+            desk,
+            columns,
+            positions,
+            lower_ends,
+            upper_ends,
+            gathered,
+        ),
     }
 }

@@ -14,7 +14,7 @@ use Rattle.lists.proofs.Booleans.{or-cases, or-left, or-right, none-left, none-
 use Rattle.lists.proofs.Runs.{order}
 use Rattle.octets.specs.Bytes.{number2, number4}
 use Rattle.frames.specs.declared.Shape.{Shape}
-use Rattle.frames.specs.declared.Shape.the-variants.{Columns, Size, SizePosition, Settings, Unknown}
+use Rattle.frames.specs.declared.Shape.the-variants.{Columns, Size, SizePosition, SizePair, Settings, Unknown}
 use Rattle.frames.specs.Kinds.{leaveKind, joinKind, kinds, shapeIn, shapeOf, lengthOf, bodyLength}
 use Rattle.frames.specs.Frames.{messageBy, messageAt, columnsAt, told, Reading, stays, readAt}
 use Rattle.frames.proofs.ReadCases as cases
@@ -114,6 +114,7 @@ module _ (bytes : List ℕ) (place : ℕ) where
       go Columns = refl
       go Size = refl
       go SizePosition = rw (none-left (eqb kind leaveKind) (eqb kind joinKind) e, none-right (eqb kind leaveKind) (eqb kind joinKind) e)
+      go SizePair = refl
       go Settings = refl
       go Unknown = refl
 

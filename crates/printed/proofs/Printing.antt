@@ -12,7 +12,7 @@ use Rattle.lists.specs.Lists.{flat}
 use Rattle.lists.proofs.Booleans.{either}
 use Rattle.lists.proofs.Laying.{Front, front-none, front-more}
 use Rattle.frames.specs.declared.Message.{Message}
-use Rattle.frames.specs.declared.Message.the-variants.{Quote, Sized, Change, Open, End, Refused}
+use Rattle.frames.specs.declared.Message.the-variants.{Quote, Sized, Change, Pair, Open, End, Refused}
 use Rattle.frames.specs.Kinds.{leaveKind, joinKind}
 use Rattle.frames.specs.Frames.{messageAt, readAt, messagesFrom}
 use Rattle.frames.proofs.Reading.{Told, told-at, messages-on, messages-none}
@@ -36,6 +36,7 @@ change-short (Change k n p) = go (eqb k leaveKind) (eqb k joinKind)
     go true b = line-short 45 (n ∷ p ∷ [])
     go false true = line-short 43 (n ∷ p ∷ [])
     go false false = omega arith
+change-short (Pair k n1 n2) = omega arith
 change-short (Open d N directions) = omega arith
 change-short End = omega arith
 change-short (Refused k) = omega arith

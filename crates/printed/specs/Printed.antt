@@ -6,7 +6,7 @@ use lib.Dec.{eqb}
 use lib.ListN.{length}
 use Rattle.lists.specs.Lists.{flat}
 use Rattle.frames.specs.declared.Message.{Message}
-use Rattle.frames.specs.declared.Message.the-variants.{Quote, Sized, Change, Open, End, Refused}
+use Rattle.frames.specs.declared.Message.the-variants.{Quote, Sized, Change, Pair, Open, End, Refused}
 use Rattle.frames.specs.Kinds.{leaveKind, joinKind}
 use Rattle.frames.specs.Frames.{messagesFrom}
 use Rattle.text.specs.Text.{line}
@@ -20,6 +20,7 @@ unfoldable pub changeLine : Message → List ℕ
 changeLine (Quote k) = []
 changeLine (Sized k n) = []
 changeLine (Change k n p) = cond (eqb k leaveKind) (line 45 (n ∷ p ∷ [])) (cond (eqb k joinKind) (line 43 (n ∷ p ∷ [])) [])
+changeLine (Pair k n1 n2) = []
 changeLine (Open d N directions) = []
 changeLine End = []
 changeLine (Refused k) = []

@@ -28,14 +28,14 @@ room-fits room n o f = ltb-false room n (sym o ∙ f)
 
 module _ (bytes before : List ℕ) {over : Bool} (o : over ≡ ltb (length before) (length bytes)) where
   -- what is left where the changes do not fit
-  pub written-none : {h : Head} {rows : ℕ} → over ≡ true → Written h rows bytes before (record { answer = Refused ShortOutput; head = h; count = 0 }) before
+  pub written-none : {h : Head} {live held : ℕ} → over ≡ true → Written h live held bytes before (record { answer = Refused ShortOutput; head = h; count = 0 }) before
   written-none {h} f =
       let e : numberOf (Refused ShortOutput) ≡ roomAnswer (length before) bytes = sym (firstOf-holds (ltb (length before) (length bytes)) (number ShortOutput) [] (sym o ∙ f)) in
       record { reply = refused-reply {a = Refused ShortOutput} e refl h _ _; out = refused-left {a = Refused ShortOutput} e refl before _ }
 
   -- what is left once they are written
-  pub written-all : {h next : Head} {rows count : ℕ} {after : List ℕ} → over ≡ false → next ≡ afterQuote h rows → count ≡ length bytes → after ≡ laid bytes before
-      → Written h rows bytes before (record { answer = Accepted; head = next; count = count }) after
+  pub written-all : {h next : Head} {live held count : ℕ} {after : List ℕ} → over ≡ false → next ≡ afterQuote h live held → count ≡ length bytes → after ≡ laid bytes before
+      → Written h live held bytes before (record { answer = Accepted; head = next; count = count }) after
   written-all {h} f d c l =
       let e : numberOf Accepted ≡ roomAnswer (length before) bytes = begun ∙ sym (firstOf-fails (ltb (length before) (length bytes)) (number ShortOutput) [] (sym o ∙ f)) in
       record { reply = accepted-reply e refl h d c; out = accepted-left e refl before l }

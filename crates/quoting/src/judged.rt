@@ -26,12 +26,12 @@ pub fn judge_row(
     columns: &[u32],
     positions: &[u32],
     lower_ends: &[u32],
+    upper_ends: &[u32],
     watches: [u32; 8],
 ) -> Answer
-    ensures { λ r. ⌜ numberOf r ≡ rowAnswer head (now (quote .entry))
-        (tables (now (columns .entry)) (now (positions .entry)) (now («lower_ends» .entry))) watches ⌝ }
+    ensures { λ r. ⌜ numberOf r ≡ rowAnswer head (now (quote .entry)) (tables (now (columns .entry)) (now (positions .entry)) (now («lower_ends» .entry)) (now («upper_ends» .entry))) watches ⌝ }
 {
-    let judged = judge_watchful(head, columns, positions, lower_ends, watches);
+    let judged = judge_watchful(head, columns, positions, lower_ends, upper_ends, watches);
     with_quote(judged, head, quote)
 }
 

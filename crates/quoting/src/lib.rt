@@ -1,72 +1,62 @@
-// The quote in stages: it is judged; what it does to the rows is found; its changes are written; the tables are
-// settled, one at a time.
-ghost use Prim.Native.Nat.{_≤_};
+// The quote in stages: it is judged; what it does to the rows is found; its changes are written; the tables are settled, one at a time.
 ghost use mathlib.Core.Path.{_≡_};
-ghost use lib.ListN.{length};
 ghost use Rattle.model.specs.Calls.{Reached};
 ghost use Rattle.model.specs.Promises.{tables, world, Quoted};
+ghost use Rattle.settling.specs.Findings.{Finds};
+ghost use Rattle.settling.specs.Settled.{Known};
 ghost use Rattle.quoting.specs.Answers.{rowAnswer};
-ghost use Rattle.quoting.specs.Stages.{Known};
+ghost use Rattle.quoting.specs.Stages.{SoundIf};
 
 mod judged;
-mod marking;
 mod writing;
 
-use cells::settle_cells;
-use cells::settle_rows;
 use head::Answer;
 use head::Head;
 use head::Reply;
 use judged::judge_reached;
 use judged::judge_row;
-use marking::find;
-use rows::larger;
+use settling::Finding;
+use settling::find;
+use settling::find_reached;
+use settling::named_before;
+use settling::settle;
+use settling::settle_lower_ends;
+use settling::settle_upper_ends;
 use writing::write;
 
-// What is found of a quote before anything is written: the position that expires with it, its lower end, how many
-// rows do not stay, and how many rows there are after it.
-pub struct Finding {
-    pub gone: u32,
-    pub lower: u32,
-    pub removed: usize,
-    pub rows: u32,
-}
-
-// Enters a quote that passed every test but the last, with a flag and a place for each row; of the tables' places
-// only the first, so many as are unknown, may hold what no call left.
+// Enters a quote that passed every test but the last, by what was found. Of the tables' places only those below used may hold anything,
+// lower ends that name the expired position stand below place named, and sound says that lower ends of live rows name live rows.
 fn enter(
-    keep: &mut [bool],
-    places: &mut [u16],
     head: Head,
+    found: Finding,
+    places: &[u16],
+    named: usize,
+    used: usize,
+    sound: bool,
     quote: &[u32],
-    unknown: u32,
     columns: &mut [u32],
     positions: &mut [u32],
     lower_ends: &mut [u32],
+    upper_ends: &mut [u32],
     watches: [u32; 8],
     out: &mut [u8],
 ) -> Reply
-    requires { ⌜ head .rows ≤ length (now keep) ⌝ }
-    requires { ⌜ head .rows ≤ length (now places) ⌝ }
-    requires { ⌜ rowAnswer head (now quote)
-        (tables (now columns) (now positions) (now «lower_ends»)) watches ≡ 0 ⌝ }
-    requires { ⌜ Known head unknown (tables (now columns) (now positions) (now «lower_ends»)) ⌝ }
-    ensures { λ r. ⌜ Quoted head (now (quote .entry))
-        (tables (now (columns .entry)) (now (positions .entry)) (now («lower_ends» .entry)))
-        watches (now (out .entry)) r (tables (now (columns .exit)) (now (positions .exit)) (now («lower_ends» .exit)))
-        (now (out .exit)) ⌝ }
+    requires { ⌜ rowAnswer head (now quote) (tables (now columns) (now positions) (now «lower_ends») (now «upper_ends»)) watches ≡ 0 ⌝ }
+    requires { ⌜ Finds head (now quote) (now columns) (now «upper_ends») (now places) found ⌝ }
+    requires { ⌜ Known head used named (tables (now columns) (now positions) (now «lower_ends») (now «upper_ends»)) ⌝ }
+    requires { ⌜ SoundIf sound head (now quote) (tables (now columns) (now positions) (now «lower_ends») (now «upper_ends»)) ⌝ }
+    ensures { λ r. ⌜ Quoted head (now (quote .entry)) (tables (now (columns .entry)) (now (positions .entry)) (now («lower_ends» .entry)) (now («upper_ends» .entry))) watches (now (out .entry)) r (tables (now (columns .exit)) (now (positions .exit)) (now («lower_ends» .exit)) (now («upper_ends» .exit))) (now (out .exit)) ⌝ }
 {
-    let found = find(head, quote, columns, positions, keep, places);
-    let n = found.removed;
-    let removed = &places[..n];
+    let at = found.at;
     let reply = write(
-        found,
-        unknown,
         head,
-        keep,
-        removed,
-        positions,
+        found,
+        sound,
+        &places[at..],
+        quote,
+        columns,
         lower_ends,
+        upper_ends,
         watches,
         out,
     );
@@ -78,48 +68,36 @@ fn enter(
         }
     }
     let d = head.dimensions as usize;
-    let capacity = head.capacity as usize;
-    let count = head.rows as usize;
-    let used = larger(head.rows, unknown) as usize;
-    settle_rows(removed, d, count, quote, used * d, capacity * d, columns);
-    settle_cells(
-        removed,
-        found.gone,
-        count,
-        found.lower,
-        used,
-        capacity,
-        lower_ends,
-    );
-    settle_cells(
-        removed,
-        0,
-        count,
-        head.newest + 1,
-        used,
-        capacity,
-        positions,
-    );
+    let by = found.by;
+    settle(head, d, by, quote, used, columns);
+    settle(head, 1, by, &[head.newest + 1], used, positions);
+    settle_lower_ends(head, found, named, used, lower_ends);
+    settle_upper_ends(head, by, &places[at..], used, upper_ends);
     reply
 }
 
-// Takes a quote on any tables: they are judged, and every place may hold anything. Few flags and places do for few
-// rows, since each is zeroed.
+// Takes a quote on any tables: they are judged, and every place may hold anything.
 pub fn quote(
     head: Head,
     quote: &[u32],
     columns: &mut [u32],
     positions: &mut [u32],
     lower_ends: &mut [u32],
+    upper_ends: &mut [u32],
     watches: [u32; 8],
     out: &mut [u8],
 ) -> Reply
-    ensures { λ r. ⌜ Quoted head (now (quote .entry))
-        (tables (now (columns .entry)) (now (positions .entry)) (now («lower_ends» .entry)))
-        watches (now (out .entry)) r (tables (now (columns .exit)) (now (positions .exit)) (now («lower_ends» .exit)))
-        (now (out .exit)) ⌝ }
+    ensures { λ r. ⌜ Quoted head (now (quote .entry)) (tables (now (columns .entry)) (now (positions .entry)) (now («lower_ends» .entry)) (now («upper_ends» .entry))) watches (now (out .entry)) r (tables (now (columns .exit)) (now (positions .exit)) (now («lower_ends» .exit)) (now («upper_ends» .exit))) (now (out .exit)) ⌝ }
 {
-    let answer = judge_row(head, quote, columns, positions, lower_ends, watches);
+    let answer = judge_row(
+        head,
+        quote,
+        columns,
+        positions,
+        lower_ends,
+        upper_ends,
+        watches,
+    );
     match answer {
         Answer::Accepted => {}
         Answer::Refused(_) => {
@@ -130,50 +108,40 @@ pub fn quote(
             };
         }
     }
-    let unknown = head.capacity;
-    if head.rows <= 128 {
-        return enter(
-            &mut [false; 128],
-            &mut [0u16; 128],
-            head,
-            quote,
-            unknown,
-            columns,
-            positions,
-            lower_ends,
-            watches,
-            out,
-        );
-    }
+    let mut places = [0u16; 1024];
+    let found = find(head, quote, columns, upper_ends, &mut places);
+    let named = head.held as usize;
+    let used = head.capacity as usize;
     enter(
-        &mut [false; 1024],
-        &mut [0u16; 1024],
         head,
+        found,
+        &places,
+        named,
+        used,
+        false,
         quote,
-        unknown,
         columns,
         positions,
         lower_ends,
+        upper_ends,
         watches,
         out,
     )
 }
 
-// Takes a quote on a book that calls left: neither tables nor watches are judged, and no place is unknown.
+// Takes a quote on a book that calls left: neither tables nor watches are judged, and only the places of its rows are in use.
 pub fn quote_reached(
     head: Head,
     quote: &[u32],
     columns: &mut [u32],
     positions: &mut [u32],
     lower_ends: &mut [u32],
+    upper_ends: &mut [u32],
     watches: [u32; 8],
     out: &mut [u8],
 ) -> Reply
-    requires { ⌜ Reached (world head (tables (now columns) (now positions) (now «lower_ends»)) watches) ⌝ }
-    ensures { λ r. ⌜ Quoted head (now (quote .entry))
-        (tables (now (columns .entry)) (now (positions .entry)) (now («lower_ends» .entry)))
-        watches (now (out .entry)) r (tables (now (columns .exit)) (now (positions .exit)) (now («lower_ends» .exit)))
-        (now (out .exit)) ⌝ }
+    requires { ⌜ Reached (world head (tables (now columns) (now positions) (now «lower_ends») (now «upper_ends»)) watches) ⌝ }
+    ensures { λ r. ⌜ Quoted head (now (quote .entry)) (tables (now (columns .entry)) (now (positions .entry)) (now («lower_ends» .entry)) (now («upper_ends» .entry))) watches (now (out .entry)) r (tables (now (columns .exit)) (now (positions .exit)) (now («lower_ends» .exit)) (now («upper_ends» .exit))) (now (out .exit)) ⌝ }
 {
     let answer = judge_reached(head, quote);
     match answer {
@@ -186,29 +154,22 @@ pub fn quote_reached(
             };
         }
     }
-    if head.rows <= 128 {
-        return enter(
-            &mut [false; 128],
-            &mut [0u16; 128],
-            head,
-            quote,
-            0,
-            columns,
-            positions,
-            lower_ends,
-            watches,
-            out,
-        );
-    }
+    let mut places = [0u16; 1024];
+    let found = find_reached(head, quote, columns, upper_ends, &mut places);
+    let named = named_before(head, upper_ends);
+    let used = head.held as usize;
     enter(
-        &mut [false; 1024],
-        &mut [0u16; 1024],
         head,
+        found,
+        &places,
+        named,
+        used,
+        true,
         quote,
-        0,
         columns,
         positions,
         lower_ends,
+        upper_ends,
         watches,
         out,
     )

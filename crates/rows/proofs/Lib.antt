@@ -1,6 +1,4 @@
 -- The laws of the crate.
 pub mod Reading
+pub mod Passing
 pub mod Torn
-pub mod Marking
-pub mod Settled
-pub mod Clears

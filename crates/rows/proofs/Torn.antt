@@ -1,154 +1,197 @@
--- The test of torn rows: a turn of its loop, and its two parts put together.
+-- The test of torn rows: its two parts put together.
 use mathlib.Core.Path.{_≡_, refl, sym, ap, _∙_}
-use Prim.Native.Nat.{ℕ, suc, _+_, _-_, max, _≤_, _<_}
-use native.Mathlib.Nat.{zero-sub}
-use native.Mathlib.Numerals.{add-one}
+use mathlib.Core.Logic.{_⊎_, inl, inr}
+use Prim.Native.Nat.{ℕ, zero, suc, _+_, _-_, min, max, _≤_, _<_}
 use native.Mathlib.Omega.{arith}
-use mathlib.Core.Bool.{Bool, true, false, _&&_, _||_, not, or-true, or-false}
+use mathlib.Core.Bool.{Bool, true, false, _&&_, _||_, not}
 use mathlib.Core.List.{List, [], _∷_, map}
 use lib.Dec.{ltb, leb, eqb}
-use lib.ListN.{length, getD}
-use borrow.Author.Tests.{ltb-true, ltb-false, leb-true, le-leb, eqb-true, eq-eqb}
-use Rattle.lists.specs.Lists.{any, lastOr, run, rising}
-use Rattle.lists.proofs.Booleans.{and-left, and-right, and-false, none-left, none-right}
-use Rattle.lists.proofs.Filters.{map-map, any-map}
+use lib.ListN.{length, drop, length-map}
+use borrow.Author.Tests.{ltb-true, ltb-false, lt-ltb, le-ltb, leb-true, eqb-true, eq-eqb, ne-eqb, not-true, not-false}
+use Rattle.lists.specs.Lists.{any, headOr, run, between}
+use Rattle.lists.proofs.Booleans.{agree, and-left, and-right, both, clash, refute, none-left, none-right, neither}
+use Rattle.lists.proofs.Filters.{map-map, any-map, filter-map}
 use Rattle.skyline.specs.Skyline.{windowStart}
 use Rattle.head.specs.declared.Head.{Head}
 use Rattle.head.specs.Heads.{lastPosition}
-use Rattle.model.specs.Rows.{Row, Tables, rowAt, rowsIn}
+use Rattle.model.specs.Rows.{Row, rowAt, rowsIn, isLive, liveRows}
 use Rattle.model.specs.Book.{tornRows, bookRows}
-use Rattle.rows.specs.Order.{tornHead, inOrder}
-use Rattle.rows.specs.Lent.{tables}
+use Rattle.model.specs.Promises.{tables}
+use Rattle.model.proofs.Torn.{lowerAstray, upperAstray, Whole, window-length, untorn-whole, whole-untorn}
+use Rattle.rows.specs.Places.{tornHead, inPlace, inPlaces}
 use Rattle.rows.proofs.Reading.{length-rows}
 
--- one row more in front
-order-cons : (before newest : ℕ) (r : Row) (rs : List Row)
-    → inOrder before newest (r ∷ rs) ≡ (ltb before (r .position) && leb (r .position) newest && ltb (r .lowerEnd) (r .position)) && inOrder (r .position) newest rs
-unfolding inOrder rising any lastOr
-order-cons before newest r rs =
-    go (ltb before (r .position)) (leb (r .position) newest) (ltb (r .lowerEnd) (r .position)) (rising (suc (r .position)) newest (map Row.position rs))
+-- the columns do not matter to torn rows
+pub torn-columns : (h : Head) (cs cs' ps ls us : List ℕ) → tornRows h (bookRows h (tables cs ps ls us)) ≡ tornRows h (bookRows h (tables cs' ps ls us))
+unfolding tornRows bookRows rowsIn rowAt liveRows isLive
+torn-columns h cs cs' ps ls us = simp (map-map, any-map, filter-map, length-map)
+
+-- nor to rows in their places
+places-columns : (M p d d' : ℕ) (cs cs' ps ls us is : List ℕ)
+    → inPlaces M p (map (rowAt d (tables cs ps ls us)) is) ≡ inPlaces M p (map (rowAt d' (tables cs' ps ls us)) is)
+unfolding inPlaces inPlace rowAt
+places-columns M p d d' cs cs' ps ls us [] = refl
+places-columns M p d d' cs cs' ps ls us (i ∷ is) = rw (places-columns M (suc p) d d' cs cs' ps ls us is)
+
+-- nor to how many are live
+live-columns : (d d' : ℕ) (cs cs' ps ls us is : List ℕ)
+    → length (liveRows (map (rowAt d (tables cs ps ls us)) is)) ≡ length (liveRows (map (rowAt d' (tables cs' ps ls us)) is))
+unfolding liveRows isLive rowAt
+live-columns d d' cs cs' ps ls us is = simp (filter-map, length-map)
+
+-- ---- rows in their places
+
+-- a row in its place: its position, and that neither end is astray
+pub record Placed (M p : ℕ) (r : Row) : Type 0 where
+  pub stands : r .position ≡ p
+  pub lower : lowerAstray r ≡ false
+  pub upper : upperAstray M r ≡ false
+
+-- an upper end in its place, as the code tests it
+upper-test : (M p u : ℕ) → eqb u 0 || ltb p u && leb u M ≡ not (ltb 0 u && not (ltb p u && leb u M))
+upper-test M p zero = refl
+upper-test M p (suc u) = rw (lt-ltb 0 (suc u) (omega arith), ne-eqb (suc u) 0 (λ z. omega arith)) (sym (not-not (ltb p (suc u) && leb (suc u) M)))
   where
-    E : Bool
-    E = eqb (lastOr (r .position) (map Row.position rs)) newest
+    not-not : (b : Bool) → not (not b) ≡ b
+    not-not true = refl
+    not-not false = refl
 
-    F : Bool
-    F = any (λ q. not (ltb (q .lowerEnd) (q .position))) rs
+place-is : (M p : ℕ) (r : Row) → inPlace M p r ≡ true → Placed M p r
+unfolding inPlace
+place-is M p r e =
+    let stands = eqb (r .position) p in
+    let lower = ltb (r .lowerEnd) (r .position) in
+    let upper = eqb (r .upperEnd) 0 || ltb (r .position) (r .upperEnd) && leb (r .upperEnd) M in
+    let two = and-left (stands && lower) upper e in
+    record {
+      stands = eqb-true (r .position) p (and-left stands lower two);
+      lower = rw (and-right stands lower two);
+      upper = not-true (upperAstray M r) (sym (upper-test M (r .position) (r .upperEnd)) ∙ and-right (stands && lower) upper e);
+    }
 
-    go : (a b c x : Bool) → a && b && x && not (not c || F) && E ≡ (a && b && c) && (x && not F && E)
-    go true true true x = refl
-    go true true false true = refl
-    go true true false false = refl
-    go true false c x = refl
-    go false b c x = refl
+is-place : (M p : ℕ) (r : Row) → Placed M p r → inPlace M p r ≡ true
+unfolding inPlace
+is-place M p r v =
+    rw (upper-test, eq-eqb (r .position) p (v .stands), not-false (ltb (r .lowerEnd) (r .position)) (v .lower), v .upper)
 
--- rows in order that end at the newest position are not above it
-below-newest : (p newest : ℕ) (rs : List Row) → inOrder p newest rs ≡ true → p ≤ newest
-unfolding inOrder rising any lastOr
-below-newest p newest [] e = let z = eqb-true p newest e in omega arith
-below-newest p newest (r ∷ rs) e =
-    let front = and-left (ltb p (r .position) && leb (r .position) newest && ltb (r .lowerEnd) (r .position)) (inOrder (r .position) newest rs) (sym (order-cons p newest r rs) ∙ e) in
-    let both = and-left (ltb p (r .position) && leb (r .position) newest) (ltb (r .lowerEnd) (r .position)) front in
-    let above = ltb-true p (r .position) (and-left (ltb p (r .position)) (leb (r .position) newest) both) in
-    let below = leb-true (r .position) newest (and-right (ltb p (r .position)) (leb (r .position) newest) both) in
-    omega arith
+-- rows in their places: their positions are a run, and no end is astray
+pub record PlacedAll (M p : ℕ) (rs : List Row) : Type 0 where
+  pub stand : map Row.position rs ≡ run p (length rs)
+  pub lower : any lowerAstray rs ≡ false
+  pub upper : any (upperAstray M) rs ≡ false
 
--- so that each row need not be held to the newest
-newest-last : (p newest : ℕ) (rs : List Row) → leb p newest && inOrder p newest rs ≡ inOrder p newest rs
-newest-last p newest rs = go (inOrder p newest rs) (λ e. le-leb p newest (below-newest p newest rs e))
-  where
-    go : (b : Bool) → (b ≡ true → leb p newest ≡ true) → leb p newest && b ≡ b
-    go true f = rw (f refl)
-    go false f = and-false (leb p newest)
+places-are : (M p : ℕ) (rs : List Row) → inPlaces M p rs ≡ true → PlacedAll M p rs
+unfolding inPlaces run any
+places-are M p [] e = record { stand = refl; lower = refl; upper = refl }
+places-are M p (r ∷ rs) e =
+    let one = place-is M p r (and-left (inPlace M p r) (inPlaces M (suc p) rs) e) in
+    let rest = places-are M (suc p) rs (and-right (inPlace M p r) (inPlaces M (suc p) rs) e) in
+    record {
+      stand = rw (one .stands, rest .stand);
+      lower = neither (lowerAstray r) (any lowerAstray rs) (one .lower) (rest .lower);
+      upper = neither (upperAstray M r) (any (upperAstray M) rs) (one .upper) (rest .upper);
+    }
 
--- i of the rows have been passed: they are in order where fair says so, and the last stands at this position
-pub record Passing (before newest count : ℕ) (t : Tables) (fair : Bool) (last i : ℕ) : Type 0 where
-  pub within : i ≤ count
-  pub same : inOrder before newest (rowsIn 0 count t) ≡ fair && inOrder last newest (map (rowAt 0 t) (run i (count - i)))
-
-module _ {before newest count : ℕ} {t : Tables} where
-  pub start : Passing before newest count t true before 0
-  unfolding rowsIn
-  start = record { within = omega arith; same = let z : count - 0 ≡ count = omega arith in rw z }
-
-  pub more : {fair : Bool} {last i : ℕ} → Passing before newest count t fair last i → i < count
-      → (p l : ℕ) → p ≡ getD (t .positions) i 0 → l ≡ getD (t .lowerEnds) i 0
-      → Passing before newest count t (fair && ltb last p && ltb l p) p (i + 1)
-  unfolding run rowAt
-  more {fair} {last} {i} v h p l e f =
-      let z : count - i ≡ suc (count - suc i) = omega arith in
-      let rest : List Row = map (rowAt 0 t) (run (suc i) (count - suc i)) in
-      record {
-        within = omega arith;
-        same = v .same ∙ rw (z, order-cons, add-one, ← e, ← f) (go fair (ltb last p) (leb p newest) (ltb l p) (inOrder p newest rest) (newest-last p newest rest));
-      }
-    where
-      go : (a b c d x : Bool) → c && x ≡ x → a && ((b && c && d) && x) ≡ (a && b && d) && x
-      go true true true d x e = refl
-      go true true false true x e = e
-      go true true false false x e = refl
-      go true false c d x e = refl
-      go false b c d x e = refl
-
-  pub finish : {fair : Bool} {last i : ℕ} → Passing before newest count t fair last i → count ≤ i
-      → fair && eqb last newest ≡ inOrder before newest (rowsIn 0 count t)
-  unfolding inOrder run rising any lastOr
-  finish {i = i} v h = let z : count - i ≡ 0 = omega arith in sym (v .same ∙ rw z)
+are-places : (M p : ℕ) (rs : List Row) → PlacedAll M p rs → inPlaces M p rs ≡ true
+unfolding inPlaces run any headOr
+are-places M p [] v = refl
+are-places M p (r ∷ rs) v =
+    both (inPlace M p r) (inPlaces M (suc p) rs)
+    (is-place M p r (record {
+      stands = ap (headOr 0) (v .stand);
+      lower = none-left (lowerAstray r) (any lowerAstray rs) (v .lower);
+      upper = none-left (upperAstray M r) (any (upperAstray M) rs) (v .upper);
+    }))
+    (are-places M (suc p) rs (record {
+      stand = ap (drop 1) (v .stand);
+      lower = none-right (lowerAstray r) (any lowerAstray rs) (v .lower);
+      upper = none-right (upperAstray M r) (any (upperAstray M) rs) (v .upper);
+    }))
 
 -- ---- the two parts
+module _ (h : Head) (rs : List Row) (counted : length rs ≡ h .held) (some : 1 ≤ h .capacity) where
+  -- the rows of a whole book are as many as the positions of its window
+  whole-held : Whole h rs → h .held ≡ min (h .newest) (h .capacity)
+  unfolding windowStart
+  whole-held w =
+      let n = sym (length-map rs Row.position) ∙ ap length (w .window) ∙ window-length (h .capacity) (h .newest) in
+      omega (arith, n)
 
--- the columns do not matter to the order
-order-columns : (before newest n d d' : ℕ) (cs cs' ps ls : List ℕ)
-    → inOrder before newest (rowsIn d n (tables cs ps ls)) ≡ inOrder before newest (rowsIn d' n (tables cs' ps ls))
-unfolding inOrder rowsIn rowAt
-order-columns before newest n d d' cs cs' ps ls = simp (map-map, any-map)
-
--- the columns do not matter to torn rows
-pub torn-columns : (h : Head) (cs cs' ps ls : List ℕ) → tornRows h (bookRows h (tables cs ps ls)) ≡ tornRows h (bookRows h (tables cs' ps ls))
-unfolding tornRows bookRows rowsIn rowAt
-torn-columns h cs cs' ps ls = simp (map-map, any-map)
-
-module _ (h : Head) where
-  pub head-torn : (rs : List Row) → tornHead h ≡ true → tornRows h rs ≡ true
-  unfolding tornHead tornRows
-  head-torn rs e = rw e
-
-  pub rows-fit : tornHead h ≡ false → h .rows ≤ h .capacity
+  pub head-torn : tornHead h ≡ true → tornRows h rs ≡ true
   unfolding tornHead
-  rows-fit e = ltb-false (h .capacity) (h .rows) (none-left (ltb (h .capacity) (h .rows)) (ltb lastPosition (h .newest)) (none-left (ltb (h .capacity) (h .rows) || ltb lastPosition (h .newest)) _ e))
-
-  no-rows : tornHead h ≡ false → h .rows ≡ 0 → h .newest ≡ 0
-  unfolding tornHead
-  no-rows e z = zero-is (none-left (eqb (h .rows) 0 && ltb 0 (h .newest)) (ltb 0 (h .rows) && eqb (h .newest) 0) (none-right (ltb (h .capacity) (h .rows) || ltb lastPosition (h .newest)) _ e))
+  head-torn e = not-false' (tornRows h rs) (λ f. let w = untorn-whole h rs (sym counted) some f in clash (tornHead h) e
+      (neither (ltb lastPosition (h .newest)) (not (eqb (h .held) (min (h .newest) (h .capacity)))) (le-ltb lastPosition (h .newest) (w .low-newest)) (rw (eq-eqb (h .held) (min (h .newest) (h .capacity)) (whole-held w)))))
     where
-      zero-is : eqb (h .rows) 0 && ltb 0 (h .newest) ≡ false → h .newest ≡ 0
-      zero-is f = let b = ltb-false 0 (h .newest) (rw (eq-eqb (h .rows) 0 z) at f) in omega arith
+      not-false' : (b : Bool) → (b ≡ false → ⊥) → b ≡ true
+      not-false' true f = refl
+      not-false' false f = absurd (f refl)
 
-  -- the newest of the rows stands at the newest position, wherever the first is sought from
-  newest-same : (rs : List Row) → tornHead h ≡ false → length rs ≡ h .rows
-      → eqb (lastOr 0 (map Row.position rs)) (h .newest) ≡ eqb (lastOr (h .newest - h .capacity) (map Row.position rs)) (h .newest)
-  unfolding lastOr
-  newest-same [] e l = let z = no-rows e (sym l) in rw (z, zero-sub)
-  newest-same (r ∷ rs) e l = refl
+-- what a head shows that is not torn
+pub record Likely (h : Head) : Type 0 where
+  pub low-newest : h .newest ≤ lastPosition
+  pub fills : h .held ≡ min (h .newest) (h .capacity)
 
-  -- rows under a head that is not torn are torn exactly if they are not in order
-  pub torn-by-order : (rs : List Row) → tornHead h ≡ false → length rs ≡ h .rows → tornRows h rs ≡ not (inOrder (h .newest - h .capacity) (h .newest) rs)
-  unfolding tornHead tornRows inOrder windowStart
-  torn-by-order rs e l =
-      let s : max 1 (h .newest + 1 - h .capacity) ≡ suc (h .newest - h .capacity) = omega arith in
-      rw (e, s, newest-same rs e l)
-      (go (rising (suc (h .newest - h .capacity)) (h .newest) (map Row.position rs)) (any (λ r. not (ltb (r .lowerEnd) (r .position))) rs))
+pub head-likely : (h : Head) → tornHead h ≡ false → Likely h
+unfolding tornHead
+head-likely h e =
+    let held = eqb (h .held) (min (h .newest) (h .capacity)) in
+    record {
+      low-newest = ltb-false lastPosition (h .newest) (none-left (ltb lastPosition (h .newest)) (not held) e);
+      fills = eqb-true (h .held) (min (h .newest) (h .capacity)) (not-false held (none-right (ltb lastPosition (h .newest)) (not held) e));
+    }
+
+module _ (h : Head) (rs : List Row) (counted : length rs ≡ h .held) (some : 1 ≤ h .capacity) (likely : Likely h) where
+  abbrev first : ℕ
+  first = windowStart (h .newest) (h .capacity)
+
+  abbrev alive : Bool
+  alive = eqb (h .live) (length (liveRows rs))
+
+  -- the positions of the window, by the number of rows
+  window-run : between (windowStart (h .newest) (h .capacity)) (h .newest) ≡ run first (length rs)
+  unfolding windowStart between
+  window-run =
+      let f = likely .fills in
+      let n : suc (h .newest) - first ≡ length rs = omega arith in
+      rw n
+
+  places-untorn : inPlaces (h .newest) first rs && alive ≡ true → tornRows h rs ≡ false
+  places-untorn e =
+      let p = places-are (h .newest) first rs (and-left (inPlaces (h .newest) first rs) alive e) in
+      whole-untorn h rs (sym counted) some (record {
+        low-newest = likely .low-newest;
+        window = p .stand ∙ sym window-run;
+        lower-ends = p .lower;
+        upper-ends = p .upper;
+        live-count = eqb-true (h .live) (length (liveRows rs)) (and-right (inPlaces (h .newest) first rs) alive e);
+      })
+
+  untorn-places : tornRows h rs ≡ false → inPlaces (h .newest) first rs && alive ≡ true
+  untorn-places e =
+      let w = untorn-whole h rs (sym counted) some e in
+      both (inPlaces (h .newest) first rs) alive
+      (are-places (h .newest) first rs (record { stand = w .window ∙ window-run; lower = w .lower-ends; upper = w .upper-ends }))
+      (eq-eqb (h .live) (length (liveRows rs)) (w .live-count))
+
+  -- under a head that is not torn the places of the rows decide
+  torn-places : tornRows h rs ≡ not (inPlaces (h .newest) first rs && alive)
+  torn-places = go (tornRows h rs) (inPlaces (h .newest) first rs && alive) places-untorn untorn-places
     where
-      E : Bool
-      E = eqb (lastOr (h .newest - h .capacity) (map Row.position rs)) (h .newest)
+      go : (a b : Bool) → (b ≡ true → a ≡ false) → (a ≡ false → b ≡ true) → a ≡ not b
+      go true true f g = f refl
+      go true false f g = refl
+      go false b f g = rw (g refl)
 
-      go : (a c : Bool) → not a || not E || c ≡ not (a && not c && E)
-      go true true = or-true (not E)
-      go true false = or-false (not E)
-      go false c = refl
+-- the positions of the rows are no larger than the next one
+pub likely-fits : (h : Head) → 1 ≤ h .capacity → Likely h → windowStart (h .newest) (h .capacity) + h .held ≤ 16777216
+unfolding windowStart
+likely-fits h some likely = let f = likely .fills in let n = likely .low-newest in omega arith
 
-  pub order-found : (ps ls : List ℕ) (before : ℕ) (fair : Bool) → tornHead h ≡ false → before ≡ h .newest - h .capacity
-      → fair ≡ inOrder before (h .newest) (rowsIn 0 (h .rows) (tables [] ps ls)) → not fair ≡ tornRows h (bookRows h (tables [] ps ls))
-  unfolding bookRows
-  order-found ps ls before fair e b f =
-      rw (torn-by-order (rowsIn (h .dimensions) (h .rows) (tables [] ps ls)) e (length-rows (h .dimensions) (h .rows) (tables [] ps ls)), f, b)
-      (ap not (order-columns (h .newest - h .capacity) (h .newest) (h .rows) 0 (h .dimensions) [] [] ps ls))
+-- by what the loop finds on tables without columns
+pub by-places : (h : Head) (ps ls us : List ℕ) (first : ℕ) (fair : Bool) → 1 ≤ h .capacity → tornHead h ≡ false → first ≡ windowStart (h .newest) (h .capacity)
+    → fair ≡ inPlaces (h .newest) first (rowsIn 0 (h .held) (tables [] ps ls us)) && eqb (h .live) (length (liveRows (rowsIn 0 (h .held) (tables [] ps ls us))))
+    → not fair ≡ tornRows h (bookRows h (tables [] ps ls us))
+unfolding bookRows rowsIn
+by-places h ps ls us first fair some e b f =
+    rw (f, b, places-columns (h .newest) (windowStart (h .newest) (h .capacity)) 0 (h .dimensions) [] [] ps ls us (run 0 (h .held)), live-columns 0 (h .dimensions) [] [] ps ls us (run 0 (h .held)))
+    (sym (torn-places h (rowsIn (h .dimensions) (h .held) (tables [] ps ls us)) (length-rows (h .dimensions) (h .held) (tables [] ps ls us)) some (head-likely h e)))

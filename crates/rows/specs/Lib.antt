@@ -1,3 +1,2 @@
 -- The definitions of the crate.
-pub mod Order
-pub mod Lent
+pub mod Places

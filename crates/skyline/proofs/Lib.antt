@@ -1,5 +1,7 @@
 -- The theory of the crate.
-pub mod Stabbing
-pub mod Steps
-pub mod Congruence
-pub mod Listed
+pub mod Free
+pub mod Ends
+pub mod Past
+pub mod Sought
+pub mod Moved
+pub mod Due

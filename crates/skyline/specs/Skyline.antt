@@ -1,9 +1,9 @@
--- Windows, skylines, rows and lower ends, over any relation of dominance on positions.
-use Prim.Native.Nat.{ℕ, suc, _+_, _-_, max}
+-- Windows and their skylines, over any relation of dominance on positions.
+use Prim.Native.Nat.{ℕ, _+_, _-_, max}
 use mathlib.Core.Bool.{Bool, _&&_, not}
 use mathlib.Core.List.{List}
 use lib.Dec.{ltb, leb}
-use Rattle.lists.specs.Lists.{filter, any, lastOr, between}
+use Rattle.lists.specs.Lists.{filter, any, between}
 
 -- the first position of the window of n while M is the newest: the larger of 1 and M − n + 1
 unfoldable pub windowStart : ℕ → ℕ → ℕ
@@ -21,15 +21,3 @@ module _ (dom : ℕ → ℕ → Bool) where
   -- the skyline of the positions a to b (01: the list, of a window): those that none of them dominates, rising
   unfoldable pub skyline : ℕ → ℕ → List ℕ
   skyline a b = filter (λ p. not (dominatedIn a b p)) (between a b)
-
-  -- no younger position up to M dominates p
-  unfoldable pub undominated : ℕ → ℕ → Bool
-  undominated M p = not (dominatedIn (suc p) M p)
-
-  -- the positions of S to M that have a row (01: row): those that no younger one dominates, rising
-  unfoldable pub rows : ℕ → ℕ → List ℕ
-  rows S M = filter (undominated M) (between S M)
-
-  -- the lower end of p: the youngest older row that dominates it, or 0
-  unfoldable pub lowerEnd : ℕ → ℕ → ℕ → ℕ
-  lowerEnd S M p = lastOr 0 (filter (λ q. ltb q p && dom q p) (rows S M))

@@ -19,7 +19,7 @@ use Rattle.frames.specs.Frames.{readAt}
 use Rattle.model.specs.Rows.{Row, Tables, filled}
 use Rattle.model.specs.Reference.{Reference, Lengths, unopened, opened, rowsOf, headOf, withQuote, withWatched, opening, tooShort, tells, referenceStep}
 use Rattle.model.specs.Book.{shortTables, shortLoan}
-use Rattle.model.specs.Calls.{Call, Open, Quote, Look, Watch, End, Outputs, Lent, bookStep, lengthsOf, shown, expectedStep, runs, worldFirst}
+use Rattle.model.specs.Calls.{Call, Open, Quote, Look, Watch, End, Past, Outputs, Lent, bookStep, lengthsOf, shown, expectedStep, runs, worldFirst}
 use Rattle.model.proofs.Tables.{cells-counted}
 use Rattle.model.proofs.Sound.{rows-few, rows-wide}
 use Rattle.model.proofs.Simulation.{Invariant, Simulation, Agree, referenceWith, some-capacity, shown-opened, long-tables, long-records}
@@ -50,6 +50,7 @@ long-after l o (Quote x) s h = either-way (Long l) _ (withQuote s x) s (λ _. h)
 long-after l o (Look n) s h = either-way (Long l) _ s s (λ _. h) h
 long-after l o (Watch n) s h = either-way (Long l) _ (withWatched s _) s (λ _. h) h
 long-after l o (End n) s h = either-way (Long l) _ (withWatched s _) s (λ _. h) h
+long-after l o (Past n1 n2) s h = either-way (Long l) _ s s (λ _. h) h
 
 module _ (s : Reference) (l kept : Lent) (o : Outputs) (f : Invariant s kept) (enough : shortLoan (l .tables) (l .watches) (s .dimensions) (s .capacity) ≡ false) where
   -- the rows are at most N
@@ -61,15 +62,19 @@ module _ (s : Reference) (l kept : Lent) (o : Outputs) (f : Invariant s kept) (e
   unfolding filled shortTables lengthsOf
   filled-lengths =
       let long = long-tables t (l .watches) d N enough in
-      let some = none-left (ltb (length (t .columns)) (N * d) || ltb (length (t .positions)) N) (ltb (length (t .lowerEnds)) N) long in
+      let one = ltb (length (t .columns)) (N * d) in
+      let two = ltb (length (t .positions)) N in
+      let three = ltb (length (t .lowerEnds)) N in
+      let four = ltb (length (t .upperEnds)) N in
+      let first-three = none-left ((one || two) || three) four long in
+      let first-two = none-left (one || two) three first-three in
       rw (
         shown-opened s l (f .settings),
         length-padded (N * d) (flat (map Row.columns rs)) (t .columns) (rw (cells-counted d rs (rows-wide s (f .wide))) (mul-le-mul-right d few))
-            (ltb-false (length (t .columns)) (N * d) (none-left (ltb (length (t .columns)) (N * d)) (ltb (length (t .positions)) N) some)),
-        length-padded N (map Row.position rs) (t .positions) (rw length-map few)
-            (ltb-false (length (t .positions)) N (none-right (ltb (length (t .columns)) (N * d)) (ltb (length (t .positions)) N) some)),
-        length-padded N (map Row.lowerEnd rs) (t .lowerEnds) (rw length-map few)
-            (ltb-false (length (t .lowerEnds)) N (none-right (ltb (length (t .columns)) (N * d) || ltb (length (t .positions)) N) (ltb (length (t .lowerEnds)) N) long)),
+            (ltb-false (length (t .columns)) (N * d) (none-left one two first-two)),
+        length-padded N (map Row.position rs) (t .positions) (rw length-map few) (ltb-false (length (t .positions)) N (none-right one two first-two)),
+        length-padded N (map Row.lowerEnd rs) (t .lowerEnds) (rw length-map few) (ltb-false (length (t .lowerEnds)) N (none-right (one || two) three first-three)),
+        length-padded N (map Row.upperEnd rs) (t .upperEnds) (rw length-map few) (ltb-false (length (t .upperEnds)) N (none-right ((one || two) || three) four long)),
         length-padded 8 (s .watched) (l .watches) (f .eight) (long-records t (l .watches) d N enough),
       )
     where
@@ -103,6 +108,7 @@ bytes-fit (Watch n) lengths s =
     either-way (λ (w : List ℕ). length w ≤ lengths .bytes) _ _ []
     (λ e. ltb-false (lengths .bytes) _ (zero-passed _ _ _ (zero-passed _ _ _ (zero-passed _ _ _ (zero-passed _ _ _ (zero-passed _ _ _ e .1) .1) .1) .1) .0)) zero-le
 bytes-fit (End n) lengths s = either-way (λ (w : List ℕ). length w ≤ lengths .bytes) _ [] [] (λ _. zero-le) zero-le
+bytes-fit (Past n1 n2) lengths s = either-way (λ (w : List ℕ). length w ≤ lengths .bytes) _ [] [] (λ _. zero-le) zero-le
 
 -- and so no longer than the bytes that are lent
 bytes-room : (l : Lent) (o : Outputs) (c : Call) (s : Reference) → length (referenceStep c (lengthsOf l o) s .bytes) ≤ length (o .bytes)
@@ -129,7 +135,7 @@ read-laid written out e =
     rw e (take-append-seam written (drop (length written) out) ∙ sym (take-all (length written) written (le-refl (length written))))
 
 module _ (lengths : Lengths) (s : Reference) where
-  -- the count of a quote, of a watch and of a look is that of what it wrote
+  -- the count of a quote, of a watch and of the two looks is that of what it wrote
   quote-count : (x : List ℕ) → referenceStep (Quote x) lengths s .count ≡ length (referenceStep (Quote x) lengths s .bytes)
   unfolding referenceStep tells
   quote-count x = granted-length _ _
@@ -141,6 +147,10 @@ module _ (lengths : Lengths) (s : Reference) where
   look-count : (n : ℕ) → referenceStep (Look n) lengths s .count ≡ length (referenceStep (Look n) lengths s .cells)
   unfolding referenceStep tells
   look-count n = granted-length _ _
+
+  past-count : (n1 n2 : ℕ) → referenceStep (Past n1 n2) lengths s .count ≡ length (referenceStep (Past n1 n2) lengths s .cells)
+  unfolding referenceStep tells
+  past-count n1 n2 = granted-length _ _
 
   -- what a call answered, with its writing laid into these outputs
   abbrev laidInto : Call → Outputs → Answered
@@ -158,6 +168,7 @@ module _ (lengths : Lengths) (s : Reference) where
   laid-text (Look n) o = rw (read-laid (referenceStep (Look n) lengths s .cells) (o .cells) (look-count n))
   laid-text (Watch n) o = rw (read-laid (referenceStep (Watch n) lengths s .bytes) (o .bytes) (watch-count n))
   laid-text (End n) o = refl
+  laid-text (Past n1 n2) o = rw (read-laid (referenceStep (Past n1 n2) lengths s .cells) (o .cells) (past-count n1 n2))
 
 -- between two frames: the book simulates the reference model, and what it is lent has the lengths that the reference model is lent
 pub record Alike (lengths : Lengths) (s : Reference) (k : Player) : Type 0 where
@@ -285,7 +296,12 @@ prefix-agrees frames tape l o = frames-agree (lengthsOf l o) frames tape 0 unope
 -- tables and watch records of zeros with these lengths
 abbrev blank : Lengths → Lent
 blank lengths = record {
-  tables = record { columns = replicate (lengths .columns) 0; positions = replicate (lengths .positions) 0; lowerEnds = replicate (lengths .lowerEnds) 0 };
+  tables = record {
+    columns = replicate (lengths .columns) 0;
+    positions = replicate (lengths .positions) 0;
+    lowerEnds = replicate (lengths .lowerEnds) 0;
+    upperEnds = replicate (lengths .upperEnds) 0;
+  };
   watches = replicate (lengths .watches) 0;
 }
 
@@ -301,6 +317,7 @@ module _ (lengths : Lengths) where
         length-replicate {A = ℕ} (lengths .columns) 0,
         length-replicate {A = ℕ} (lengths .positions) 0,
         length-replicate {A = ℕ} (lengths .lowerEnds) 0,
+        length-replicate {A = ℕ} (lengths .upperEnds) 0,
         length-replicate {A = ℕ} (lengths .watches) 0,
         length-replicate {A = ℕ} (lengths .bytes) 0,
         length-replicate {A = ℕ} (lengths .cells) 0,

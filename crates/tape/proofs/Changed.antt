@@ -11,6 +11,7 @@ use Rattle.head.specs.Refusals.{granted}
 use Rattle.head.specs.Heads.{lastPosition}
 use Rattle.head.proofs.Numbers.{zero-passed}
 use Rattle.model.specs.Changes.{join, allChanges, frames}
+use Rattle.model.specs.Rows.{liveRows}
 use Rattle.model.specs.Reference.{Reference, Lengths, unopened, newest, skylineOf, rowsOf, headOf, opened, outside, withQuote, tells, referenceStep}
 use Rattle.model.specs.Calls.{Call}
 use Rattle.model.proofs.Following.{Bounded, sent-watch, sent-quote}
@@ -44,11 +45,11 @@ module _ (lengths : Lengths) (tape : List ℕ) (place : ℕ) (s : Reference) (h 
   reached-bounded : Bounded s
   reached-bounded = let t = reached-alike lengths tape h in bounded s (t .0 .world .lent) (t .1 .simulation .since)
 
-  -- an accepted quote prints its position, the number of rows and the lines of its changes
+  -- an accepted quote prints its position, the number of live rows and the lines of its changes
   pub quote-text : (x : List ℕ) → referenceMake lengths (Call.Quote x) s .0 .outcome .number ≡ 0
       → let next = withQuote s x in
       textOf (Call.Quote x) (referenceMake lengths (Call.Quote x) s .0)
-      ≡ line 81 (newest next ∷ length (rowsOf next) ∷ []) ++ changeLines (allChanges (s .watched) (skylineOf s) (skylineOf next))
+      ≡ line 81 (newest next ∷ length (liveRows (rowsOf next)) ∷ []) ++ changeLines (allChanges (s .watched) (skylineOf s) (skylineOf next))
   unfolding referenceMake referenceStep tells textOf linesOf granted headOf
   quote-text x e =
       let full = zero-passed _ _ _ (zero-passed _ _ _ (zero-passed _ _ _ e .1) .1) .0 in

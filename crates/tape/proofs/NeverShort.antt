@@ -1,6 +1,6 @@
 -- With ample lengths no call of a tape is refused with 11 or 13, and the print does not depend on the lengths.
 use mathlib.Core.Path.{_≡_, refl, sym, ap, _∙_}
-use Prim.Native.Nat.{ℕ, zero, suc, _-_, _*_, _≤_}
+use Prim.Native.Nat.{ℕ, zero, suc, _+_, _-_, _*_, _≤_}
 use native.Mathlib.Nat.{mul-le-mul-right}
 use native.Mathlib.Omega.{arith}
 use mathlib.Core.Bool.{Bool, true, false, not, cond}
@@ -13,7 +13,7 @@ use Rattle.lists.proofs.Booleans.{clash, none-left, none-right}
 use Rattle.lists.proofs.Filters.{length-filter}
 use Rattle.lists.proofs.Runs.{length-run}
 use Rattle.skyline.specs.Skyline.{windowStart, dominatedIn, skyline}
-use Rattle.head.specs.declared.Refusal.the-variants.{Settings, ColumnCount, WindowSize, TapeFull, AlreadyWatched, NoFreeRecord, ShortLoan, ShortOutput}
+use Rattle.head.specs.declared.Refusal.the-variants.{Settings, ColumnCount, WindowSize, TapeFull, AlreadyWatched, NoFreeRecord, ShortLoan, ShortOutput, WindowOrder}
 use Rattle.head.specs.Refusals.{number, firstOf}
 use Rattle.head.specs.Heads.{settingsHold, lastPosition}
 use Rattle.head.proofs.Numbers.{firstOf-alike, firstOf-fails}
@@ -21,10 +21,10 @@ use Rattle.head.proofs.Settings.{settings-within}
 use Rattle.octets.specs.Bytes.{bytes2, bytes4}
 use Rattle.frames.specs.Frames.{frame, readAt}
 use Rattle.model.specs.Changes.{join, frames}
-use Rattle.model.specs.Reference.{Reference, Lengths, unopened, newest, over, skylineOf, opened, outside, tooShort, tells, referenceStep}
+use Rattle.model.specs.Reference.{Reference, Lengths, unopened, newest, over, skylineOf, pastOf, opened, outside, outsidePast, tooShort, tells, referenceStep}
 use Rattle.model.specs.Book.{watchfulAnswer, quoteAnswer, quoteReply, replyOf}
-use Rattle.model.specs.Calls.{Call, Open, Quote, Look, Watch, End, Outputs, Lent, Seen, World, bookSeen, bookStep, lengthsOf, worldFirst, expectedStep}
-use Rattle.model.proofs.Simulation.{Simulation, referenceWith, in-range}
+use Rattle.model.specs.Calls.{Call, Open, Quote, Look, Watch, End, Past, Outputs, Lent, Seen, World, bookSeen, bookStep, lengthsOf, worldFirst, expectedStep}
+use Rattle.model.proofs.Simulation.{Simulation, referenceWith, in-range, in-past-range}
 use Rattle.model.proofs.Replay.{call-agrees}
 use Rattle.model.proofs.ChangesFit.{room-suffices}
 use Rattle.turns.specs.Turns.{Player, bookMake}
@@ -45,19 +45,26 @@ roomy lengths d N directions a e =
       le-ltb (lengths .columns) (N * d) (omega (arith, a .columns, mul-le-mul-right d small)),
       le-ltb (lengths .positions) N (omega (arith, a .positions)),
       le-ltb (lengths .lowerEnds) N (omega (arith, a .lowerEnds)),
+      le-ltb (lengths .upperEnds) N (omega (arith, a .upperEnds)),
       le-ltb (lengths .watches) 8 (a .watches),
     )
 
 -- ---- a look and a watch
 
+-- a skyline of positions from a to b has at most as many
+skyline-few : (dom : ℕ → ℕ → Bool) (a b : ℕ) → length (skyline dom a b) ≤ suc b - a
+unfolding skyline between
+skyline-few dom a b = omega (arith, length-filter (λ p. not (dominatedIn dom a b p)) (between a b), length-run a (suc b - a))
+
 -- a skyline of a window of n has at most n positions
 skyline-short : (s : Reference) (n : ℕ) → 1 ≤ n → length (skylineOf s n) ≤ n
-unfolding skylineOf skyline between windowStart
-skyline-short s n h =
-    omega (arith, length-filter (λ p. not (dominatedIn (over s) from (newest s) p)) (between from (newest s)), length-run from (suc (newest s) - from))
-  where
-    from : ℕ
-    from = windowStart (newest s) n
+unfolding skylineOf windowStart
+skyline-short s n h = omega (arith, skyline-few (over s) (windowStart (newest s) n) (newest s))
+
+-- and so has one that begins there and ended before the newest
+past-short : (s : Reference) (n1 n2 : ℕ) → 1 ≤ n1 → n1 ≤ n2 → length (pastOf s n1 n2) ≤ n2
+unfolding pastOf windowStart
+past-short s n1 n2 h k = omega (arith, skyline-few (over s) (windowStart (newest s) n2) (newest s + 1 - n1))
 
 -- the list of an n in range fits into 1,024 cells
 list-short : (s : Reference) (n : ℕ) → opened s ≡ true → outside s n ≡ false → length (skylineOf s n) ≤ 1024
@@ -68,6 +75,15 @@ list-short s n o e =
     let most = r .1 in
     let small = settings-within (s .dimensions) (s .capacity) (s .directions) o .small-capacity in
     omega (arith, skyline-short s n some)
+
+-- and so does the past list of n1 and n2 in range
+past-list-short : (s : Reference) (n1 n2 : ℕ) → opened s ≡ true → outsidePast s n1 n2 ≡ false → ltb n2 n1 ≡ false → length (pastOf s n1 n2) ≤ 1024
+unfolding opened
+past-list-short s n1 n2 o e f =
+    let r = in-past-range s n1 n2 e f in
+    let most = r .2 in
+    let small = settings-within (s .dimensions) (s .capacity) (s .directions) o .small-capacity in
+    omega (arith, past-short s n1 n2 (r .0) (r .1))
 
 -- the frame of a join has seven bytes
 join-length : (n p : ℕ) → length (frame (join n p) []) ≡ 7
@@ -110,6 +126,18 @@ module _ (lengths : Lengths) (a : Ample lengths) (s : Reference) where
   look-plain n =
       firstOf-alike (not (opened s)) (number Settings) _ _
       (λ o. firstOf-alike (outside s n) (number WindowSize) _ [] (λ e. firstOf-fails (ltb (lengths .cells) (length (skylineOf s n))) (number ShortOutput) [] (le-ltb (lengths .cells) (length (skylineOf s n)) (omega (arith, a .cells, list-short s n (not-false (opened s) o) e)))))
+
+  -- a past look by its n1 and n2 alone
+  past-plain : (n1 n2 : ℕ)
+      → referenceStep (Past n1 n2) lengths s .number
+      ≡ firstOf ((not (opened s), number Settings) ∷ (outsidePast s n1 n2, number WindowSize) ∷ (ltb n2 n1, number WindowOrder) ∷ [])
+  unfolding referenceStep tells
+  past-plain n1 n2 =
+      firstOf-alike (not (opened s)) (number Settings) _ _
+      (λ o. firstOf-alike (outsidePast s n1 n2) (number WindowSize) _ _
+      (λ e. firstOf-alike (ltb n2 n1) (number WindowOrder) _ []
+      (λ f. firstOf-fails (ltb (lengths .cells) (length (pastOf s n1 n2))) (number ShortOutput) []
+      (le-ltb (lengths .cells) (length (pastOf s n1 n2)) (omega (arith, a .cells, past-list-short s n1 n2 (not-false (opened s) o) e f))))))
 
   -- a watch by its n and the watches
   watch-plain : (n : ℕ)
@@ -160,6 +188,7 @@ module _ (lengths : Lengths) (a : Ample lengths) where
   unshort (Look n) s k v = plainly _ (look-plain lengths a s n) refl refl
   unshort (Watch n) s k v = plainly _ (watch-plain lengths a s n) refl refl
   unshort (End n) s k v = plainly _ refl refl refl
+  unshort (Past n1 n2) s k v = plainly _ (past-plain lengths a s n1 n2) refl refl
 
   -- wherever a tape comes to, no call is answered with 11 or 13
   pub never-short : (tape : List ℕ) (place : ℕ) (s : Reference) → Reaches opened (referenceMake lengths) tape unopened place s
@@ -179,6 +208,7 @@ module _ (lengths lengths' : Lengths) (a : Ample lengths) (a' : Ample lengths') 
   made-same (Look n) s k v = rw (look-plain lengths a s n, look-plain lengths' a' s n)
   made-same (Watch n) s k v = rw (watch-plain lengths a s n, watch-plain lengths' a' s n)
   made-same (End n) s k v = refl
+  made-same (Past n1 n2) s k v = rw (past-plain lengths a s n1 n2, past-plain lengths' a' s n1 n2)
 
   -- what is asked at a place is played alike
   asked-same : (q : Asked) (next : ℕ) (s : Reference) (k : Player) → Alike lengths s k

@@ -13,11 +13,11 @@ use Rattle.lists.specs.Lists.{run}
 use Rattle.head.specs.declared.Head.{Head}
 use Rattle.head.specs.Heads.{settingsHold}
 use Rattle.frames.specs.declared.Shape.{Shape}
-use Rattle.frames.specs.declared.Shape.the-variants.{Columns, Size, SizePosition, Settings, Unknown}
+use Rattle.frames.specs.declared.Shape.the-variants.{Columns, Size, SizePosition, SizePair, Settings, Unknown}
 use Rattle.frames.specs.declared.Message.{Message}
 use Rattle.frames.specs.declared.Message.the-variants as Message
 use Rattle.frames.specs.declared.Read.{Read}
-use Rattle.frames.specs.Kinds.{lookKind, watchKind, unwatchKind, shapeOf, codeOf, bodyLength}
+use Rattle.frames.specs.Kinds.{lookKind, watchKind, unwatchKind, pastKind, shapeOf, codeOf, bodyLength}
 use Rattle.frames.specs.Frames.{messageBy, messageAt, columnsAt, Saying, told, saying, Reading, reading, stays, readAt}
 use Rattle.frames.proofs.Shapes.{quote-kinds}
 use Rattle.frames.proofs.Reading.{read-says, read-columns, read-next, Found, beyond, at-end, unknown, cut, whole, found}
@@ -25,12 +25,12 @@ use Rattle.model.specs.Rows.{Tables}
 use Rattle.model.specs.Calls.{Call}
 use Rattle.turns.specs.declared.Turn.{Turn}
 use Rattle.turns.specs.declared.Wanted.{Wanted}
-use Rattle.turns.specs.declared.Wanted.the-variants.{Quote, Look, Watch, End, Open, Nothing, Refused, Misplaced}
+use Rattle.turns.specs.declared.Wanted.the-variants.{Quote, Look, Past, Watch, End, Open, Nothing, Refused, Misplaced}
 use Rattle.turns.proofs.Wanted.{the-type}
 use Rattle.turns.specs.Turns.{Player, bookMake, player, Effect, made, refusedWith, Turned}
 use Rattle.turns.specs.Wishes.{observed, unquoted}
 use Rattle.tape.specs.declared.Step.{Step}
-use Rattle.tape.specs.Play.{Asked, finished, unread, misplaced, request, sizedAsks, asks, inPlace, placed, asked, Played, playAsked, playAt, begun, bookPlay}
+use Rattle.tape.specs.Play.{Asked, finished, unread, misplaced, request, sizedAsks, pairAsks, asks, inPlace, placed, asked, Played, playAsked, playAt, begun, bookPlay}
 use Rattle.tape.specs.Placing.{wants, outOfPlace, taken}
 use Rattle.tape.specs.Steps.{Stepped}
 
@@ -54,12 +54,23 @@ module _ (kind n : ℕ) (columns : List ℕ) where
   unfolding wants sizedAsks
   none-sized a b c = rw (ne-eqb kind lookKind a, ne-eqb kind watchKind b, ne-eqb kind unwatchKind c)
 
+-- a frame with n1 and n2, by its kind
+module _ (kind n1 n2 : ℕ) (columns : List ℕ) where
+  pub past-paired : kind ≡ pastKind → wants (Past n1 n2) columns ≡ pairAsks kind n1 n2
+  unfolding wants pairAsks
+  past-paired e = rw e
+
+  pub none-paired : (kind ≡ pastKind → ⊥) → wants Misplaced columns ≡ pairAsks kind n1 n2
+  unfolding wants pairAsks
+  none-paired a = rw (ne-eqb kind pastKind a)
+
 -- what is asked in its place, of a message
 pub message-asked : (b : Bool) (m : Message) (columns : List ℕ) → placed b (asks m columns) ≡ asked b (saying m) columns
 unfolding asked saying asks placed
 message-asked b (Message.Quote k) columns = refl
 message-asked b (Message.Sized kind n) columns = refl
 message-asked b (Message.Change kind n p) columns = refl
+message-asked b (Message.Pair kind n1 n2) columns = refl
 message-asked b (Message.Open d N directions) columns = refl
 message-asked b Message.End columns = refl
 message-asked b (Message.Refused k) columns = refl
@@ -69,11 +80,13 @@ wanted-placed : (b : Bool) (w : Wanted) (columns : List ℕ) → cond (outOfPlac
 unfolding wants outOfPlace placed inPlace
 wanted-placed true (Quote n) columns = refl
 wanted-placed true (Look n) columns = refl
+wanted-placed true (Past n1 n2) columns = refl
 wanted-placed true (Watch n) columns = refl
 wanted-placed true (End n) columns = refl
 wanted-placed true (Open d N directions) columns = refl
 wanted-placed false (Quote n) columns = refl
 wanted-placed false (Look n) columns = refl
+wanted-placed false (Past n1 n2) columns = refl
 wanted-placed false (Watch n) columns = refl
 wanted-placed false (End n) columns = refl
 wanted-placed false (Open d N directions) columns = refl
@@ -107,6 +120,7 @@ columnsIn (request (Call.Quote x)) = length x
 columnsIn (request (Call.Look n)) = 0
 columnsIn (request (Call.Watch n)) = 0
 columnsIn (request (Call.End n)) = 0
+columnsIn (request (Call.Past n1 n2)) = 0
 
 -- what ends the tape
 unfoldable ends : Asked → Bool
@@ -149,15 +163,25 @@ sized-plain b kind n = go (eqb kind lookKind) (eqb kind watchKind) (eqb kind unw
     go false false true = placed-plain b (Call.End n) (record { few = omega arith; on = refl })
     go false false false = never-plain b
 
+-- a frame with n1 and n2
+paired-plain : (b : Bool) (kind n1 n2 : ℕ) → Plain (placed b (pairAsks kind n1 n2))
+unfolding pairAsks columnsIn ends
+paired-plain b kind n1 n2 = go (eqb kind pastKind)
+  where
+    go : (x : Bool) → Plain (placed b (cond x (request (Call.Past n1 n2)) misplaced))
+    go true = placed-plain b (Call.Past n1 n2) (record { few = omega arith; on = refl })
+    go false = never-plain b
+
 -- the message of a whole frame
-whole-plain : (b : Bool) (tape : List ℕ) (body kind : ℕ) (columns : List ℕ) → codeOf (shapeOf kind) < 4 → Plain (asked b (told (messageAt tape body kind)) columns)
+whole-plain : (b : Bool) (tape : List ℕ) (body kind : ℕ) (columns : List ℕ) → codeOf (shapeOf kind) < 5 → Plain (asked b (told (messageAt tape body kind)) columns)
 unfolding asked messageAt messageBy asks columnsIn ends
 whole-plain b tape body kind columns known = go (shapeOf kind) refl known
   where
-    go : (shape : Shape) → shapeOf kind ≡ shape → codeOf shape < 4 → Plain (placed b (asks (messageBy shape tape body kind) columns))
+    go : (shape : Shape) → shapeOf kind ≡ shape → codeOf shape < 5 → Plain (placed b (asks (messageBy shape tape body kind) columns))
     go Columns e l = let r = quote-kinds kind e in placed-plain b (Call.Quote (take kind columns)) (record { few = omega (arith, length-take kind columns, r .1); on = refl })
     go Size e l = sized-plain b kind _
     go SizePosition e l = never-plain b
+    go SizePair e l = paired-plain b kind _ _
     go Settings e l = placed-plain b (Call.Open _ _ _) (record { few = omega arith; on = refl })
     go Unknown e l = absurd (omega arith)
 
@@ -199,10 +223,11 @@ pub columns-six : (tape : List ℕ) (place : ℕ) (r : Read) → reading r ≡ r
 columns-six tape place r e = rw (read-columns r e) (read-six tape place (found tape place))
 
 -- what is no quote is taken without columns
-taken-unquoted : (w : Wanted) (columns : List ℕ) (k : Player) → OneOf (1 ∷ 2 ∷ 3 ∷ 4 ∷ 5 ∷ 6 ∷ 7 ∷ []) (tagOf the-type w) → taken w columns k ≡ unquoted w k
+taken-unquoted : (w : Wanted) (columns : List ℕ) (k : Player) → OneOf (1 ∷ 2 ∷ 3 ∷ 4 ∷ 5 ∷ 6 ∷ 7 ∷ 8 ∷ []) (tagOf the-type w) → taken w columns k ≡ unquoted w k
 unfolding taken
-taken-unquoted (Quote n) columns k one = absurd (miss (1 ∷ 2 ∷ 3 ∷ 4 ∷ 5 ∷ 6 ∷ 7 ∷ []) 0 tt one)
+taken-unquoted (Quote n) columns k one = absurd (miss (1 ∷ 2 ∷ 3 ∷ 4 ∷ 5 ∷ 6 ∷ 7 ∷ 8 ∷ []) 0 tt one)
 taken-unquoted (Look n) columns k one = refl
+taken-unquoted (Past n1 n2) columns k one = refl
 taken-unquoted (Watch n) columns k one = refl
 taken-unquoted (End n) columns k one = refl
 taken-unquoted (Open d N directions) columns k one = refl
@@ -220,6 +245,7 @@ wanted-played : (w : Wanted) (columns : List ℕ) (next : ℕ) (k : Player)
 unfolding playAsked wants ends taken unquoted observed made refusedWith
 wanted-played (Quote n) columns next k = refl
 wanted-played (Look n) columns next k = refl
+wanted-played (Past n1 n2) columns next k = refl
 wanted-played (Watch n) columns next k = refl
 wanted-played (End n) columns next k = refl
 wanted-played (Open d N directions) columns next k = refl
@@ -275,5 +301,5 @@ module _ (tape : List ℕ) (place : ℕ) (h : Head) (t : Tables) (ws bytes befor
     quote-played q u = step-played (rw q u)
 
     -- and that of anything else
-    pub other-played : OneOf (1 ∷ 2 ∷ 3 ∷ 4 ∷ 5 ∷ 6 ∷ 7 ∷ []) (tagOf the-type w) → Turned (unquoted w k) before turn t' bytes' after → Stepped tape place k before step t' bytes' after
+    pub other-played : OneOf (1 ∷ 2 ∷ 3 ∷ 4 ∷ 5 ∷ 6 ∷ 7 ∷ 8 ∷ []) (tagOf the-type w) → Turned (unquoted w k) before turn t' bytes' after → Stepped tape place k before step t' bytes' after
     other-played one u = step-played (rw (taken-unquoted w (r .columns) k one) u)

@@ -16,10 +16,10 @@ use Rattle.head.specs.declared.Refusal.the-variants.{UnknownKind, CutFrame}
 use Rattle.head.specs.Refusals.{number}
 use Rattle.octets.specs.Bytes.{number2, number4}
 use Rattle.frames.specs.declared.Shape.{Shape}
-use Rattle.frames.specs.declared.Shape.the-variants.{Columns, Size, SizePosition, Settings, Unknown}
+use Rattle.frames.specs.declared.Shape.the-variants.{Columns, Size, SizePosition, SizePair, Settings, Unknown}
 use Rattle.frames.specs.Kinds.{within, shapeOf, bodyLength}
 use Rattle.frames.specs.Frames.{messageBy, messageAt, columnsAt, told, ended, refused, Reading, stays, readAt}
-use Rattle.frames.proofs.Shapes.{within-bounds, quote-body, size-body, change-body, open-body, kind-known, known-body}
+use Rattle.frames.proofs.Shapes.{within-bounds, quote-body, size-body, change-body, pair-body, open-body, kind-known, known-body}
 use Rattle.frames.proofs.Reading.{message-drop, columns-drop, Found, beyond, at-end, unknown, cut, whole, found}
 use Rattle.model.specs.Reference.{unopened, opened}
 use Rattle.model.specs.Calls.{Call, Outputs, Lent, lengthsOf, worldFirst}
@@ -54,6 +54,7 @@ module _ (piece rest : List ℕ) where
       go Columns e = refl
       go Size e = rw (two-same body (omega (arith, size-body kind e)))
       go SizePosition e = rw (two-same body (omega (arith, change-body kind e)), four-same (body + 2) (omega (arith, change-body kind e)))
+      go SizePair e = rw (two-same body (omega (arith, pair-body kind e)), two-same (body + 2) (omega (arith, pair-body kind e)))
       go Settings e =
           rw (cell body (omega (arith, open-body kind e)), two-same (body + 1) (omega (arith, open-body kind e)), cell (body + 3) (omega (arith, open-body kind e)))
       go Unknown e = refl

@@ -1,28 +1,41 @@
--- 01's print of 01's tape, shown of the definitions.
+-- 01's print of 01's tape, and that of a tape with past looks, shown of the definitions.
 use mathlib.Core.Path.{_≡_, refl}
-use Rattle.lists.specs.Lists.{filter, any, flat, run, between, contains, insert}
+use Rattle.lists.specs.Lists.{filter, any, headOr, lastOr, flat, run, between, contains, insert}
 use Rattle.dominance.specs.Dominance.{higher, better, betterAt, noWorse, someBetter, dominates}
-use Rattle.skyline.specs.Skyline.{windowStart, dominatedIn, skyline, undominated, rows, lowerEnd}
+use Rattle.skyline.specs.Skyline.{windowStart, dominatedIn, skyline}
+use Rattle.skyline.specs.Past.{lowerEnd, upperEnd}
 use Rattle.head.specs.Refusals.{firstOf, granted}
 use Rattle.head.specs.Heads.{settingsHold}
 use Rattle.octets.specs.Bytes.{bytes2, bytes4, number2, number4}
 use Rattle.frames.specs.Kinds.{kinds, shapeIn, shapeOf, lengthOf, bodyLength}
 use Rattle.frames.specs.Frames.{frame, messageBy, messageAt, columnsAt, stays, readAt, toldFirst, messagesFrom}
 use Rattle.model.specs.Changes.{missing, changesBy, changes, allChanges, frames}
-use Rattle.model.specs.Reference.{unopened, ample, quoteAt, dominatesAt, skylineOf, rowOf, rowsOf, headOf, opened, outside, withQuote, withWatched, opening, tooShort, tells, referenceStep}
+use Rattle.model.specs.Rows.{isLive, liveRows}
+use Rattle.model.specs.Reference.{unopened, ample, quoteAt, dominatesAt, skylineOf, pastOf, rowOf, rowsOf, headOf, opened, outside, outsidePast, withQuote, withWatched, opening, tooShort, tells, referenceStep}
 use Rattle.text.specs.Text.{digitsUpTo, digits, field, line}
 use Rattle.printed.specs.Printed.{changeLine, changeLines, changesText}
 use Rattle.turns.specs.Print.{linesOf, textOf}
-use Rattle.tape.specs.Play.{sizedAsks, asks, inPlace, placed, asked, playAsked, playAt, printFrom, print, referenceMake}
-use Rattle.tape.specs.Worked.{workedTape, workedText}
+use Rattle.tape.specs.Play.{sizedAsks, pairAsks, asks, inPlace, placed, asked, playAsked, playAt, printFrom, print, referenceMake}
+use Rattle.tape.specs.Worked.{workedTape, workedText, pastTape, pastText}
 
 -- the reference model prints 01's tape as 01 does
 pub worked-print : print opened (referenceMake ample) workedTape unopened ≡ workedText
-unfolding filter any flat run between contains insert
-    higher better betterAt noWorse someBetter dominates windowStart dominatedIn skyline undominated rows lowerEnd
+unfolding filter any headOr lastOr flat run between contains insert
+    higher better betterAt noWorse someBetter dominates windowStart dominatedIn skyline lowerEnd upperEnd
     firstOf granted settingsHold bytes2 bytes4 number2 number4 kinds shapeIn shapeOf lengthOf bodyLength frame messageBy messageAt columnsAt stays readAt toldFirst messagesFrom
-    missing changesBy changes allChanges frames quoteAt dominatesAt skylineOf rowOf rowsOf headOf opened outside
+    missing changesBy changes allChanges frames quoteAt dominatesAt skylineOf rowOf rowsOf isLive liveRows headOf opened outside
     withQuote withWatched opening tooShort tells referenceStep
     digitsUpTo digits field line changeLine changeLines changesText linesOf textOf
     sizedAsks asks inPlace placed asked playAsked playAt printFrom print referenceMake
 worked-print = refl
+
+-- and the tape with past looks
+pub past-print : print opened (referenceMake ample) pastTape unopened ≡ pastText
+unfolding filter any headOr lastOr flat run between contains insert
+    higher better betterAt noWorse someBetter dominates windowStart dominatedIn skyline lowerEnd upperEnd
+    firstOf granted settingsHold bytes2 bytes4 number2 number4 kinds shapeIn shapeOf lengthOf bodyLength frame messageBy messageAt columnsAt stays readAt toldFirst messagesFrom
+    missing changesBy changes allChanges frames quoteAt dominatesAt skylineOf pastOf rowOf rowsOf isLive liveRows headOf opened outside outsidePast
+    withQuote withWatched opening tooShort tells referenceStep
+    digitsUpTo digits field line changeLine changeLines changesText linesOf textOf
+    sizedAsks pairAsks asks inPlace placed asked playAsked playAt printFrom print referenceMake
+past-print = refl

@@ -21,6 +21,7 @@ pub record Ample (lengths : Lengths) : Type 0 where
   pub columns : ample .columns ≤ lengths .columns
   pub positions : ample .positions ≤ lengths .positions
   pub lowerEnds : ample .lowerEnds ≤ lengths .lowerEnds
+  pub upperEnds : ample .upperEnds ≤ lengths .upperEnds
   pub watches : ample .watches ≤ lengths .watches
   pub bytes : ample .bytes ≤ lengths .bytes
   pub cells : ample .cells ≤ lengths .cells

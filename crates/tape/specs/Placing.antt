@@ -6,7 +6,7 @@ use lib.ListN.{take}
 use Rattle.head.specs.Refusals.{number}
 use Rattle.model.specs.Calls.{Call}
 use Rattle.turns.specs.declared.Wanted.{Wanted}
-use Rattle.turns.specs.declared.Wanted.the-variants.{Quote, Look, Watch, End, Open, Nothing, Refused, Misplaced}
+use Rattle.turns.specs.declared.Wanted.the-variants.{Quote, Look, Past, Watch, End, Open, Nothing, Refused, Misplaced}
 use Rattle.turns.specs.Turns.{Player, Effect, made}
 use Rattle.turns.specs.Wishes.{unquoted}
 use Rattle.tape.specs.Play.{Asked, finished, unread, misplaced, request}
@@ -15,6 +15,7 @@ use Rattle.tape.specs.Play.{Asked, finished, unread, misplaced, request}
 unfoldable pub wants : Wanted → List ℕ → Asked
 wants (Quote k) columns = request (Call.Quote (take k columns))
 wants (Look n) columns = request (Call.Look n)
+wants (Past n1 n2) columns = request (Call.Past n1 n2)
 wants (Watch n) columns = request (Call.Watch n)
 wants (End n) columns = request (Call.End n)
 wants (Open d N directions) columns = request (Call.Open d N directions)
@@ -26,6 +27,7 @@ wants Misplaced columns = misplaced
 unfoldable pub outOfPlace : Bool → Wanted → Bool
 outOfPlace begun (Quote k) = not begun
 outOfPlace begun (Look n) = not begun
+outOfPlace begun (Past n1 n2) = not begun
 outOfPlace begun (Watch n) = not begun
 outOfPlace begun (End n) = not begun
 outOfPlace begun (Open d N directions) = begun
@@ -37,6 +39,7 @@ outOfPlace begun Misplaced = false
 unfoldable pub taken : Wanted → List ℕ → Player → Effect
 taken (Quote n) columns k = made (Call.Quote (take n columns)) k
 taken (Look n) columns k = unquoted (Look n) k
+taken (Past n1 n2) columns k = unquoted (Past n1 n2) k
 taken (Watch n) columns k = unquoted (Watch n) k
 taken (End n) columns k = unquoted (End n) k
 taken (Open d N directions) columns k = unquoted (Open d N directions) k

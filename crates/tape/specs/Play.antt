@@ -9,7 +9,7 @@ use Rattle.head.specs.Refusals.{number}
 use Rattle.head.specs.Heads.{settingsHold}
 use Rattle.frames.specs.declared.Message.{Message}
 use Rattle.frames.specs.declared.Message.the-variants as Message
-use Rattle.frames.specs.Kinds.{lookKind, watchKind, unwatchKind}
+use Rattle.frames.specs.Kinds.{lookKind, watchKind, unwatchKind, pastKind}
 use Rattle.frames.specs.Frames.{Saying, told, ended, refused, readAt}
 use Rattle.model.specs.Reference.{Reference, Lengths, referenceStep}
 use Rattle.model.specs.Calls.{Call}
@@ -32,11 +32,16 @@ sizedAsks kind n =
     (cond (eqb kind watchKind) (request (Call.Watch n))
     (cond (eqb kind unwatchKind) (request (Call.End n)) misplaced))
 
+-- what a frame with n1 and n2 asks for, by its kind; no other kind has a place on a tape
+unfoldable pub pairAsks : ℕ → ℕ → ℕ → Asked
+pairAsks kind n1 n2 = cond (eqb kind pastKind) (request (Call.Past n1 n2)) misplaced
+
 -- what a message asks for; a change has no place on a tape
 unfoldable pub asks : Message → List ℕ → Asked
 asks (Message.Quote k) columns = request (Call.Quote (take k columns))
 asks (Message.Sized kind n) columns = sizedAsks kind n
 asks (Message.Change kind n p) columns = misplaced
+asks (Message.Pair kind n1 n2) columns = pairAsks kind n1 n2
 asks (Message.Open d N directions) columns = request (Call.Open d N directions)
 asks Message.End columns = finished
 asks (Message.Refused k) columns = unread (number k)
@@ -48,6 +53,7 @@ inPlace begun (Call.Quote x) = begun
 inPlace begun (Call.Look n) = begun
 inPlace begun (Call.Watch n) = begun
 inPlace begun (Call.End n) = begun
+inPlace begun (Call.Past n1 n2) = begun
 
 -- what is asked for, in its place
 unfoldable pub placed : Bool → Asked → Asked

@@ -1,9 +1,9 @@
--- 01's tape and its print.
+-- 01's tape and its print, and a tape with past looks (02, 1/13) and its print.
 use Prim.Native.Nat.{ℕ, _+_}
 use mathlib.Core.List.{List, [], _∷_, _++_, map}
 use Rattle.lists.specs.Lists.{flat}
-use Rattle.frames.specs.declared.Message.the-variants.{Open, Quote, Sized}
-use Rattle.frames.specs.Kinds.{lookKind, watchKind}
+use Rattle.frames.specs.declared.Message.the-variants.{Open, Quote, Sized, Pair}
+use Rattle.frames.specs.Kinds.{lookKind, watchKind, pastKind}
 use Rattle.frames.specs.Frames.{frame}
 
 -- the frame of a quote of two columns
@@ -42,4 +42,37 @@ workedText = flat (
     ∷ plain 45 (2 ∷ 6 ∷ [])
     ∷ plain 43 (2 ∷ 8 ∷ [])
     ∷ plain 76 (3 ∷ 7 ∷ 8 ∷ [])
+    ∷ [])
+
+-- the frame of a past look
+abbrev past : ℕ → ℕ → List ℕ
+past n1 n2 = frame (Pair pastKind n1 n2) []
+
+-- a tape with past looks
+abbrev pub pastTape : List ℕ
+pastTape =
+    flat (frame (Open 2 5 0) [] ∷ two 5 5 ∷ two 3 8 ∷ two 4 4 ∷ past 3 3 ∷ past 2 3 ∷ two 7 2 ∷ two 4 4 ∷ two 6 6 ∷ past 1 3 ∷ past 2 3 ∷ past 3 5 ∷ two 2 9 ∷ two 4 3 ∷ past 1 5 ∷ past 2 5 ∷ past 2 2 ∷ past 5 5 ∷ frame (Sized lookKind 5) [] ∷ [])
+
+-- and its print
+abbrev pub pastText : List ℕ
+pastText = flat (
+    plain 79 (2 ∷ 5 ∷ 0 ∷ [])
+    ∷ plain 81 (1 ∷ 1 ∷ [])
+    ∷ plain 81 (2 ∷ 2 ∷ [])
+    ∷ plain 81 (3 ∷ 2 ∷ [])
+    ∷ plain 80 (3 ∷ 3 ∷ 1 ∷ [])
+    ∷ plain 80 (2 ∷ 3 ∷ 1 ∷ 2 ∷ [])
+    ∷ plain 81 (4 ∷ 3 ∷ [])
+    ∷ plain 81 (5 ∷ 4 ∷ [])
+    ∷ plain 81 (6 ∷ 5 ∷ [])
+    ∷ plain 80 (1 ∷ 3 ∷ 4 ∷ 5 ∷ [])
+    ∷ plain 80 (2 ∷ 3 ∷ 4 ∷ 5 ∷ [])
+    ∷ plain 80 (3 ∷ 5 ∷ 2 ∷ 3 ∷ 4 ∷ [])
+    ∷ plain 81 (7 ∷ 5 ∷ [])
+    ∷ plain 81 (8 ∷ 3 ∷ [])
+    ∷ plain 80 (1 ∷ 5 ∷ 4 ∷ 7 ∷ 8 ∷ [])
+    ∷ plain 80 (2 ∷ 5 ∷ 4 ∷ 5 ∷ 7 ∷ [])
+    ∷ plain 80 (2 ∷ 2 ∷ 7 ∷ [])
+    ∷ plain 80 (5 ∷ 5 ∷ 4 ∷ [])
+    ∷ plain 76 (5 ∷ 4 ∷ 7 ∷ 8 ∷ [])
     ∷ [])

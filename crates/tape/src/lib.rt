@@ -20,8 +20,8 @@ pub const CHANGE_FRAME: usize = 7;
 // How many bytes the line of a change has at most: its letter and newline, and a space and ten digits for n and the position.
 pub const CHANGE_LINE: usize = 2 + 11 * 2;
 
-// How many bytes the line of the longest list has at most: as that of a change, with n and all positions.
-pub const LIST_LINE: usize = 2 + 11 * (1 + LIST);
+// How many bytes the line of the longest list has at most: as that of a change, with n1, n2 and all positions.
+pub const LIST_LINE: usize = 2 + 11 * (2 + LIST);
 
 // How many bytes the changes of any call have at most: from each watched list every position may go, and one may come.
 pub const CHANGE_BYTES: usize = WATCHES * (LIST + 1) * CHANGE_FRAME;

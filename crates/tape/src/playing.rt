@@ -9,13 +9,14 @@ ghost use Rattle.model.specs.Calls.{Reached};
 ghost use Rattle.model.specs.Promises.{tables, world};
 ghost use Rattle.turns.specs.Turns.{textBytes, player};
 ghost use Rattle.tape.specs.Steps.{Stepped};
-ghost use Rattle.tape.specs.Play.{sizedAsks, asks, asked};
+ghost use Rattle.tape.specs.Play.{sizedAsks, pairAsks, asks, asked};
 ghost use Rattle.tape.specs.Placing.{wants, outOfPlace};
 use crate::CHANGE_BYTES;
 use crate::Step;
 use crate::TEXT_BYTES;
 use frames::LOOK;
 use frames::Message;
+use frames::PAST;
 use frames::UNWATCH;
 use frames::WATCH;
 use frames::read_at;
@@ -39,6 +40,16 @@ fn sized(kind: u8, n: u16) -> Wanted
     Wanted::Misplaced
 }
 
+// What a frame with n1 and n2 wants, by its kind; no other kind has a place on a tape.
+fn paired(kind: u8, n1: u16, n2: u16) -> Wanted
+    ensures { λ r. ⌜ ((columns : List ℕ) → wants r columns ≡ pairAsks kind n1 n2) ⌝ }
+{
+    if kind == PAST {
+        return Wanted::Past(n1, n2);
+    }
+    Wanted::Misplaced
+}
+
 // What a message wants; a change has no place on a tape.
 fn asks(message: Message) -> Wanted
     ensures { λ r. ⌜ ((columns : List ℕ) → wants r columns ≡ asks message columns) ⌝ }
@@ -47,6 +58,7 @@ fn asks(message: Message) -> Wanted
         Message::Quote(k) => Wanted::Quote(k),
         Message::Sized(kind, n) => sized(kind, n),
         Message::Change(_, _, _) => Wanted::Misplaced,
+        Message::Pair(kind, n1, n2) => paired(kind, n1, n2),
         Message::Open(d, n, directions) => Wanted::Open(d, n, directions),
         Message::End => Wanted::Nothing,
         Message::Refused(refusal) => Wanted::Refused(refusal),
@@ -61,6 +73,7 @@ fn misplaced(begun: bool, wanted: Wanted) -> bool
         Wanted::Open(_, _, _) => begun,
         Wanted::Quote(_) => !begun,
         Wanted::Look(_) => !begun,
+        Wanted::Past(_, _) => !begun,
         Wanted::Watch(_) => !begun,
         Wanted::End(_) => !begun,
         Wanted::Nothing => false,
@@ -105,11 +118,12 @@ pub fn play(
     columns: &mut [u32],
     positions: &mut [u32],
     lower_ends: &mut [u32],
+    upper_ends: &mut [u32],
     watches: [u32; 8],
     bytes: &mut [u8; CHANGE_BYTES],
     text: &mut [u8; TEXT_BYTES],
 ) -> Step
-    ensures { λ r. ⌜ Stepped (now (tape .entry)) place (player head (tables (now (columns .entry)) (now (positions .entry)) (now («lower_ends» .entry))) watches (now (bytes .entry))) (now (text .entry)) r (tables (now (columns .exit)) (now (positions .exit)) (now («lower_ends» .exit))) (now (bytes .exit)) (now (text .exit)) ⌝ }
+    ensures { λ r. ⌜ Stepped (now (tape .entry)) place (player head (tables (now (columns .entry)) (now (positions .entry)) (now («lower_ends» .entry)) (now («upper_ends» .entry))) watches (now (bytes .entry))) (now (text .entry)) r (tables (now (columns .exit)) (now (positions .exit)) (now («lower_ends» .exit)) (now («upper_ends» .exit))) (now (bytes .exit)) (now (text .exit)) ⌝ }
 {
     let read = read_at(tape, place);
     let next = read.next;
@@ -124,6 +138,7 @@ pub fn play(
                 columns,
                 positions,
                 lower_ends,
+                upper_ends,
                 watches,
                 bytes,
             );
@@ -138,6 +153,7 @@ pub fn play(
                 columns,
                 positions,
                 lower_ends,
+                upper_ends,
                 watches,
                 bytes,
                 text,
@@ -154,13 +170,14 @@ pub fn play_reached(
     columns: &mut [u32],
     positions: &mut [u32],
     lower_ends: &mut [u32],
+    upper_ends: &mut [u32],
     watches: [u32; 8],
     bytes: &mut [u8; CHANGE_BYTES],
     text: &mut [u8],
 ) -> Step
     requires { ⌜ textBytes ≤ length (now text) ⌝ }
-    requires { ⌜ Reached (world head (tables (now columns) (now positions) (now «lower_ends»)) watches) ⌝ }
-    ensures { λ r. ⌜ Stepped (now (tape .entry)) place (player head (tables (now (columns .entry)) (now (positions .entry)) (now («lower_ends» .entry))) watches (now (bytes .entry))) (now (text .entry)) r (tables (now (columns .exit)) (now (positions .exit)) (now («lower_ends» .exit))) (now (bytes .exit)) (now (text .exit)) ⌝ }
+    requires { ⌜ Reached (world head (tables (now columns) (now positions) (now «lower_ends») (now «upper_ends»)) watches) ⌝ }
+    ensures { λ r. ⌜ Stepped (now (tape .entry)) place (player head (tables (now (columns .entry)) (now (positions .entry)) (now («lower_ends» .entry)) (now («upper_ends» .entry))) watches (now (bytes .entry))) (now (text .entry)) r (tables (now (columns .exit)) (now (positions .exit)) (now («lower_ends» .exit)) (now («upper_ends» .exit))) (now (bytes .exit)) (now (text .exit)) ⌝ }
 {
     let read = read_at(tape, place);
     let next = read.next;
@@ -175,6 +192,7 @@ pub fn play_reached(
                 columns,
                 positions,
                 lower_ends,
+                upper_ends,
                 watches,
                 bytes,
             );
@@ -189,6 +207,7 @@ pub fn play_reached(
                 columns,
                 positions,
                 lower_ends,
+                upper_ends,
                 watches,
                 bytes,
                 text,

@@ -67,13 +67,13 @@ module _ {tape : List ℕ} {place : ℕ} {k : Player} {before : List ℕ} {r : S
 -- ---- the frames of a piece
 
 -- what holds from frame to frame: the lines fit the text, the place stands within the tape, and the book is one that calls left
-pub record Playing (tape : List ℕ) (end : ℕ) (text₀ columns positions lower-ends text : List ℕ) (place ended used : ℕ) (head : Head) (watches : List ℕ) : Type 0 where
+pub record Playing (tape : List ℕ) (end : ℕ) (text₀ columns positions lower-ends upper-ends text : List ℕ) (place ended used : ℕ) (head : Head) (watches : List ℕ) : Type 0 where
   pub long : length text ≡ length text₀
   pub room : textBytes ≤ length text
   pub inside : place ≤ length tape
   pub same : ended ≡ end
   pub fits : used ≤ length text
-  pub reached : Reached (world head (tables columns positions lower-ends) watches)
+  pub reached : Reached (world head (tables columns positions lower-ends upper-ends) watches)
 
 -- what fits a text fits one of the same length
 pub fits-as : {n m room : ℕ} → n ≡ m → room ≤ m → room ≤ n

@@ -77,11 +77,12 @@ fn play_piece(
     columns: &mut [u32; COLUMNS],
     positions: &mut [u32; ROWS],
     lower_ends: &mut [u32; ROWS],
+    upper_ends: &mut [u32; ROWS],
     bytes: &mut [u8; tape::CHANGE_BYTES],
     text: &mut [u8],
 ) -> Stand
-    requires { ⌜ (stand .used ≤ length (now text)) × (textBytes ≤ length (now text)) × (stand .place ≤ length (now tape)) × Reached (world (stand .head) (tables (now columns) (now positions) (now «lower_ends»)) (stand .watches)) ⌝ }
-    ensures { λ r. ⌜ (r .used ≤ length (now (text .entry))) × (r .place ≤ length (now (tape .entry))) × (r .end ≡ stand .end) × Reached (world (r .head) (tables (now (columns .exit)) (now (positions .exit)) (now («lower_ends» .exit))) (r .watches)) ⌝ }
+    requires { ⌜ (stand .used ≤ length (now text)) × (textBytes ≤ length (now text)) × (stand .place ≤ length (now tape)) × Reached (world (stand .head) (tables (now columns) (now positions) (now «lower_ends») (now «upper_ends»)) (stand .watches)) ⌝ }
+    ensures { λ r. ⌜ (r .used ≤ length (now (text .entry))) × (r .place ≤ length (now (tape .entry))) × (r .end ≡ stand .end) × Reached (world (r .head) (tables (now (columns .exit)) (now (positions .exit)) (now («lower_ends» .exit)) (now («upper_ends» .exit))) (r .watches)) ⌝ }
 {
     let mut now = stand;
     while plays(now, tape) {
@@ -96,6 +97,7 @@ fn play_piece(
             columns,
             positions,
             lower_ends,
+            upper_ends,
             watches,
             bytes,
             &mut text[used..],
@@ -137,6 +139,7 @@ fn main() {
     let mut columns = [0u32; COLUMNS];
     let mut positions = [0u32; ROWS];
     let mut lower_ends = [0u32; ROWS];
+    let mut upper_ends = [0u32; ROWS];
     let mut bytes = [0u8; tape::CHANGE_BYTES];
     let mut tape = [0u8; PIECE];
     let mut text = [0u8; GATHERED + tape::TEXT_BYTES];
@@ -160,6 +163,7 @@ fn main() {
             &mut columns,
             &mut positions,
             &mut lower_ends,
+            &mut upper_ends,
             &mut bytes,
             &mut text,
         );

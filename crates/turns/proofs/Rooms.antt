@@ -11,8 +11,8 @@ use Rattle.head.specs.Refusals.{granted}
 use Rattle.head.specs.Replies.{Outcome}
 use Rattle.head.proofs.Numbers.{zero-passed}
 use Rattle.model.specs.Rows.{Tables}
-use Rattle.model.specs.Book.{replyOf, quoteBytes, quoteAnswer, quoteReply, lookCells, lookAnswer, lookReply, watchBytes, watchAnswer, watchReply}
-use Rattle.model.specs.Promises.{Quoted, Looked, Watched}
+use Rattle.model.specs.Book.{replyOf, quoteBytes, quoteAnswer, quoteReply, lookCells, lookAnswer, lookReply, pastCells, pastAnswer, pastReply, watchBytes, watchAnswer, watchReply}
+use Rattle.model.specs.Promises.{Quoted, Looked, PastLooked, Watched}
 use Rattle.judging.proofs.Answering.{answer-passed, watchful-passed}
 
 -- a count that fits if the call is accepted fits
@@ -53,6 +53,19 @@ module _ {h : Head} {t : Tables} {r : Reply} {before after : List ℕ} where
             (λ e. ltb-false room cells (zero-passed _ _ _ (zero-passed _ _ _ (answer-passed h t _ e .1) .1) .0)),
       )
 
+  -- and so do those of a past look
+  pub past-fits : {n1 n2 : ℕ} → PastLooked h n1 n2 t before r after → r .count ≤ length before
+  unfolding pastReply replyOf pastAnswer
+  past-fits {n1} {n2} o =
+      let room = length before in
+      let cells = length (pastCells h n1 n2 t) in
+      omega (
+        arith,
+        same-count (o .reply),
+        counted (pastAnswer h n1 n2 t room) cells room
+            (λ e. ltb-false room cells (zero-passed _ _ _ (zero-passed _ _ _ (zero-passed _ _ _ (answer-passed h t _ e .1) .1) .1) .0)),
+      )
+
   -- the joins of a watch fit its output
   pub watch-fits : {n : ℕ} {ws ws' : List ℕ} → Watched h n t ws before r ws' after → r .count ≤ length before
   unfolding watchReply replyOf watchAnswer
@@ -70,3 +83,7 @@ module _ {h : Head} {t : Tables} {r : Reply} {before after : List ℕ} where
 -- n and the positions of a look fit its cells
 pub cells-room : {count room : ℕ} (cells : List ℕ) → count ≤ room → length cells ≡ room → count + 1 ≤ suc (length (cells ++ []))
 cells-room cells h e = rw (append-nil cells) (omega arith)
+
+-- and n1, n2 and those of a past look
+pub pair-room : {count room : ℕ} (cells : List ℕ) → count ≤ room → length cells ≡ room → count + 2 ≤ suc (suc (length (cells ++ [])))
+pair-room cells h e = rw (append-nil cells) (omega arith)

@@ -2,6 +2,7 @@
 use mathlib.Core.Path.{_≡_, refl, ap, _∙_}
 use Prim.Native.Nat.{ℕ, zero, suc, _+_}
 use native.Mathlib.Numerals.{add-one}
+use native.Mathlib.Omega.{arith}
 use mathlib.Core.List.{List, [], _∷_, _++_, append-nil}
 use lib.ListN.{length, take, replicate}
 use Rattle.lists.specs.Lists.{flat}
@@ -15,9 +16,9 @@ use Rattle.head.specs.Replies.{Outcome}
 use Rattle.head.proofs.Numbers.{refused-granted}
 use Rattle.frames.specs.Frames.{messagesFrom}
 use Rattle.model.specs.Rows.{Tables}
-use Rattle.model.specs.Book.{replyOf, quoteBytes, quoteAnswer, quoteReply, quoteOut, lookAnswer, lookReply, watchBytes, watchAnswer, watchReply, watchOut}
+use Rattle.model.specs.Book.{replyOf, quoteBytes, quoteAnswer, quoteReply, quoteOut, lookAnswer, lookReply, pastAnswer, pastReply, watchBytes, watchAnswer, watchReply, watchOut}
 use Rattle.model.specs.Calls.{Call, bookSeen, headAfter, worldAfter, bookStep}
-use Rattle.model.specs.Promises.{Opened, Quoted, Looked, Watched, Ended}
+use Rattle.model.specs.Promises.{Opened, Quoted, Looked, PastLooked, Watched, Ended}
 use Rattle.text.specs.Text.{line, Laid}
 use Rattle.printed.specs.Printed.{changeLines, changesText}
 use Rattle.turns.specs.Print.{linesOf, refusalLine, textOf}
@@ -87,14 +88,14 @@ module _ (h : Head) (t : Tables) (ws bytes : List ℕ) where
 
     -- a quote
     pub quote-turned : (x : List ℕ) {r : Reply} {t' : Tables} {bytes' : List ℕ} → Quoted h x t ws bytes r t' bytes'
-        → Laid (answerLine (numberOf (r .answer)) 81 (r .head .newest ∷ r .head .rows ∷ []) ++ changesText (take (r .count) bytes')) before count after
+        → Laid (answerLine (numberOf (r .answer)) 81 (r .head .newest ∷ r .head .live ∷ []) ++ changesText (take (r .count) bytes')) before count after
         → Turned (made (Call.Quote x) k) before (record { answer = r .answer; count = count; head = r .head; watches = ws }) t' bytes' after
     unfolding made bookMake bookStep bookSeen worldAfter headAfter textOf linesOf quoteReply replyOf
     quote-turned x {bytes' = bytes'} q l =
         let reply = quoteReply h x t ws (length bytes) in
-        let lines : Outcome → List ℕ → List ℕ = λ a written. answerLine (a .number) 81 (a .head .newest ∷ a .head .rows ∷ []) ++ changesText (take (a .count) written) in
+        let lines : Outcome → List ℕ → List ℕ = λ a written. answerLine (a .number) 81 (a .head .newest ∷ a .head .live ∷ []) ++ changesText (take (a .count) written) in
         let all = laid-as (ap (λ (a : Outcome). lines a bytes') (q .reply) ∙ ap (lines reply) (q .out)
-        ∙ changed-lines (quoteAnswer h x t ws (length bytes)) 81 (reply .head .newest ∷ reply .head .rows ∷ []) (length (quoteBytes h x t ws)) (quoteOut h x t ws bytes)) l in
+        ∙ changed-lines (quoteAnswer h x t ws (length bytes)) 81 (reply .head .newest ∷ reply .head .live ∷ []) (length (quoteBytes h x t ws)) (quoteOut h x t ws bytes)) l in
         record { answer = answered (q .reply); count = all .counted; head = handed (q .reply); watches = refl; lent = q .lent; bytes = q .out; text = all .text }
 
     -- a watch
@@ -130,6 +131,26 @@ module _ (h : Head) (t : Tables) (ws bytes : List ℕ) where
           answer = answered (o .reply);
           count = all .counted;
           head = same-head (lookAnswer h n t 1024) h;
+          watches = refl;
+          lent = refl;
+          bytes = refl;
+          text = all .text;
+        }
+
+    -- a past look, whose positions stand in cells behind n1 and n2, leaves the player as it was
+    pub past-turned : (n1 n2 : ℕ) {r : Reply} {cells : List ℕ} → PastLooked h n1 n2 t (replicate 1024 0) r cells
+        → Laid (answerLine (numberOf (r .answer)) 80 (take (r .count + 2) (n1 ∷ n2 ∷ (cells ++ [])))) before count after
+        → Turned (made (Call.Past n1 n2) k) before (record { answer = r .answer; count = count; head = h; watches = ws }) t bytes after
+    unfolding made bookMake bookStep bookSeen worldAfter headAfter textOf linesOf answerLine pastReply replyOf
+    past-turned n1 n2 {r} {cells} o l =
+        let lines : Outcome → List ℕ → List ℕ = λ a written. answerLine (a .number) 80 (n1 ∷ n2 ∷ take (a .count) written) in
+        let two : r .count + 2 ≡ suc (suc (r .count)) = omega arith in
+        let same : Laid (answerLine (numberOf (r .answer)) 80 (n1 ∷ n2 ∷ take (r .count) cells)) before count after = rw (two, append-nil cells) at l in
+        let all = laid-as (ap (λ (a : Outcome). lines a cells) (o .reply) ∙ ap (lines (pastReply h n1 n2 t 1024)) (o .out)) same in
+        record {
+          answer = answered (o .reply);
+          count = all .counted;
+          head = same-head (pastAnswer h n1 n2 t 1024) h;
           watches = refl;
           lent = refl;
           bytes = refl;

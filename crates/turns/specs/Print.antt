@@ -4,7 +4,7 @@ use mathlib.Core.List.{List, [], _∷_, _++_}
 use lib.ListN.{take}
 use Rattle.head.specs.Refusals.{granted}
 use Rattle.head.specs.Replies.{Outcome}
-use Rattle.model.specs.Calls.{Call, Open, Quote, Look, Watch, End, Outputs}
+use Rattle.model.specs.Calls.{Call, Open, Quote, Look, Watch, End, Past, Outputs}
 use Rattle.text.specs.Text.{line}
 use Rattle.printed.specs.Printed.{changesText}
 
@@ -13,14 +13,16 @@ pub record Answered : Type 0 where
   pub outcome : Outcome
   pub outputs : Outputs
 
--- the lines of an accepted call: O d N directions; Q position rows and its changes; L n positions; W n and its joins; U n
+-- the lines of an accepted call: O d N directions; Q position rows, the live ones, and its changes; L n positions; W n and
+-- its joins; U n; P n1 n2 positions
 unfoldable pub linesOf : Call → Answered → List ℕ
 linesOf (Open d N directions) a = line 79 (d ∷ N ∷ directions ∷ [])
 linesOf (Quote x) a =
-    line 81 (a .outcome .head .newest ∷ a .outcome .head .rows ∷ []) ++ changesText (take (a .outcome .count) (a .outputs .bytes))
+    line 81 (a .outcome .head .newest ∷ a .outcome .head .live ∷ []) ++ changesText (take (a .outcome .count) (a .outputs .bytes))
 linesOf (Look n) a = line 76 (n ∷ take (a .outcome .count) (a .outputs .cells))
 linesOf (Watch n) a = line 87 (n ∷ []) ++ changesText (take (a .outcome .count) (a .outputs .bytes))
 linesOf (End n) a = line 85 (n ∷ [])
+linesOf (Past n1 n2) a = line 80 (n1 ∷ n2 ∷ take (a .outcome .count) (a .outputs .cells))
 
 -- R and the number of a refusal
 unfoldable pub refusalLine : ℕ → List ℕ

@@ -23,9 +23,9 @@ lineBytes numbers = 2 + 11 * numbers
 abbrev pub changeBytes : ℕ
 changeBytes = 8 * 1025 * 7
 
--- how many bytes the lines of any frame have room in: the longest list, n and 1,024 positions, and a line for each change
+-- how many bytes the lines of any frame have room in: the longest list, n1, n2 and 1,024 positions, and a line for each change
 abbrev pub textBytes : ℕ
-textBytes = lineBytes 1025 + lineBytes 2 * (changeBytes / 7)
+textBytes = lineBytes 1026 + lineBytes 2 * (changeBytes / 7)
 
 -- ---- the player
 

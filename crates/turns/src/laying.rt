@@ -92,7 +92,7 @@ pub fn put_quote(reply: Reply, watches: [u32; 8], bytes: &[u8], text: &mut [u8])
 {
     let answer = reply.answer;
     let head = reply.head;
-    let numbers = [head.newest, head.rows];
+    let numbers = [head.newest, head.live];
     Turn {
         answer,
         count: put_changed(answer, b'Q', &numbers, bytes, reply.count, text),

@@ -15,6 +15,8 @@ pub enum Wanted {
     Quote(u8),
     // A look at the list of n.
     Look(u16),
+    // A look at the past list of n1 and n2.
+    Past(u16, u16),
     // A watch of n.
     Watch(u16),
     // The end of the watch of n.

@@ -23,20 +23,67 @@ fn look(
     columns: &[u32],
     positions: &[u32],
     lower_ends: &[u32],
+    upper_ends: &[u32],
     watches: [u32; 8],
     text: &mut [u8],
 ) -> Turn
     requires { ⌜ textBytes ≤ length (now text) ⌝ }
-    ensures { λ r. ⌜ ((bytes : List ℕ) → Turned (made (Call.Look n) (player head (tables (now (columns .entry)) (now (positions .entry)) (now («lower_ends» .entry))) watches bytes)) (now (text .entry)) r (tables (now (columns .entry)) (now (positions .entry)) (now («lower_ends» .entry))) bytes (now (text .exit))) ⌝ }
+    ensures { λ r. ⌜ ((bytes : List ℕ) → Turned (made (Call.Look n) (player head (tables (now (columns .entry)) (now (positions .entry)) (now («lower_ends» .entry)) (now («upper_ends» .entry))) watches bytes)) (now (text .entry)) r (tables (now (columns .entry)) (now (positions .entry)) (now («lower_ends» .entry)) (now («upper_ends» .entry))) bytes (now (text .exit))) ⌝ }
 {
     let mut cells = [0u32; 1025];
-    let reply = looking::look(head, n, columns, positions, lower_ends, &mut cells[1..]);
+    let reply = looking::look(
+        head,
+        n,
+        columns,
+        positions,
+        lower_ends,
+        upper_ends,
+        &mut cells[1..],
+    );
     let answer = reply.answer;
     cells[0] = n;
     let end = reply.count + 1;
     Turn {
         answer,
         count: put_answer(answer, b'L', &cells[..end], text),
+        head,
+        watches,
+    }
+}
+
+// Makes a past look, and lays its line.
+fn past(
+    head: Head,
+    n1: u32,
+    n2: u32,
+    columns: &[u32],
+    positions: &[u32],
+    lower_ends: &[u32],
+    upper_ends: &[u32],
+    watches: [u32; 8],
+    text: &mut [u8],
+) -> Turn
+    requires { ⌜ textBytes ≤ length (now text) ⌝ }
+    ensures { λ r. ⌜ ((bytes : List ℕ) → Turned (made (Call.Past n1 n2) (player head (tables (now (columns .entry)) (now (positions .entry)) (now («lower_ends» .entry)) (now («upper_ends» .entry))) watches bytes)) (now (text .entry)) r (tables (now (columns .entry)) (now (positions .entry)) (now («lower_ends» .entry)) (now («upper_ends» .entry))) bytes (now (text .exit))) ⌝ }
+{
+    let mut cells = [0u32; 1026];
+    let reply = looking::past(
+        head,
+        n1,
+        n2,
+        columns,
+        positions,
+        lower_ends,
+        upper_ends,
+        &mut cells[2..],
+    );
+    let answer = reply.answer;
+    cells[0] = n1;
+    cells[1] = n2;
+    let end = reply.count + 2;
+    Turn {
+        answer,
+        count: put_answer(answer, b'P', &cells[..end], text),
         head,
         watches,
     }
@@ -49,14 +96,24 @@ fn watch(
     columns: &[u32],
     positions: &[u32],
     lower_ends: &[u32],
+    upper_ends: &[u32],
     watches: [u32; 8],
     bytes: &mut [u8],
     text: &mut [u8],
 ) -> Turn
     requires { ⌜ (length (now bytes) ≤ changeBytes) × (textBytes ≤ length (now text)) ⌝ }
-    ensures { λ r. ⌜ Turned (made (Call.Watch n) (player head (tables (now (columns .entry)) (now (positions .entry)) (now («lower_ends» .entry))) watches (now (bytes .entry)))) (now (text .entry)) r (tables (now (columns .entry)) (now (positions .entry)) (now («lower_ends» .entry))) (now (bytes .exit)) (now (text .exit)) ⌝ }
+    ensures { λ r. ⌜ Turned (made (Call.Watch n) (player head (tables (now (columns .entry)) (now (positions .entry)) (now («lower_ends» .entry)) (now («upper_ends» .entry))) watches (now (bytes .entry)))) (now (text .entry)) r (tables (now (columns .entry)) (now (positions .entry)) (now («lower_ends» .entry)) (now («upper_ends» .entry))) (now (bytes .exit)) (now (text .exit)) ⌝ }
 {
-    let watched = watching::watch(head, n, columns, positions, lower_ends, watches, bytes);
+    let watched = watching::watch(
+        head,
+        n,
+        columns,
+        positions,
+        lower_ends,
+        upper_ends,
+        watches,
+        bytes,
+    );
     let reply = watched.reply;
     let answer = reply.answer;
     let next = reply.head;
@@ -77,13 +134,14 @@ fn end(
     columns: &[u32],
     positions: &[u32],
     lower_ends: &[u32],
+    upper_ends: &[u32],
     watches: [u32; 8],
     text: &mut [u8],
 ) -> Turn
     requires { ⌜ textBytes ≤ length (now text) ⌝ }
-    ensures { λ r. ⌜ ((bytes : List ℕ) → Turned (made (Call.End n) (player head (tables (now (columns .entry)) (now (positions .entry)) (now («lower_ends» .entry))) watches bytes)) (now (text .entry)) r (tables (now (columns .entry)) (now (positions .entry)) (now («lower_ends» .entry))) bytes (now (text .exit))) ⌝ }
+    ensures { λ r. ⌜ ((bytes : List ℕ) → Turned (made (Call.End n) (player head (tables (now (columns .entry)) (now (positions .entry)) (now («lower_ends» .entry)) (now («upper_ends» .entry))) watches bytes)) (now (text .entry)) r (tables (now (columns .entry)) (now (positions .entry)) (now («lower_ends» .entry)) (now («upper_ends» .entry))) bytes (now (text .exit))) ⌝ }
 {
-    let ended = watching::end(head, n, columns, positions, lower_ends, watches);
+    let ended = watching::end(head, n, columns, positions, lower_ends, upper_ends, watches);
     let reply = ended.reply;
     let answer = reply.answer;
     let next = reply.head;
@@ -104,12 +162,13 @@ fn observe(
     columns: &[u32],
     positions: &[u32],
     lower_ends: &[u32],
+    upper_ends: &[u32],
     watches: [u32; 8],
     bytes: &mut [u8],
     text: &mut [u8],
 ) -> Turn
     requires { ⌜ (length (now bytes) ≤ changeBytes) × (textBytes ≤ length (now text)) ⌝ }
-    ensures { λ r. ⌜ Turned (observed wanted (player head (tables (now (columns .entry)) (now (positions .entry)) (now («lower_ends» .entry))) watches (now (bytes .entry)))) (now (text .entry)) r (tables (now (columns .entry)) (now (positions .entry)) (now («lower_ends» .entry))) (now (bytes .exit)) (now (text .exit)) ⌝ }
+    ensures { λ r. ⌜ Turned (observed wanted (player head (tables (now (columns .entry)) (now (positions .entry)) (now («lower_ends» .entry)) (now («upper_ends» .entry))) watches (now (bytes .entry)))) (now (text .entry)) r (tables (now (columns .entry)) (now (positions .entry)) (now («lower_ends» .entry)) (now («upper_ends» .entry))) (now (bytes .exit)) (now (text .exit)) ⌝ }
 {
     match wanted {
         Wanted::Look(n) => look(
@@ -118,6 +177,18 @@ fn observe(
             columns,
             positions,
             lower_ends,
+            upper_ends,
+            watches,
+            text,
+        ),
+        Wanted::Past(n1, n2) => past(
+            head,
+            n1 as u32,
+            n2 as u32,
+            columns,
+            positions,
+            lower_ends,
+            upper_ends,
             watches,
             text,
         ),
@@ -127,6 +198,7 @@ fn observe(
             columns,
             positions,
             lower_ends,
+            upper_ends,
             watches,
             bytes,
             text,
@@ -137,6 +209,7 @@ fn observe(
             columns,
             positions,
             lower_ends,
+            upper_ends,
             watches,
             text,
         ),
@@ -158,12 +231,13 @@ pub fn make_other(
     columns: &mut [u32],
     positions: &mut [u32],
     lower_ends: &mut [u32],
+    upper_ends: &mut [u32],
     watches: [u32; 8],
     bytes: &mut [u8],
     text: &mut [u8],
 ) -> Turn
     requires { ⌜ (length (now bytes) ≤ changeBytes) × (textBytes ≤ length (now text)) ⌝ }
-    ensures { λ r. ⌜ Turned (unquoted wanted (player head (tables (now (columns .entry)) (now (positions .entry)) (now («lower_ends» .entry))) watches (now (bytes .entry)))) (now (text .entry)) r (tables (now (columns .exit)) (now (positions .exit)) (now («lower_ends» .exit))) (now (bytes .exit)) (now (text .exit)) ⌝ }
+    ensures { λ r. ⌜ Turned (unquoted wanted (player head (tables (now (columns .entry)) (now (positions .entry)) (now («lower_ends» .entry)) (now («upper_ends» .entry))) watches (now (bytes .entry)))) (now (text .entry)) r (tables (now (columns .exit)) (now (positions .exit)) (now («lower_ends» .exit)) (now («upper_ends» .exit))) (now (bytes .exit)) (now (text .exit)) ⌝ }
 {
     match wanted {
         Wanted::Open(d, n, directions) => {
@@ -174,6 +248,7 @@ pub fn make_other(
                 columns,
                 positions,
                 lower_ends,
+                upper_ends,
                 watches,
             );
             put_opening(head, d as u32, n as u32, directions as u32, opened, text)
@@ -184,6 +259,7 @@ pub fn make_other(
             columns,
             positions,
             lower_ends,
+            upper_ends,
             watches,
             bytes,
             text,

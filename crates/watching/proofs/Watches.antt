@@ -1,6 +1,7 @@
 -- A watch on a book: the joins of its list, its answer, and what it leaves.
 use mathlib.Core.Path.{_≡_}
 use Prim.Native.Nat.{ℕ, _*_, _≤_, _<_}
+use native.Mathlib.Omega.{arith}
 use mathlib.Core.Bool.{false}
 use mathlib.Core.List.{List, map}
 use lib.Dec.{ltb}
@@ -14,15 +15,16 @@ use Rattle.head.specs.declared.Answer.the-variants.{Accepted, Refused}
 use Rattle.head.specs.declared.Refusal.{Refusal}
 use Rattle.head.specs.Refusals.{numberOf}
 use Rattle.head.proofs.Numbers.{zero-passed, accepted-number}
-use Rattle.model.specs.Rows.{Tables, listed}
+use Rattle.model.specs.Rows.{Tables}
 use Rattle.model.specs.Changes.{join, frames}
 use Rattle.model.specs.Book.{tornWatches, standing, bookRows, listOf, watchBytes, watchAnswer, watchReply, watchWatches, watchOut}
 use Rattle.model.proofs.Replying.{refused-reply, refused-left, accepted-reply, accepted-left}
-use Rattle.changes.specs.Picked.{bareRows}
-use Rattle.changes.proofs.Framing.{joins-length}
+use Rattle.listing.specs.Picked.{listedIn, Window}
+use Rattle.listing.proofs.Framing.{joins-length}
 use Rattle.model.specs.Promises.{Watched}
-use Rattle.judging.proofs.Answering.{Passed, InRange, rows-stand, in-range, watchful-passed}
-use Rattle.looking.proofs.Listing.{list-cells}
+use Rattle.judging.proofs.Answering.{Passed, InRange, in-range, watchful-passed}
+use Rattle.watching.specs.Answers.{recordAnswer}
+use Rattle.looking.proofs.Listing.{first, window-in, list-cells, start-in}
 
 -- what is known where a watch is accepted
 pub record Free (h : Head) (n : ℕ) (t : Tables) (ws : List ℕ) (room : ℕ) : Type 0 where
@@ -32,12 +34,30 @@ pub record Free (h : Head) (n : ℕ) (t : Tables) (ws : List ℕ) (room : ℕ) :
   pub free : length (standing ws) < 8
   pub fits : 7 * length (listOf h (bookRows h t) n) ≤ room
 
+-- the list of n of a book that passed, by the cells of the tables
+module _ (h : Head) (n : ℕ) (t : Tables) (p : Passed h t) (r : InRange h n) {base start : ℕ} (b : base ≡ first h t) (s : start ≡ windowStart (h .newest) n) where
+  pub list-of : listOf h (bookRows h t) n ≡ listedIn start (h .newest) base (t .lowerEnds) (t .upperEnds)
+  unfolding listOf
+  list-of =
+      let w = start-in h t p r s in
+      rw (b, ← s) (list-cells h t p start (h .newest) (w .0) (w .1) (omega arith))
+
+  pub window-of : Window base start (h .newest) (t .lowerEnds) (t .upperEnds)
+  window-of = let w = start-in h t p r s in rw b (window-in h t p start (h .newest) (w .0) (w .1) (omega arith))
+
 module _ (h : Head) (n : ℕ) (t : Tables) (ws : List ℕ) where
   -- the bytes of a list counted off the cells are too many for the output exactly if the joins are
-  pub joins-room : (room : ℕ) {start count : ℕ} → start ≡ windowStart (h .newest) n → count ≡ length (listed start (bareRows (t .positions) (t .lowerEnds) (h .rows)))
-      → ltb room (7 * count) ≡ ltb room (length (watchBytes h n t ws))
+  pub joins-room : (room : ℕ) {base start count : ℕ} → Passed h t → InRange h n → base ≡ first h t → start ≡ windowStart (h .newest) n
+      → count ≡ length (listedIn start (h .newest) base (t .lowerEnds) (t .upperEnds)) → ltb room (7 * count) ≡ ltb room (length (watchBytes h n t ws))
   unfolding watchBytes
-  joins-room room s c = rw (c, list-cells h t n s, joins-length n (listOf h (bookRows h t) n))
+  joins-room room p r b s c = rw (c, ← list-of h n t p r b s, joins-length n (listOf h (bookRows h t) n))
+
+  -- a watch that passed the tests but that of the output
+  pub record-passed : {a : Answer} → numberOf a ≡ recordAnswer h n t ws → a ≡ Accepted → Passed h t × InRange h n
+  unfolding recordAnswer
+  record-passed {a} e f =
+      let p = watchful-passed h t ws _ (accepted-number a e f) in
+      (p .0, in-range h n (zero-passed _ _ _ (p .2) .0))
 
   pub watch-free : {room : ℕ} {a : Answer} → numberOf a ≡ watchAnswer h n t ws room → a ≡ Accepted → Free h n t ws room
   unfolding watchAnswer watchBytes
@@ -56,12 +76,10 @@ module _ (h : Head) (n : ℕ) (t : Tables) (ws : List ℕ) where
         fits = rw (joins-length n (listOf h (bookRows h t) n)) at (ltb-false room (length bytes) (o .0));
       }
 
-  -- so the rows stand in the cells, and the joins of those listed fit the output
-  pub watch-fits : {room start : ℕ} → Free h n t ws room → start ≡ windowStart (h .newest) n
-      → (h .rows ≤ length (t .positions)) × ((h .rows ≤ length (t .lowerEnds)) × (7 * length (listed start (bareRows (t .positions) (t .lowerEnds) (h .rows))) ≤ room))
-  watch-fits v s =
-      let stand = rows-stand h t (v .passed) in
-      (stand .0, (stand .1, rw (list-cells h t n s) (v .fits)))
+  -- so the window lies within the cells, and the joins of those listed fit the output
+  pub watch-fits : {room base start : ℕ} → Free h n t ws room → base ≡ first h t → start ≡ windowStart (h .newest) n
+      → Window base start (h .newest) (t .lowerEnds) (t .upperEnds) × (7 * length (listedIn start (h .newest) base (t .lowerEnds) (t .upperEnds)) ≤ room)
+  watch-fits v b s = (window-of h n t (v .passed) (v .range) b s, rw (← list-of h n t (v .passed) (v .range) b s) (v .fits))
 
   module _ (out : List ℕ) {a : Answer} (e : numberOf a ≡ watchAnswer h n t ws (length out)) where
     -- what a refused watch leaves
@@ -75,14 +93,16 @@ module _ (h : Head) (n : ℕ) (t : Tables) (ws : List ℕ) where
         }
 
     -- what an accepted watch leaves
-    pub watch-done : {start count : ℕ} {head : Head} {ws' after : List ℕ} → a ≡ Accepted → start ≡ windowStart (h .newest) n
-        → count ≡ length (frames (map (join n) (listed start (bareRows (t .positions) (t .lowerEnds) (h .rows)))))
-        → after ≡ laid (frames (map (join n) (listed start (bareRows (t .positions) (t .lowerEnds) (h .rows))))) out
+    pub watch-done : {base start count : ℕ} {head : Head} {ws' after : List ℕ} → a ≡ Accepted → base ≡ first h t → start ≡ windowStart (h .newest) n
+        → count ≡ length (frames (map (join n) (listedIn start (h .newest) base (t .lowerEnds) (t .upperEnds))))
+        → after ≡ laid (frames (map (join n) (listedIn start (h .newest) base (t .lowerEnds) (t .upperEnds)))) out
         → head ≡ h → ws' ≡ padded 8 (insert n (standing ws)) ws → Watched h n t ws out (record { answer = a; head = head; count = count }) ws' after
     unfolding watchReply watchWatches watchOut watchBytes
-    watch-done f s c l d w =
+    watch-done f b s c l d w =
+        let v = watch-free e f in
+        let cells = list-of h n t (v .passed) (v .range) b s in
         record {
-          reply = accepted-reply e f h d (rw (list-cells h t n s) at c);
+          reply = accepted-reply e f h d (rw (← cells) at c);
           watches = accepted-left e f ws w;
-          out = accepted-left e f out (rw (list-cells h t n s) at l);
+          out = accepted-left e f out (rw (← cells) at l);
         }

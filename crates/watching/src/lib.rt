@@ -6,9 +6,6 @@ ghost use Rattle.head.specs.Refusals.{number, numberOf};
 ghost use Rattle.model.specs.Book.{watchfulAnswer, outOfRange, watchAnswer, endAnswer};
 ghost use Rattle.model.specs.Promises.{tables, Watched, Ended};
 ghost use Rattle.watching.specs.Answers.{recordAnswer};
-use changes::count_listed;
-use changes::start_of;
-use changes::write_joins;
 use head::Answer;
 use head::Head;
 use head::Refusal;
@@ -16,6 +13,9 @@ use head::Reply;
 use judging::judge_watchful;
 use judging::out_of_range;
 use judging::with_test;
+use listing::count_listed;
+use listing::start_of;
+use listing::write_joins;
 use watches::WatchReply;
 use watches::find;
 use watches::insert;
@@ -29,14 +29,13 @@ fn judge_watch_size(
     columns: &[u32],
     positions: &[u32],
     lower_ends: &[u32],
+    upper_ends: &[u32],
     watches: [u32; 8],
 ) -> Answer
-    ensures { λ r. ⌜ numberOf r ≡ watchfulAnswer head
-        (tables (now (columns .entry)) (now (positions .entry)) (now («lower_ends» .entry)))
-        watches ((outOfRange head n, number WindowSize) ∷ []) ⌝ }
+    ensures { λ r. ⌜ numberOf r ≡ watchfulAnswer head (tables (now (columns .entry)) (now (positions .entry)) (now («lower_ends» .entry)) (now («upper_ends» .entry))) watches ((outOfRange head n, number WindowSize) ∷ []) ⌝ }
 {
     with_test(
-        judge_watchful(head, columns, positions, lower_ends, watches),
+        judge_watchful(head, columns, positions, lower_ends, upper_ends, watches),
         out_of_range(head, n),
         Refusal::WindowSize,
     )
@@ -49,12 +48,12 @@ fn judge_end(
     columns: &[u32],
     positions: &[u32],
     lower_ends: &[u32],
+    upper_ends: &[u32],
     watches: [u32; 8],
 ) -> Answer
-    ensures { λ r. ⌜ numberOf r ≡ endAnswer head n
-        (tables (now (columns .entry)) (now (positions .entry)) (now («lower_ends» .entry))) watches ⌝ }
+    ensures { λ r. ⌜ numberOf r ≡ endAnswer head n (tables (now (columns .entry)) (now (positions .entry)) (now («lower_ends» .entry)) (now («upper_ends» .entry))) watches ⌝ }
 {
-    let answer = judge_watch_size(head, n, columns, positions, lower_ends, watches);
+    let answer = judge_watch_size(head, n, columns, positions, lower_ends, upper_ends, watches);
     with_test(answer, !find(watches, n), Refusal::NotWatched)
 }
 
@@ -65,12 +64,12 @@ fn judge_record(
     columns: &[u32],
     positions: &[u32],
     lower_ends: &[u32],
+    upper_ends: &[u32],
     watches: [u32; 8],
 ) -> Answer
-    ensures { λ r. ⌜ numberOf r ≡ recordAnswer head n
-        (tables (now (columns .entry)) (now (positions .entry)) (now («lower_ends» .entry))) watches ⌝ }
+    ensures { λ r. ⌜ numberOf r ≡ recordAnswer head n (tables (now (columns .entry)) (now (positions .entry)) (now («lower_ends» .entry)) (now («upper_ends» .entry))) watches ⌝ }
 {
-    let sized = judge_watch_size(head, n, columns, positions, lower_ends, watches);
+    let sized = judge_watch_size(head, n, columns, positions, lower_ends, upper_ends, watches);
     let answer = with_test(sized, find(watches, n), Refusal::AlreadyWatched);
     with_test(answer, 8 <= standing_count(watches), Refusal::NoFreeRecord)
 }
@@ -82,20 +81,22 @@ fn judge_watch(
     columns: &[u32],
     positions: &[u32],
     lower_ends: &[u32],
+    upper_ends: &[u32],
     watches: [u32; 8],
     room: usize,
 ) -> Answer
-    ensures { λ r. ⌜ numberOf r ≡ watchAnswer head n
-        (tables (now (columns .entry)) (now (positions .entry)) (now («lower_ends» .entry))) watches room ⌝ }
+    ensures { λ r. ⌜ numberOf r ≡ watchAnswer head n (tables (now (columns .entry)) (now (positions .entry)) (now («lower_ends» .entry)) (now («upper_ends» .entry))) watches room ⌝ }
 {
-    let answer = judge_record(head, n, columns, positions, lower_ends, watches);
+    let answer = judge_record(head, n, columns, positions, lower_ends, upper_ends, watches);
     match answer {
         Answer::Accepted => {}
         Answer::Refused(_) => {
             return answer;
         }
     }
-    let count = count_listed(positions, lower_ends, head.rows as usize, start_of(head, n));
+    let first = start_of(head, head.capacity);
+    let a = start_of(head, n);
+    let count = count_listed(lower_ends, upper_ends, first, a, head.newest);
     with_test(answer, room < 7 * count, Refusal::ShortOutput)
 }
 
@@ -106,14 +107,22 @@ pub fn watch(
     columns: &[u32],
     positions: &[u32],
     lower_ends: &[u32],
+    upper_ends: &[u32],
     watches: [u32; 8],
     out: &mut [u8],
 ) -> WatchReply
-    ensures { λ r. ⌜ Watched head n
-        (tables (now (columns .entry)) (now (positions .entry)) (now («lower_ends» .entry)))
-        watches (now (out .entry)) (r .reply) (r .watches) (now (out .exit)) ⌝ }
+    ensures { λ r. ⌜ Watched head n (tables (now (columns .entry)) (now (positions .entry)) (now («lower_ends» .entry)) (now («upper_ends» .entry))) watches (now (out .entry)) (r .reply) (r .watches) (now (out .exit)) ⌝ }
 {
-    let answer = judge_watch(head, n, columns, positions, lower_ends, watches, out.len());
+    let answer = judge_watch(
+        head,
+        n,
+        columns,
+        positions,
+        lower_ends,
+        upper_ends,
+        watches,
+        out.len(),
+    );
     match answer {
         Answer::Accepted => {}
         Answer::Refused(_) => {
@@ -127,14 +136,9 @@ pub fn watch(
             };
         }
     }
-    let count = write_joins(
-        n as u16,
-        positions,
-        lower_ends,
-        head.rows as usize,
-        start_of(head, n),
-        out,
-    );
+    let first = start_of(head, head.capacity);
+    let a = start_of(head, n);
+    let count = write_joins(n as u16, lower_ends, upper_ends, first, a, head.newest, out);
     WatchReply {
         reply: Reply {
             answer,
@@ -152,12 +156,12 @@ pub fn end(
     columns: &[u32],
     positions: &[u32],
     lower_ends: &[u32],
+    upper_ends: &[u32],
     watches: [u32; 8],
 ) -> WatchReply
-    ensures { λ r. ⌜ Ended head n (tables (now (columns .entry)) (now (positions .entry)) (now («lower_ends» .entry)))
-        watches (r .reply) (r .watches) ⌝ }
+    ensures { λ r. ⌜ Ended head n (tables (now (columns .entry)) (now (positions .entry)) (now («lower_ends» .entry)) (now («upper_ends» .entry))) watches (r .reply) (r .watches) ⌝ }
 {
-    let answer = judge_end(head, n, columns, positions, lower_ends, watches);
+    let answer = judge_end(head, n, columns, positions, lower_ends, upper_ends, watches);
     match answer {
         Answer::Accepted => {}
         Answer::Refused(_) => {

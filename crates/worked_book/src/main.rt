@@ -1,126 +1,34 @@
-// A worked book: opens, quotes, looks, watches, ends and audits on real buffers, and judges and prints each answer; then it draws the
+// A worked book: opens, quotes, looks, looks back, watches, ends and audits on real buffers, and judges and prints each answer; then it draws the
 // refusals that the calls give, writes and reads a frame, and plays one.
-use head::Head;
+use drawn_refusals::limits;
+use drawn_refusals::refusals;
+use drawn_refusals::refuse_opening;
 use head::Watch;
-use judged_calls::audit;
-use judged_calls::end;
-use judged_calls::find;
-use judged_calls::look;
 use judged_calls::open;
-use judged_calls::play_opening;
-use judged_calls::print_answer;
-use judged_calls::take;
 use judged_calls::take_all;
-use judged_calls::tell;
-use judged_calls::there_and_back;
-use judged_calls::watch;
-
-// Refusals of calls that only read the tables, 5, 8, 10, 11, 12, 13, and the watch of 2 ended.
-fn refusals(
-    head: Head,
-    columns: &[u32],
-    positions: &[u32],
-    lower_ends: &[u32],
-    records: [Watch; 8],
-) {
-    let mut out = [0u8; 6];
-    let mut wide = head;
-    wide.capacity = 6;
-    let mut torn = head;
-    torn.rows = 0;
-    look(head, 6, columns, positions, lower_ends);
-    watch(head, 2, columns, positions, lower_ends, records, &mut out);
-    end(head, 3, columns, positions, lower_ends, records);
-    look(wide, 1, columns, positions, lower_ends);
-    look(torn, 1, columns, positions, lower_ends);
-    watch(head, 5, columns, positions, lower_ends, records, &mut out);
-    find(records, 2);
-    let ended = end(head, 2, columns, positions, lower_ends, records);
-    find(ended, 2);
-}
-
-// Refusal of an opening with seven columns: 3.
-fn refuse_opening() {
-    let mut columns = [0u32; 63];
-    let mut positions = [0u32; 9];
-    let mut lower_ends = [0u32; 9];
-    let records = [Watch { n: 0 }; 8];
-    let made = by_value::open(
-        7,
-        9,
-        0,
-        &mut columns,
-        &mut positions,
-        &mut lower_ends,
-        records,
-    );
-    let reply = made.reply;
-    print_answer(reply);
-}
-
-// Eight records, of the watches of 1 to 8.
-fn all_watched() -> [Watch; 8] {
-    [
-        Watch { n: 1 },
-        Watch { n: 2 },
-        Watch { n: 3 },
-        Watch { n: 4 },
-        Watch { n: 5 },
-        Watch { n: 6 },
-        Watch { n: 7 },
-        Watch { n: 8 },
-    ]
-}
-
-// Refusals on a book of one column at its limits, the last position and eight watches: 4, 9, 6.
-fn limits() {
-    let mut columns = [0u32; 9];
-    let mut positions = [0u32; 9];
-    let mut lower_ends = [0u32; 9];
-    let mut out = [0u8; 100];
-    let records = all_watched();
-    positions[0] = Head::MAX_POSITION;
-    let mut head = Head::fresh(1, 9, 0);
-    head.newest = Head::MAX_POSITION;
-    head.rows = 1;
-    take(
-        head,
-        [1, 2],
-        &mut columns,
-        &mut positions,
-        &mut lower_ends,
-        records,
-        &mut out,
-    );
-    watch(
-        head,
-        9,
-        &columns,
-        &positions,
-        &lower_ends,
-        records,
-        &mut out,
-    );
-    let one = [1];
-    print_answer(by_value::quote(
-        head,
-        &one,
-        &mut columns,
-        &mut positions,
-        &mut lower_ends,
-        records,
-        &mut out,
-    ));
-}
+use judged_frames::play_opening;
+use judged_frames::there_and_back;
+use judged_reads::audit;
+use judged_reads::look;
+use judged_reads::past;
+use judged_reads::tell;
+use judged_reads::watch;
 
 // Plays 01's worked example, audits the book that it leaves, and draws the refusals.
 fn main() {
     let mut columns = [0u32; 10];
     let mut positions = [0u32; 5];
     let mut lower_ends = [0u32; 5];
+    let mut upper_ends = [0u32; 5];
     let mut out = [0u8; 57400];
     let none = [Watch { n: 0 }; 8];
-    let opened = open(&mut columns, &mut positions, &mut lower_ends, none);
+    let opened = open(
+        &mut columns,
+        &mut positions,
+        &mut lower_ends,
+        &mut upper_ends,
+        none,
+    );
     let reply = opened.reply;
     let empty = opened.records;
     let first = [5, 5, 3, 8, 4, 4, 7, 2, 4, 4];
@@ -130,10 +38,20 @@ fn main() {
         &mut columns,
         &mut positions,
         &mut lower_ends,
+        &mut upper_ends,
         empty,
         &mut out,
     );
-    let records = watch(five, 2, &columns, &positions, &lower_ends, empty, &mut out);
+    let records = watch(
+        five,
+        2,
+        &columns,
+        &positions,
+        &lower_ends,
+        &upper_ends,
+        empty,
+        &mut out,
+    );
     let sixth = [6, 6];
     let six = take_all(
         five,
@@ -141,10 +59,11 @@ fn main() {
         &mut columns,
         &mut positions,
         &mut lower_ends,
+        &mut upper_ends,
         records,
         &mut out,
     );
-    look(six, 5, &columns, &positions, &lower_ends);
+    look(six, 5, &columns, &positions, &lower_ends, &upper_ends);
     let last = [2, 9, 4, 3];
     let eight = take_all(
         six,
@@ -152,13 +71,22 @@ fn main() {
         &mut columns,
         &mut positions,
         &mut lower_ends,
+        &mut upper_ends,
         records,
         &mut out,
     );
-    look(eight, 3, &columns, &positions, &lower_ends);
-    audit(eight, &columns, &positions, &lower_ends);
+    look(eight, 3, &columns, &positions, &lower_ends, &upper_ends);
+    past(eight, 2, 5, &columns, &positions, &lower_ends, &upper_ends);
+    audit(eight, &columns, &positions, &lower_ends, &upper_ends);
     tell(eight, 3);
-    refusals(eight, &columns, &positions, &lower_ends, records);
+    refusals(
+        eight,
+        &columns,
+        &positions,
+        &lower_ends,
+        &upper_ends,
+        records,
+    );
     refuse_opening();
     limits();
     there_and_back(2);

@@ -2,6 +2,7 @@
 use mathlib.Core.Path.{sym, _∙_}
 use borrow.Author.Needs.{needs}
 use borrow.Author.Tests.{not-true, not-false}
+use Rattle.head.proofs.Settings.{settings-within}
 use Rattle.model.specs.Audit.{findingOf}
 use Rattle.judging.proofs.Answering.{long-enough}
 use Rattle.audits.proofs.Verdicts.{wrong-settings, too-short, by-rules}
@@ -26,7 +27,8 @@ returns-2 c =
 meets-rules-requires : tie.Need-meets-rules-requires
 meets-rules-requires c κs =
     let room = long-enough _ _ _ (sym (c .before .short-tables .ensures) ∙ c .if2 .left) in
-    (room .columns, (room .positions, room .lowerEnds))
+    let within = settings-within _ _ _ (sym (c .before .before .before .settings-hold .ensures) ∙ not-false _ (c .before .before .if1 .left)) in
+    (within .some-capacity, (room .columns, (room .positions, (room .lowerEnds, room .upperEnds))))
 
 returns-3 : tie.Need-returns-3
 unfolding findingOf

@@ -2,7 +2,7 @@
 use mathlib.Core.Path.{sym, _∙_}
 use native.Mathlib.Omega.{arith}
 use borrow.Author.Needs.{needs}
-use Rattle.audits.proofs.Rules.{rows-fit, columns-fit, torn-fails, by-parts}
+use Rattle.audits.proofs.Rules.{held-fits, columns-fit, torn-fails, by-parts}
 use Rattle.audits.proofs.meets_rules.Statement.{statement}
 use Rattle.audits.proofs.meets_rules.Tie as tie
 
@@ -10,7 +10,7 @@ torn-rows-requires : tie.Need-torn-rows-requires
 torn-rows-requires c κs = search needs
 
 returns : tie.Need-returns
-returns c = sym (torn-fails _ _ _ _ (sym (c .before .torn-rows .ensures) ∙ c .if1 .taken))
+returns c = sym (torn-fails _ _ _ _ _ (sym (c .before .torn-rows .ensures) ∙ c .if1 .taken))
 
 cast-d : tie.Need-cast-d
 cast-d c = search needs
@@ -21,16 +21,21 @@ cast-capacity c = search needs
 cast-count : tie.Need-cast-count
 cast-count c = search needs
 
-right-rows-requires : tie.Need-right-rows-requires
-right-rows-requires c κs =
-    let untorn = sym (c .before .before .before .before .torn-rows .ensures) ∙ c .before .before .before .if1 .left in
-    let rows = rows-fit _ _ _ untorn in
-    let cells = columns-fit _ _ _ untorn in
+right-ends-requires : tie.Need-right-ends-requires
+right-ends-requires c κs =
+    let passed = c .before .before .before .before in
+    let untorn = sym (passed .torn-rows .ensures) ∙ c .before .before .before .if1 .left in
+    let some = passed .before .before .before .before .before .pre .0 in
+    let rows = held-fits _ _ _ _ some untorn in
+    let cells = columns-fit _ _ _ _ some untorn in
     search needs
 
 mul-all-zero : tie.Need-mul-all-zero
 mul-all-zero c =
-    omega (arith, columns-fit _ _ _ (sym (c .before .before .before .before .before .torn-rows .ensures) ∙ c .before .before .before .before .if1 .left))
+    let passed = c .before .before .before .before .before in
+    let untorn = sym (passed .torn-rows .ensures) ∙ c .before .before .before .before .if1 .left in
+    let some = passed .before .before .before .before .before .pre .0 in
+    omega (arith, columns-fit _ _ _ _ some untorn)
 
 mul-all-zero-2 : tie.Need-mul-all-zero-2
 mul-all-zero-2 c = search needs
@@ -42,22 +47,17 @@ all-zero-requires-2 : tie.Need-all-zero-requires-2
 all-zero-requires-2 c κs = search needs
 
 all-zero-requires-3 : tie.Need-all-zero-requires-3
-all-zero-requires-3 c κs = search needs
+all-zero-requires-3 c κs = c .before .before .before .before .before .before .before .before .before .before .before .before .pre .1 .1 .1 .0
 
-window-start-requires : tie.Need-window-start-requires
-window-start-requires c κs = search needs
-
-open-gap-requires : tie.Need-open-gap-requires
-open-gap-requires c κs =
-    let untorn = sym (c .before .before .before .before .before .before .before .before .before .torn-rows .ensures) ∙ c .before .before .before .before .before .before .before .before .if1 .left in
-    let rows = rows-fit _ _ _ untorn in
-    let cells = columns-fit _ _ _ untorn in
-    search needs
+all-zero-requires-4 : tie.Need-all-zero-requires-4
+all-zero-requires-4 c κs = c .before .before .before .before .before .before .before .before .before .before .before .before .before .pre .1 .1 .1 .1
 
 returns-2 : tie.Need-returns-2
 returns-2 c =
-    let untorn = sym (c .before .before .before .before .before .before .before .before .before .before .torn-rows .ensures) ∙ c .before .before .before .before .before .before .before .before .before .if1 .left in
-    by-parts _ _ _ _ untorn _ (c .before .before .before .before .before .right-rows .ensures) _ _ _ (c .before .before .before .before .all-zero .ensures) (c .before .before .before .all-zero2 .ensures) (c .before .before .all-zero3 .ensures) _ (c .before .window-start .ensures) _ (c .open-gap .ensures)
+    let passed = c .before .before .before .before .before .before .before .before .before in
+    let untorn = sym (passed .torn-rows .ensures) ∙ c .before .before .before .before .before .before .before .before .if1 .left in
+    let some = passed .before .before .before .before .before .pre .0 in
+    by-parts _ _ _ _ some untorn _ _ (c .before .before .before .before .right-ends .ensures) _ _ _ _ (c .before .before .before .all-zero .ensures) (c .before .before .all-zero2 .ensures) (c .before .all-zero3 .ensures) (c .all-zero4 .ensures)
 
 pub meets-rules-spec : {M : Type 1} → statement M
 meets-rules-spec =
@@ -68,12 +68,11 @@ meets-rules-spec =
     cast-d
     cast-capacity
     cast-count
-    right-rows-requires
+    right-ends-requires
     mul-all-zero
     mul-all-zero-2
     all-zero-requires
     all-zero-requires-2
     all-zero-requires-3
-    window-start-requires
-    open-gap-requires
+    all-zero-requires-4
     returns-2)

@@ -73,138 +73,140 @@ use Rattle.book.proofs.open.Code as code
 
 -- what is had of each parameter at the end: of what is lent for good its last value, of the others nothing
 abbrev stayed : Stays (f.ended .signature .params) (f.ended .kept)
-stayed = (stay-dropped (plain (λ _. u32)) yes, (stay-dropped (plain (λ _. u32)) yes, (stay-dropped (plain (λ _. u32)) yes, (gave-slice (0 ∷ []) tt (plain (λ _. u32)), (gave-slice (1 ∷ []) tt (plain (λ _. u32)), (gave-slice (2 ∷ []) tt (plain (λ _. u32)), (gave-slice (3 ∷ []) tt (plain (λ _. T.the-row)), tt)))))))
+stayed = (stay-dropped (plain (λ _. u32)) yes, (stay-dropped (plain (λ _. u32)) yes, (stay-dropped (plain (λ _. u32)) yes, (gave-slice (0 ∷ []) tt (plain (λ _. u32)), (gave-slice (1 ∷ []) tt (plain (λ _. u32)), (gave-slice (2 ∷ []) tt (plain (λ _. u32)), (gave-slice (3 ∷ []) tt (plain (λ _. u32)), (gave-slice (4 ∷ []) tt (plain (λ _. T.the-row)), tt))))))))
 
 module _ {M : Type 1} (𝓤 : URA M) (H : Heap 𝓤) (A : Atoms 𝓤) (mem : Memory → SProp 𝓤) (run : Routine → Fun 𝓤) where
   -- the contract of `open_lent`
   abbrev Callee : Contract 𝓤
   Callee = tripleOf 𝓤 H A callee.signature (callee.spec 𝓤 H A mem run)
 
-module _ {M : Type 1} (𝓤 : URA M) (H : Heap 𝓤) (A : Atoms 𝓤) (W : Given 𝓤 H A) (mem : Memory → SProp 𝓤) (run : Routine → Fun 𝓤) (κ₀ κ₁ κ₂ κ₃ : Lft) (q₀ q₁ q₂ q₃ : Share)
-    (dimensions : ℕ) (capacity : ℕ) (directions : ℕ) (columns : RefT (List ℕ)) (positions : RefT (List ℕ)) (lowerEnds : RefT (List ℕ)) (b o : ℕ) (γ : GName) (ys : List Watch) where
+module _ {M : Type 1} (𝓤 : URA M) (H : Heap 𝓤) (A : Atoms 𝓤) (W : Given 𝓤 H A) (mem : Memory → SProp 𝓤) (run : Routine → Fun 𝓤) (κ₀ κ₁ κ₂ κ₃ κ₄ : Lft) (q₀ q₁ q₂ q₃ q₄ : Share)
+    (dimensions : ℕ) (capacity : ℕ) (directions : ℕ) (columns : RefT (List ℕ)) (positions : RefT (List ℕ)) (lowerEnds : RefT (List ℕ)) (upperEnds : RefT (List ℕ)) (b o : ℕ) (γ : GName) (ys : List Watch) where
   -- what is given: denotations, machine values, tokens and what is owned
-  abbrev x : ℕ × (ℕ × (ℕ × (RefT (List ℕ) × (RefT (List ℕ) × (RefT (List ℕ) × (RefT (List Watch) × Unit {0}))))))
-  x = (dimensions, (capacity, (directions, (columns, (positions, (lowerEnds, (at-name b o ys γ, tt)))))))
+  abbrev x : ℕ × (ℕ × (ℕ × (RefT (List ℕ) × (RefT (List ℕ) × (RefT (List ℕ) × (RefT (List ℕ) × (RefT (List Watch) × Unit {0})))))))
+  x = (dimensions, (capacity, (directions, (columns, (positions, (lowerEnds, (upperEnds, (at-name b o ys γ, tt))))))))
 
-  abbrev at : List Val × (List Val × (List Val × (List Val × (List Val × (List Val × (List Val × Unit {0}))))))
-  at = (vint w32 dimensions ∷ [], (vint w32 capacity ∷ [], (vint w32 directions ∷ [], (slice-vals columns, (slice-vals positions, (slice-vals lowerEnds, (slice-vals (at-name b o ys γ), tt)))))))
+  abbrev at : List Val × (List Val × (List Val × (List Val × (List Val × (List Val × (List Val × (List Val × Unit {0})))))))
+  at = (vint w32 dimensions ∷ [], (vint w32 capacity ∷ [], (vint w32 directions ∷ [], (slice-vals columns, (slice-vals positions, (slice-vals lowerEnds, (slice-vals upperEnds, (slice-vals (at-name b o ys γ), tt))))))))
 
   abbrev given : List Val
-  given = vint w32 dimensions ∷ vint w32 capacity ∷ vint w32 directions ∷ only (slice-vals columns) ∷ only (slice-vals positions) ∷ only (slice-vals lowerEnds) ∷ only (slice-vals (at-name b o ys γ)) ∷ []
+  given = vint w32 dimensions ∷ vint w32 capacity ∷ vint w32 directions ∷ only (slice-vals columns) ∷ only (slice-vals positions) ∷ only (slice-vals lowerEnds) ∷ only (slice-vals upperEnds) ∷ only (slice-vals (at-name b o ys γ)) ∷ []
 
   abbrev Entry : List (Item 𝓤)
-  Entry = (‵ (flft κ₀ q₀) ⊛ ‵ (flft κ₁ q₁) ⊛ ‵ (flft κ₂ q₂) ⊛ ‵ (flft κ₃ q₃) ⊛ ‵ ftrue) ∷ ‵ (owns (u32 ∷ u32 ∷ u32 ∷ MutSlice (named 0) κ₀ u32 ∷ MutSlice (named 1) κ₁ u32 ∷ MutSlice (named 2) κ₂ u32 ∷ MutSlice (named 3) κ₃ T.the-row ∷ []) x at) ∷ []
+  Entry = (‵ (flft κ₀ q₀) ⊛ ‵ (flft κ₁ q₁) ⊛ ‵ (flft κ₂ q₂) ⊛ ‵ (flft κ₃ q₃) ⊛ ‵ (flft κ₄ q₄) ⊛ ‵ ftrue) ∷ ‵ (owns (u32 ∷ u32 ∷ u32 ∷ MutSlice (named 0) κ₀ u32 ∷ MutSlice (named 1) κ₁ u32 ∷ MutSlice (named 2) κ₂ u32 ∷ MutSlice (named 3) κ₃ u32 ∷ MutSlice (named 4) κ₄ T.the-row ∷ []) x at) ∷ []
 
   abbrev bound : walkOf 𝓤 H A f.ended stayed (f.clauses 𝓤 H A mem run) .Ghost
-  bound = (((κ₀, (κ₁, (κ₂, (κ₃, tt)))), (q₀, (q₁, (q₂, (q₃, tt)))), tt, x, at), tt)
+  bound = (((κ₀, (κ₁, (κ₂, (κ₃, (κ₄, tt))))), (q₀, (q₁, (q₂, (q₃, (q₄, tt))))), tt, x, at), tt)
 
   abbrev Post : Val → SProp 𝓤
   Post = walkOf 𝓤 H A f.ended stayed (f.clauses 𝓤 H A mem run) .post bound
 
   -- the tables as they are lent
   abbrev lent : Lent
-  lent = lent-tables (columns .now) (positions .now) (lowerEnds .now)
+  lent = lent-tables (columns .now) (positions .now) (lowerEnds .now) (upperEnds .now)
 
   -- what is known of the records once they are changed
   abbrev Last : List ℕ → Type 0
   Last l = l ≡ stored (replicate 8 0) (watched ys)
 
   -- what `open_lent` binds outside, that it is given what it asks, and what is known of its result
-  abbrev lives : Lft × (Lft × (Lft × Unit {0}))
-  lives = (κ₀, (κ₁, (κ₂, tt)))
+  abbrev lives : Lft × (Lft × (Lft × (Lft × Unit {0})))
+  lives = (κ₀, (κ₁, (κ₂, (κ₃, tt))))
 
   abbrev Tokens : Item 𝓤
-  Tokens = ‵ (flft κ₀ q₀) ⊛ ‵ (flft κ₁ q₁) ⊛ ‵ (flft κ₂ q₂) ⊛ ‵ ftrue
+  Tokens = ‵ (flft κ₀ q₀) ⊛ ‵ (flft κ₁ q₁) ⊛ ‵ (flft κ₂ q₂) ⊛ ‵ (flft κ₃ q₃) ⊛ ‵ ftrue
 
-  abbrev asked : List ℕ → ℕ × (ℕ × (ℕ × (RefT (List ℕ) × (RefT (List ℕ) × (RefT (List ℕ) × (List ℕ × (ℕ × Unit {0})))))))
-  asked r = (dimensions, (capacity, (directions, (columns, (positions, (lowerEnds, (r, (length ys, tt))))))))
+  abbrev asked : List ℕ → ℕ × (ℕ × (ℕ × (RefT (List ℕ) × (RefT (List ℕ) × (RefT (List ℕ) × (RefT (List ℕ) × (List ℕ × (ℕ × Unit {0}))))))))
+  asked r = (dimensions, (capacity, (directions, (columns, (positions, (lowerEnds, (upperEnds, (r, (length ys, tt)))))))))
 
   abbrev to : List ℕ → Val → Callee 𝓤 H A mem run .Ghost
-  to r u = ((lives, (q₀, (q₁, (q₂, tt))), tt, asked r, (vint w32 dimensions ∷ [], (vint w32 capacity ∷ [], (vint w32 directions ∷ [], (slice-vals columns, (slice-vals positions, (slice-vals lowerEnds, (u ∷ [], (vint w64 (length ys) ∷ [], tt))))))))), tt)
+  to r u = ((lives, (q₀, (q₁, (q₂, (q₃, tt)))), tt, asked r, (vint w32 dimensions ∷ [], (vint w32 capacity ∷ [], (vint w32 directions ∷ [], (slice-vals columns, (slice-vals positions, (slice-vals lowerEnds, (slice-vals upperEnds, (u ∷ [], (vint w64 (length ys) ∷ [], tt)))))))))), tt)
 
   abbrev Passed : List ℕ → Val → Fml
-  Passed r u = owns (u32 ∷ u32 ∷ u32 ∷ MutSlice (named 0) κ₀ u32 ∷ MutSlice (named 1) κ₁ u32 ∷ MutSlice (named 2) κ₂ u32 ∷ Array u32 8 ∷ usize ∷ []) (asked r) (to r u .0 .4)
+  Passed r u = owns (u32 ∷ u32 ∷ u32 ∷ MutSlice (named 0) κ₀ u32 ∷ MutSlice (named 1) κ₁ u32 ∷ MutSlice (named 2) κ₂ u32 ∷ MutSlice (named 3) κ₃ u32 ∷ Array u32 8 ∷ usize ∷ []) (asked r) (to r u .0 .4)
 
   goes : (r : List ℕ) (u : Val) → ent 𝓤 (sep 𝓤 (mean 𝓤 H A Tokens) (sem 𝓤 H A (Passed r u))) (Callee 𝓤 H A mem run .pre (to r u))
   goes r u = qed W (Tokens ∷ ‵ (Passed r u) ∷ []) ∵ join ! $ frame ! $ nothing ! $ done !
 
   abbrev Ends : Type 0
-  Ends = Unit {0} × (Unit {0} × (Unit {0} × (List ℕ × (List ℕ × (List ℕ × (Unit {0} × (Unit {0} × Unit {0})))))))
+  Ends = Unit {0} × (Unit {0} × (Unit {0} × (List ℕ × (List ℕ × (List ℕ × (List ℕ × (Unit {0} × (Unit {0} × Unit {0}))))))))
 
   abbrev Said : List ℕ → Judgement → Ends → Type 0
-  Said r j zs = OpenJudged dimensions capacity directions lent (take (length ys) r) j (lent-tables (zs .1 .1 .1 .0) (zs .1 .1 .1 .1 .0) (zs .1 .1 .1 .1 .1 .0))
+  Said r j zs = OpenJudged dimensions capacity directions lent (take (length ys) r) j (lent-tables (zs .1 .1 .1 .0) (zs .1 .1 .1 .1 .0) (zs .1 .1 .1 .1 .1 .0) (zs .1 .1 .1 .1 .1 .1 .0))
 
   -- what is left at the return, with what is lent at its last values
-  abbrev Left : List ℕ → List ℕ → List ℕ → List Watch → List (Item 𝓤)
-  Left columns-last positions-last lowerEnds-last watches-last = Tokens ∷ ‵ (flft κ₃ q₃) ∷ ‵ (finally u32 (columns .name) columns-last) ∷ ‵ (finally u32 (positions .name) positions-last) ∷ ‵ (finally u32 (lowerEnds .name) lowerEnds-last) ∷ ‵ (finally T.the-row γ watches-last) ∷ []
+  abbrev Left : List ℕ → List ℕ → List ℕ → List ℕ → List Watch → List (Item 𝓤)
+  Left columns-last positions-last lowerEnds-last upperEnds-last watches-last = Tokens ∷ ‵ (flft κ₄ q₄) ∷ ‵ (finally u32 (columns .name) columns-last) ∷ ‵ (finally u32 (positions .name) positions-last) ∷ ‵ (finally u32 (lowerEnds .name) lowerEnds-last) ∷ ‵ (finally u32 (upperEnds .name) upperEnds-last) ∷ ‵ (finally T.the-row γ watches-last) ∷ []
 
-  exits : (columns-last : List ℕ) (positions-last : List ℕ) (lowerEnds-last : List ℕ) (watches-last : List Watch) (j : Reply) → Is R.the-row j (machines j) → length columns-last ≡ length (columns .now) → length positions-last ≡ length (positions .now) → length lowerEnds-last ≡ length (lowerEnds .now) → length watches-last ≡ length ys → Opened dimensions capacity directions lent (watched ys) j (lent-tables columns-last positions-last lowerEnds-last) (watched watches-last) → ent 𝓤 (⋆ 𝓤 H A (Left columns-last positions-last lowerEnds-last watches-last)) (Post (only (machines j)))
-  exits columns-last positions-last lowerEnds-last watches-last j is columns-len positions-len lowerEnds-len watches-len kept =
-      qed W (Left columns-last positions-last lowerEnds-last watches-last) ∵ suffices ! _ (ends-at 𝓤 H A f.ended stayed (f.clauses 𝓤 H A mem run) W bound (only (machines j)) j (tt, (tt, (tt, (columns-last, (positions-last, (lowerEnds-last, (watches-last, tt))))))) (tt, (tt, (tt, (columns-len, (positions-len, (lowerEnds-len, (watches-len, tt)))))))) $ says ! kept $
-      split ! $ move ! (1 ∷ []) $ split ! $ move ! (1 ∷ []) $ split ! $ move ! (1 ∷ []) $ move ! (4 ∷ 0 ∷ []) $ join ! $ move ! (1 ∷ 0 ∷ []) $ join ! $ move ! (1 ∷ 0 ∷ []) $ join ! $ move ! (1 ∷ 0 ∷ []) $ join ! $ frame ! $
-      nothing ! $ move ! (4 ∷ 0 ∷ []) $ fjoin ! $ move ! (3 ∷ 0 ∷ []) $ fjoin ! $ move ! (2 ∷ 0 ∷ []) $ fjoin ! $ move ! (1 ∷ 0 ∷ []) $ fjoin ! $ nothing ! $ fjoin ! $ nothing ! $ fjoin ! $ nothing ! $ fjoin ! $ frame ! $
+  exits : (columns-last : List ℕ) (positions-last : List ℕ) (lowerEnds-last : List ℕ) (upperEnds-last : List ℕ) (watches-last : List Watch) (j : Reply) → Is R.the-row j (machines j) → length columns-last ≡ length (columns .now) → length positions-last ≡ length (positions .now) → length lowerEnds-last ≡ length (lowerEnds .now) → length upperEnds-last ≡ length (upperEnds .now) → length watches-last ≡ length ys → Opened dimensions capacity directions lent (watched ys) j (lent-tables columns-last positions-last lowerEnds-last upperEnds-last) (watched watches-last) → ent 𝓤 (⋆ 𝓤 H A (Left columns-last positions-last lowerEnds-last upperEnds-last watches-last)) (Post (only (machines j)))
+  exits columns-last positions-last lowerEnds-last upperEnds-last watches-last j is columns-len positions-len lowerEnds-len upperEnds-len watches-len kept =
+      qed W (Left columns-last positions-last lowerEnds-last upperEnds-last watches-last) ∵ suffices ! _ (ends-at 𝓤 H A f.ended stayed (f.clauses 𝓤 H A mem run) W bound (only (machines j)) j (tt, (tt, (tt, (columns-last, (positions-last, (lowerEnds-last, (upperEnds-last, (watches-last, tt)))))))) (tt, (tt, (tt, (columns-len, (positions-len, (lowerEnds-len, (upperEnds-len, (watches-len, tt))))))))) $ says ! kept $
+      split ! $ move ! (1 ∷ []) $ split ! $ move ! (1 ∷ []) $ split ! $ move ! (1 ∷ []) $ split ! $ move ! (1 ∷ []) $ move ! (5 ∷ 0 ∷ []) $ join ! $ move ! (1 ∷ 0 ∷ []) $ join ! $ move ! (1 ∷ 0 ∷ []) $ join ! $ move ! (1 ∷ 0 ∷ []) $ join ! $ move ! (1 ∷ 0 ∷ []) $ join ! $ frame ! $
+      nothing ! $ move ! (5 ∷ 0 ∷ []) $ fjoin ! $ move ! (4 ∷ 0 ∷ []) $ fjoin ! $ move ! (3 ∷ 0 ∷ []) $ fjoin ! $ move ! (2 ∷ 0 ∷ []) $ fjoin ! $ move ! (1 ∷ 0 ∷ []) $ fjoin ! $ nothing ! $ fjoin ! $ nothing ! $ fjoin ! $ nothing ! $ fjoin ! $ frame ! $
       owned ! R.the-row (Is R.the-row) ((LL.makes R.the-type R′.the-plain) 𝓤 H A) j (machines j) is $ done !
 
-  module _ (dimensions-fits : dimensions < 2 ^ 32) (capacity-fits : capacity < 2 ^ 32) (directions-fits : directions < 2 ^ 32) (columns-fits : length (columns .now) < 2 ^ 64) (positions-fits : length (positions .now) < 2 ^ 64) (lowerEnds-fits : length (lowerEnds .now) < 2 ^ 64) (room : Room T.the-row (length ys))
+  module _ (dimensions-fits : dimensions < 2 ^ 32) (capacity-fits : capacity < 2 ^ 32) (directions-fits : directions < 2 ^ 32) (columns-fits : length (columns .now) < 2 ^ 64) (positions-fits : length (positions .now) < 2 ^ 64) (lowerEnds-fits : length (lowerEnds .now) < 2 ^ 64) (upperEnds-fits : length (upperEnds .now) < 2 ^ 64) (room : Room T.the-row (length ys))
       (C : Calls 𝓤 H) (Λ : Loops 𝓤 H) (fm : FmC 𝓤 H (W .laws) C) (known-numbers : Triple 𝓤 (C #watches·numbers) (Numbers 𝓤 H A mem run)) (known-callee : Triple 𝓤 (C #lending·open-lent) (Callee 𝓤 H A mem run)) (known-change : Triple 𝓤 (C #watches·store) (Store 𝓤 H A mem run)) where
-    walk : ent 𝓤 (onEntry 𝓤 H A f.signature (κ₀, (κ₁, (κ₂, (κ₃, tt)))) (q₀, (q₁, (q₂, (q₃, tt)))) x at) (WpFn 𝓤 H C Λ code.function given Post)
+    walk : ent 𝓤 (onEntry 𝓤 H A f.signature (κ₀, (κ₁, (κ₂, (κ₃, (κ₄, tt))))) (q₀, (q₁, (q₂, (q₃, (q₄, tt))))) x at) (WpFn 𝓤 H C Λ code.function given Post)
     walk =
         qed W Entry ∵ enter ! C Λ code.function given _ $
-        alloc1 ! (λ l₀. alloc1 ! (λ l₁. alloc1 ! (λ l₂. alloc1 ! (λ l₃. alloc1 ! (λ l₄. alloc1 ! (λ l₅. alloc1 ! (λ l₆. alloc1 ! (λ l₇. alloc1 ! (λ l₈. alloc1 ! (λ l₉. alloc1 ! (λ l₁₀. alloc1 ! (λ l₁₁. alloc1 ! (λ l₁₂. alloc1 ! (λ l₁₃. alloc1 ! (λ l₁₄. alloc1 ! (λ l₁₅. alloc1 ! (λ l₁₆. alloc1 ! (λ l₁₇. alloc1 ! (λ l₁₈. alloc1 ! (λ l₁₉. alloc1 ! (λ l₂₀. alloc1 ! (λ l₂₁. alloc1 ! (λ l₂₂. alloc1 ! (λ l₂₃. alloc0 ! $ params1 ! $ pass1 ! (init ! 44 refl (tt, record { fits = dimensions-fits })) $ pass1 ! (init ! 42 refl (tt, record { fits = capacity-fits })) $ pass1 ! (init ! 40 refl (tt, record { fits = directions-fits })) $ pass1 ! (init ! 38 refl (tt, (tt, (record { fits = columns-fits }, tt)))) $ pass1 ! (init ! 36 refl (tt, (tt, (record { fits = positions-fits }, tt)))) $ pass1 ! (init ! 34 refl (tt, (tt, (record { fits = lowerEnds-fits }, tt)))) $ pass1 ! (init ! 32 refl (tt, (tt, (record { fits = room .0 }, tt)))) $ pass0 ! $
-        assigns ! (addr ! (from ! (fld ! refl (hop ! (look-in ! 32 (sub ! 0 refl (whole !))) (stop !))))) (from ! (stop !)) (init ! 24 refl (tt, tt)) $
-        assigns ! (agg ! (and-then ! (load ! (from ! (stop !)) (look ! 24 refl)) (and-then ! (load ! (from ! (fld ! refl (stop !))) (look-in ! 32 (sub ! 1 refl (whole !)))) (no-more !)))) (from ! (stop !)) (init ! 22 refl (tt, (tt, (record { fits = room .0 }, tt)))) $
-        move ! (49 ∷ []) $ fsplit ! $ move ! (1 ∷ []) $ fsplit ! $ move ! (1 ∷ []) $ fsplit ! $ move ! (1 ∷ []) $ fsplit ! $ move ! (1 ∷ []) $ fsplit ! $ move ! (1 ∷ []) $ fsplit ! $ move ! (1 ∷ []) $ fsplit ! $ move ! (1 ∷ []) $ move ! (56 ∷ []) $ split ! $ move ! (1 ∷ []) $ split ! $ move ! (1 ∷ []) $ split ! $ move ! (1 ∷ []) $ split ! $ move ! (1 ∷ []) $
-        -- [true; κ₃; κ₂; κ₁; κ₀; true; watches; lowerEnds; positions; columns; directions; capacity; dimensions; the locals]
-        move ! (6 ∷ 1 ∷ []) $ reads-records ! fm mem run known-numbers κ₃ q₃ b o ys γ room (λ ν δ. (and-then ! (load ! (from ! (stop !)) (look ! 35 refl)) (no-more !))) (λ u r is e.
-        land ! (from ! (stop !)) (init ! 43 refl (array-typed u32 (uint-lawful 𝓤 H A W w32 .typed) 8 r _ is .0)) $
-        assigns ! (of-opd ! (load ! (from ! (fld ! refl (stop !))) (look-in ! 45 (sub ! 1 refl (whole !))))) (from ! (stop !)) (init ! 41 refl (tt, record { fits = room .0 })) $
-        assigns ! (addr ! (from ! (fld ! refl (hop ! (look-in ! 51 (sub ! 0 refl (whole !))) (stop !))))) (from ! (stop !)) (init ! 33 refl (tt, tt)) $
-        assigns ! (agg ! (and-then ! (load ! (from ! (stop !)) (look ! 33 refl)) (and-then ! (load ! (from ! (fld ! refl (stop !))) (look-in ! 51 (sub ! 1 refl (whole !)))) (no-more !)))) (from ! (stop !)) (init ! 31 refl (tt, (tt, (record { fits = columns-fits }, tt)))) $
-        assigns ! (addr ! (from ! (fld ! refl (hop ! (look-in ! 49 (sub ! 0 refl (whole !))) (stop !))))) (from ! (stop !)) (init ! 29 refl (tt, tt)) $
-        assigns ! (agg ! (and-then ! (load ! (from ! (stop !)) (look ! 29 refl)) (and-then ! (load ! (from ! (fld ! refl (stop !))) (look-in ! 49 (sub ! 1 refl (whole !)))) (no-more !)))) (from ! (stop !)) (init ! 27 refl (tt, (tt, (record { fits = positions-fits }, tt)))) $
-        assigns ! (addr ! (from ! (fld ! refl (hop ! (look-in ! 47 (sub ! 0 refl (whole !))) (stop !))))) (from ! (stop !)) (init ! 25 refl (tt, tt)) $
-        assigns ! (agg ! (and-then ! (load ! (from ! (stop !)) (look ! 25 refl)) (and-then ! (load ! (from ! (fld ! refl (stop !))) (look-in ! 47 (sub ! 1 refl (whole !)))) (no-more !)))) (from ! (stop !)) (init ! 23 refl (tt, (tt, (record { fits = lowerEnds-fits }, tt)))) $
-        move ! (2 ∷ []) $ move ! (3 ∷ 0 ∷ []) $ join ! $ move ! (3 ∷ 0 ∷ []) $ join ! $ move ! (3 ∷ 0 ∷ []) $ join ! $
-        nothing ! $ owned ! usize (Is usize) (uint-makes 𝓤 H A W w64) (length ys) _ (refl, room .0) $ fjoin ! $ owned ! (Array u32 8) (Is (Array u32 8)) (array-makes 𝓤 H A W u32 (uint-makes 𝓤 H A W w32) 8) r (u ∷ []) is $ fjoin ! $ move ! (5 ∷ 0 ∷ []) $ fjoin ! $ move ! (5 ∷ 0 ∷ []) $ fjoin ! $ move ! (5 ∷ 0 ∷ []) $ fjoin ! $ move ! (5 ∷ 0 ∷ []) $ fjoin ! $ move ! (5 ∷ 0 ∷ []) $ fjoin ! $ move ! (5 ∷ 0 ∷ []) $ fjoin ! $
+        alloc1 ! (λ l₀. alloc1 ! (λ l₁. alloc1 ! (λ l₂. alloc1 ! (λ l₃. alloc1 ! (λ l₄. alloc1 ! (λ l₅. alloc1 ! (λ l₆. alloc1 ! (λ l₇. alloc1 ! (λ l₈. alloc1 ! (λ l₉. alloc1 ! (λ l₁₀. alloc1 ! (λ l₁₁. alloc1 ! (λ l₁₂. alloc1 ! (λ l₁₃. alloc1 ! (λ l₁₄. alloc1 ! (λ l₁₅. alloc1 ! (λ l₁₆. alloc1 ! (λ l₁₇. alloc1 ! (λ l₁₈. alloc1 ! (λ l₁₉. alloc1 ! (λ l₂₀. alloc1 ! (λ l₂₁. alloc1 ! (λ l₂₂. alloc1 ! (λ l₂₃. alloc1 ! (λ l₂₄. alloc1 ! (λ l₂₅. alloc1 ! (λ l₂₆. alloc0 ! $ params1 ! $ pass1 ! (init ! 50 refl (tt, record { fits = dimensions-fits })) $ pass1 ! (init ! 48 refl (tt, record { fits = capacity-fits })) $ pass1 ! (init ! 46 refl (tt, record { fits = directions-fits })) $ pass1 ! (init ! 44 refl (tt, (tt, (record { fits = columns-fits }, tt)))) $ pass1 ! (init ! 42 refl (tt, (tt, (record { fits = positions-fits }, tt)))) $ pass1 ! (init ! 40 refl (tt, (tt, (record { fits = lowerEnds-fits }, tt)))) $ pass1 ! (init ! 38 refl (tt, (tt, (record { fits = upperEnds-fits }, tt)))) $ pass1 ! (init ! 36 refl (tt, (tt, (record { fits = room .0 }, tt)))) $ pass0 ! $
+        assigns ! (addr ! (from ! (fld ! refl (hop ! (look-in ! 36 (sub ! 0 refl (whole !))) (stop !))))) (from ! (stop !)) (init ! 28 refl (tt, tt)) $
+        assigns ! (agg ! (and-then ! (load ! (from ! (stop !)) (look ! 28 refl)) (and-then ! (load ! (from ! (fld ! refl (stop !))) (look-in ! 36 (sub ! 1 refl (whole !)))) (no-more !)))) (from ! (stop !)) (init ! 26 refl (tt, (tt, (record { fits = room .0 }, tt)))) $
+        move ! (55 ∷ []) $ fsplit ! $ move ! (1 ∷ []) $ fsplit ! $ move ! (1 ∷ []) $ fsplit ! $ move ! (1 ∷ []) $ fsplit ! $ move ! (1 ∷ []) $ fsplit ! $ move ! (1 ∷ []) $ fsplit ! $ move ! (1 ∷ []) $ fsplit ! $ move ! (1 ∷ []) $ fsplit ! $ move ! (1 ∷ []) $ move ! (63 ∷ []) $ split ! $ move ! (1 ∷ []) $ split ! $ move ! (1 ∷ []) $ split ! $ move ! (1 ∷ []) $ split ! $ move ! (1 ∷ []) $ split ! $ move ! (1 ∷ []) $
+        -- [true; κ₄; κ₃; κ₂; κ₁; κ₀; true; watches; upperEnds; lowerEnds; positions; columns; directions; capacity; dimensions; the locals]
+        move ! (7 ∷ 1 ∷ []) $ reads-records ! fm mem run known-numbers κ₄ q₄ b o ys γ room (λ ν δ. (and-then ! (load ! (from ! (stop !)) (look ! 41 refl)) (no-more !))) (λ u r is e.
+        land ! (from ! (stop !)) (init ! 49 refl (array-typed u32 (uint-lawful 𝓤 H A W w32 .typed) 8 r _ is .0)) $
+        assigns ! (of-opd ! (load ! (from ! (fld ! refl (stop !))) (look-in ! 51 (sub ! 1 refl (whole !))))) (from ! (stop !)) (init ! 47 refl (tt, record { fits = room .0 })) $
+        assigns ! (addr ! (from ! (fld ! refl (hop ! (look-in ! 59 (sub ! 0 refl (whole !))) (stop !))))) (from ! (stop !)) (init ! 39 refl (tt, tt)) $
+        assigns ! (agg ! (and-then ! (load ! (from ! (stop !)) (look ! 39 refl)) (and-then ! (load ! (from ! (fld ! refl (stop !))) (look-in ! 59 (sub ! 1 refl (whole !)))) (no-more !)))) (from ! (stop !)) (init ! 37 refl (tt, (tt, (record { fits = columns-fits }, tt)))) $
+        assigns ! (addr ! (from ! (fld ! refl (hop ! (look-in ! 57 (sub ! 0 refl (whole !))) (stop !))))) (from ! (stop !)) (init ! 35 refl (tt, tt)) $
+        assigns ! (agg ! (and-then ! (load ! (from ! (stop !)) (look ! 35 refl)) (and-then ! (load ! (from ! (fld ! refl (stop !))) (look-in ! 57 (sub ! 1 refl (whole !)))) (no-more !)))) (from ! (stop !)) (init ! 33 refl (tt, (tt, (record { fits = positions-fits }, tt)))) $
+        assigns ! (addr ! (from ! (fld ! refl (hop ! (look-in ! 55 (sub ! 0 refl (whole !))) (stop !))))) (from ! (stop !)) (init ! 31 refl (tt, tt)) $
+        assigns ! (agg ! (and-then ! (load ! (from ! (stop !)) (look ! 31 refl)) (and-then ! (load ! (from ! (fld ! refl (stop !))) (look-in ! 55 (sub ! 1 refl (whole !)))) (no-more !)))) (from ! (stop !)) (init ! 29 refl (tt, (tt, (record { fits = lowerEnds-fits }, tt)))) $
+        assigns ! (addr ! (from ! (fld ! refl (hop ! (look-in ! 53 (sub ! 0 refl (whole !))) (stop !))))) (from ! (stop !)) (init ! 27 refl (tt, tt)) $
+        assigns ! (agg ! (and-then ! (load ! (from ! (stop !)) (look ! 27 refl)) (and-then ! (load ! (from ! (fld ! refl (stop !))) (look-in ! 53 (sub ! 1 refl (whole !)))) (no-more !)))) (from ! (stop !)) (init ! 25 refl (tt, (tt, (record { fits = upperEnds-fits }, tt)))) $
+        move ! (2 ∷ []) $ move ! (3 ∷ 0 ∷ []) $ join ! $ move ! (3 ∷ 0 ∷ []) $ join ! $ move ! (3 ∷ 0 ∷ []) $ join ! $ move ! (3 ∷ 0 ∷ []) $ join ! $
+        nothing ! $ owned ! usize (Is usize) (uint-makes 𝓤 H A W w64) (length ys) _ (refl, room .0) $ fjoin ! $ owned ! (Array u32 8) (Is (Array u32 8)) (array-makes 𝓤 H A W u32 (uint-makes 𝓤 H A W w32) 8) r (u ∷ []) is $ fjoin ! $ move ! (5 ∷ 0 ∷ []) $ fjoin ! $ move ! (5 ∷ 0 ∷ []) $ fjoin ! $ move ! (5 ∷ 0 ∷ []) $ fjoin ! $ move ! (5 ∷ 0 ∷ []) $ fjoin ! $ move ! (5 ∷ 0 ∷ []) $ fjoin ! $ move ! (5 ∷ 0 ∷ []) $ fjoin ! $ move ! (5 ∷ 0 ∷ []) $ fjoin ! $
         move ! (1 ∷ 0 ∷ []) $ use2 W (raw (Callee 𝓤 H A mem run .pre (to r u))) (goes r u) $
-        calls-at ! fm (Callee 𝓤 H A mem run) known-callee (to r u) (and-then ! (load ! (from ! (stop !)) (look ! 48 refl)) (and-then ! (load ! (from ! (stop !)) (look ! 46 refl)) (and-then ! (load ! (from ! (stop !)) (look ! 44 refl)) (and-then ! (load ! (from ! (stop !)) (look ! 22 refl)) (and-then ! (load ! (from ! (stop !)) (look ! 18 refl)) (and-then ! (load ! (from ! (stop !)) (look ! 14 refl)) (and-then ! (load ! (from ! (stop !)) (look ! 34 refl)) (and-then ! (load ! (from ! (stop !)) (look ! 32 refl)) (no-more !))))))))) (λ c.
+        calls-at ! fm (Callee 𝓤 H A mem run) known-callee (to r u) (and-then ! (load ! (from ! (stop !)) (look ! 54 refl)) (and-then ! (load ! (from ! (stop !)) (look ! 52 refl)) (and-then ! (load ! (from ! (stop !)) (look ! 50 refl)) (and-then ! (load ! (from ! (stop !)) (look ! 26 refl)) (and-then ! (load ! (from ! (stop !)) (look ! 22 refl)) (and-then ! (load ! (from ! (stop !)) (look ! 18 refl)) (and-then ! (load ! (from ! (stop !)) (look ! 14 refl)) (and-then ! (load ! (from ! (stop !)) (look ! 38 refl)) (and-then ! (load ! (from ! (stop !)) (look ! 36 refl)) (no-more !)))))))))) (λ c.
         use1 W (later (some (λ (j : Judgement). (Tokens ⊛ ‵ (J.the-row .own j (c ∷ []))) ⊛ some (λ (zs : Ends). ‵ (lasts callee.ended lives (asked r) zs) ⊛ raw (fact 𝓤 (Said r j zs)))))) (id⊢ 𝓤 _) $ await ! tt $ pick ! (λ j. split ! $ move ! (1 ∷ []) $ pick ! (λ zs. split ! $ move ! (1 ∷ []) $ heard ! (Said r j zs) (λ said.
-        fsplit ! $ drop ! $ move ! (0 ∷ []) $ fsplit ! $ drop ! $ move ! (0 ∷ []) $ fsplit ! $ drop ! $ move ! (0 ∷ []) $ fsplit ! $ fsplit ! $ move ! (1 ∷ []) $ feqL ! (λ columns-same. move ! (1 ∷ []) $ fsplit ! $ fsplit ! $ move ! (1 ∷ []) $ feqL ! (λ positions-same. move ! (1 ∷ []) $ fsplit ! $ fsplit ! $ move ! (1 ∷ []) $ feqL ! (λ lowerEnds-same. move ! (1 ∷ []) $ fsplit ! $ drop ! $ move ! (0 ∷ []) $ fsplit ! $ drop ! $ move ! (0 ∷ []) $ drop ! $
-        move ! (3 ∷ []) $ split ! $ move ! (1 ∷ []) $ peeks ! J.the-row (Is J.the-row) (shows 𝓤 H A J.the-row) j (c ∷ []) (λ has. drop ! $
-        -- [the tokens of the callee; the last lowerEnds; the last positions; the last columns; watches; κ₃; true; the locals]
-        land ! (from ! (stop !)) (init ! 33 refl (LL.lawful J.the-type J′.the-laws 𝓤 H A W .typed j _ has .0)) $ rewrite ! 33 (λ (z : Val). ‵ (fat fullShare J′.mir l₁₀ 0 z)) (ap only (LL.tells J.the-type J′.the-laws j (c ∷ []) has)) refl $
-        assigns ! (of-opd ! (load ! (from ! (fld ! refl (stop !))) (look-in ! 33 (sub ! 1 refl (whole !))))) (from ! (stop !)) (init ! 15 refl (tt, tt)) $
-        decides ! (load ! (from ! (stop !)) (look ! 15 refl))
+        fsplit ! $ drop ! $ move ! (0 ∷ []) $ fsplit ! $ drop ! $ move ! (0 ∷ []) $ fsplit ! $ drop ! $ move ! (0 ∷ []) $ fsplit ! $ fsplit ! $ move ! (1 ∷ []) $ feqL ! (λ columns-same. move ! (1 ∷ []) $ fsplit ! $ fsplit ! $ move ! (1 ∷ []) $ feqL ! (λ positions-same. move ! (1 ∷ []) $ fsplit ! $ fsplit ! $ move ! (1 ∷ []) $ feqL ! (λ lowerEnds-same. move ! (1 ∷ []) $ fsplit ! $ fsplit ! $ move ! (1 ∷ []) $ feqL ! (λ upperEnds-same. move ! (1 ∷ []) $ fsplit ! $ drop ! $ move ! (0 ∷ []) $ fsplit ! $ drop ! $ move ! (0 ∷ []) $ drop ! $
+        move ! (4 ∷ []) $ split ! $ move ! (1 ∷ []) $ peeks ! J.the-row (Is J.the-row) (shows 𝓤 H A J.the-row) j (c ∷ []) (λ has. drop ! $
+        -- [the tokens of the callee; the last upperEnds; the last lowerEnds; the last positions; the last columns; watches; κ₄; true; the locals]
+        land ! (from ! (stop !)) (init ! 38 refl (LL.lawful J.the-type J′.the-laws 𝓤 H A W .typed j _ has .0)) $ rewrite ! 38 (λ (z : Val). ‵ (fat fullShare J′.mir l₁₁ 0 z)) (ap only (LL.tells J.the-type J′.the-laws j (c ∷ []) has)) refl $
+        assigns ! (of-opd ! (load ! (from ! (fld ! refl (stop !))) (look-in ! 38 (sub ! 1 refl (whole !))))) (from ! (stop !)) (init ! 16 refl (tt, tt)) $
+        decides ! (load ! (from ! (stop !)) (look ! 16 refl))
         (λ on next.
-        assigns ! (addr ! (from ! (fld ! refl (hop ! (look-in ! 39 (sub ! 0 refl (whole !))) (stop !))))) (from ! (stop !)) (init ! 11 refl (tt, tt)) $
-        assigns ! (agg ! (and-then ! (load ! (from ! (stop !)) (look ! 11 refl)) (and-then ! (load ! (from ! (fld ! refl (stop !))) (look-in ! 39 (sub ! 1 refl (whole !)))) (no-more !)))) (from ! (stop !)) (init ! 9 refl (tt, (tt, (record { fits = room .0 }, tt)))) $
-        assigns ! (rep ! 8 (lit ! tt)) (from ! (stop !)) (init ! 7 refl (array-typed u32 (uint-lawful 𝓤 H A W w32 .typed) 8 (replicate 8 0) _ zeros .0)) $
-        move ! (5 ∷ 4 ∷ []) $ changes-last ! fm κ₃ q₃ b o ys γ (machine (replicate 8 0)) Last (stores 𝓤 H A κ₃ q₃ b o ys γ W mem run C (replicate 8 0) (machine (replicate 8 0)) zeros known-change) (and-then ! (load ! (from ! (stop !)) (look ! 8 refl)) (and-then ! (load ! (from ! (stop !)) (look ! 6 refl)) (no-more !))) (λ v ws isv m len. next _ _ _ $
-        land ! (from ! (stop !)) (init ! 13 refl (nothing-lawful 𝓤 H A W .typed tt _ isv .0)) $
-        assigns ! (of-opd ! (load ! (from ! (fld ! refl (stop !))) (look-in ! 33 (sub ! 0 refl (whole !))))) (from ! (stop !)) (init ! 53 refl (LL.lawful R.the-type R′.the-laws 𝓤 H A W .typed (j .reply) _ (replied j c has) .0)) $
-        returns ! (look ! 53 refl) $ forget ! 7 refl $ forget ! 9 refl $ forget ! 11 refl $ forget ! 13 refl $ forget ! 15 refl $ forget ! 17 refl $ forget ! 19 refl $ forget ! 21 refl $ forget ! 23 refl $ forget ! 25 refl $ forget ! 27 refl $ forget ! 29 refl $ forget ! 31 refl $ forget ! 33 refl $ forget ! 35 refl $ forget ! 37 refl $ forget ! 39 refl $ forget ! 41 refl $ forget ! 43 refl $ forget ! 45 refl $ forget ! 47 refl $ forget ! 49 refl $ forget ! 51 refl $ forget ! 53 refl $
-        move ! (53 ∷ 54 ∷ []) $ free1 ! $ move ! (51 ∷ 52 ∷ []) $ free1 ! $ move ! (49 ∷ 50 ∷ []) $ free1 ! $ move ! (47 ∷ 48 ∷ []) $ free1 ! $ move ! (45 ∷ 46 ∷ []) $ free1 ! $ move ! (43 ∷ 44 ∷ []) $ free1 ! $ move ! (41 ∷ 42 ∷ []) $ free1 ! $ move ! (39 ∷ 40 ∷ []) $ free1 ! $ move ! (37 ∷ 38 ∷ []) $ free1 ! $ move ! (35 ∷ 36 ∷ []) $ free1 ! $ move ! (33 ∷ 34 ∷ []) $ free1 ! $ move ! (31 ∷ 32 ∷ []) $ free1 ! $ move ! (29 ∷ 30 ∷ []) $ free1 ! $ move ! (27 ∷ 28 ∷ []) $ free1 ! $ move ! (25 ∷ 26 ∷ []) $ free1 ! $ move ! (23 ∷ 24 ∷ []) $ free1 ! $ move ! (21 ∷ 22 ∷ []) $ free1 ! $ move ! (19 ∷ 20 ∷ []) $ free1 ! $ move ! (17 ∷ 18 ∷ []) $ free1 ! $ move ! (15 ∷ 16 ∷ []) $ free1 ! $ move ! (13 ∷ 14 ∷ []) $ free1 ! $ move ! (11 ∷ 12 ∷ []) $ free1 ! $ move ! (9 ∷ 10 ∷ []) $ free1 ! $ move ! (7 ∷ 8 ∷ []) $ free1 ! $ free0 ! $
-        keep ! (2 ∷ 0 ∷ 5 ∷ 4 ∷ 3 ∷ 1 ∷ []) $ by ! (exits (zs .1 .1 .1 .0) (zs .1 .1 .1 .1 .0) (zs .1 .1 .1 .1 .1 .0) ws (j .reply) (replied j c has) columns-same positions-same lowerEnds-same len (open-emptied ys dimensions capacity directions lent e j said on (watched ws) m))))
-        (λ off. move ! (4 ∷ []) $ stays-last ! T.the-row (named 3) b o ys $
-        assigns ! (of-opd ! (load ! (from ! (fld ! refl (stop !))) (look-in ! 33 (sub ! 0 refl (whole !))))) (from ! (stop !)) (init ! 53 refl (LL.lawful R.the-type R′.the-laws 𝓤 H A W .typed (j .reply) _ (replied j c has) .0)) $
-        returns ! (look ! 53 refl) $ forget ! 15 refl $ forget ! 17 refl $ forget ! 19 refl $ forget ! 21 refl $ forget ! 23 refl $ forget ! 25 refl $ forget ! 27 refl $ forget ! 29 refl $ forget ! 31 refl $ forget ! 33 refl $ forget ! 35 refl $ forget ! 37 refl $ forget ! 39 refl $ forget ! 41 refl $ forget ! 43 refl $ forget ! 45 refl $ forget ! 47 refl $ forget ! 49 refl $ forget ! 51 refl $ forget ! 53 refl $
-        move ! (53 ∷ 54 ∷ []) $ free1 ! $ move ! (51 ∷ 52 ∷ []) $ free1 ! $ move ! (49 ∷ 50 ∷ []) $ free1 ! $ move ! (47 ∷ 48 ∷ []) $ free1 ! $ move ! (45 ∷ 46 ∷ []) $ free1 ! $ move ! (43 ∷ 44 ∷ []) $ free1 ! $ move ! (41 ∷ 42 ∷ []) $ free1 ! $ move ! (39 ∷ 40 ∷ []) $ free1 ! $ move ! (37 ∷ 38 ∷ []) $ free1 ! $ move ! (35 ∷ 36 ∷ []) $ free1 ! $ move ! (33 ∷ 34 ∷ []) $ free1 ! $ move ! (31 ∷ 32 ∷ []) $ free1 ! $ move ! (29 ∷ 30 ∷ []) $ free1 ! $ move ! (27 ∷ 28 ∷ []) $ free1 ! $ move ! (25 ∷ 26 ∷ []) $ free1 ! $ move ! (23 ∷ 24 ∷ []) $ free1 ! $ move ! (21 ∷ 22 ∷ []) $ free1 ! $ move ! (19 ∷ 20 ∷ []) $ free1 ! $ move ! (17 ∷ 18 ∷ []) $ free1 ! $ move ! (15 ∷ 16 ∷ []) $ free1 ! $ move ! (13 ∷ 14 ∷ []) $ free1 ! $ move ! (11 ∷ 12 ∷ []) $ free1 ! $ move ! (9 ∷ 10 ∷ []) $ free1 ! $ move ! (7 ∷ 8 ∷ []) $ free1 ! $ free0 ! $
-        keep ! (1 ∷ 5 ∷ 4 ∷ 3 ∷ 2 ∷ 0 ∷ []) $ by ! (exits (zs .1 .1 .1 .0) (zs .1 .1 .1 .1 .0) (zs .1 .1 .1 .1 .1 .0) ys (j .reply) (replied j c has) columns-same positions-same lowerEnds-same refl (open-left ys dimensions capacity directions lent e j said off))))))))))))))))))))))))))))))))))))
+        assigns ! (addr ! (from ! (fld ! refl (hop ! (look-in ! 44 (sub ! 0 refl (whole !))) (stop !))))) (from ! (stop !)) (init ! 12 refl (tt, tt)) $
+        assigns ! (agg ! (and-then ! (load ! (from ! (stop !)) (look ! 12 refl)) (and-then ! (load ! (from ! (fld ! refl (stop !))) (look-in ! 44 (sub ! 1 refl (whole !)))) (no-more !)))) (from ! (stop !)) (init ! 10 refl (tt, (tt, (record { fits = room .0 }, tt)))) $
+        assigns ! (rep ! 8 (lit ! tt)) (from ! (stop !)) (init ! 8 refl (array-typed u32 (uint-lawful 𝓤 H A W w32 .typed) 8 (replicate 8 0) _ zeros .0)) $
+        move ! (6 ∷ 5 ∷ []) $ changes-last ! fm κ₄ q₄ b o ys γ (machine (replicate 8 0)) Last (stores 𝓤 H A κ₄ q₄ b o ys γ W mem run C (replicate 8 0) (machine (replicate 8 0)) zeros known-change) (and-then ! (load ! (from ! (stop !)) (look ! 9 refl)) (and-then ! (load ! (from ! (stop !)) (look ! 7 refl)) (no-more !))) (λ v ws isv m len. next _ _ _ $
+        land ! (from ! (stop !)) (init ! 14 refl (nothing-lawful 𝓤 H A W .typed tt _ isv .0)) $
+        assigns ! (of-opd ! (load ! (from ! (fld ! refl (stop !))) (look-in ! 38 (sub ! 0 refl (whole !))))) (from ! (stop !)) (init ! 60 refl (LL.lawful R.the-type R′.the-laws 𝓤 H A W .typed (j .reply) _ (replied j c has) .0)) $
+        returns ! (look ! 60 refl) $ forget ! 8 refl $ forget ! 10 refl $ forget ! 12 refl $ forget ! 14 refl $ forget ! 16 refl $ forget ! 18 refl $ forget ! 20 refl $ forget ! 22 refl $ forget ! 24 refl $ forget ! 26 refl $ forget ! 28 refl $ forget ! 30 refl $ forget ! 32 refl $ forget ! 34 refl $ forget ! 36 refl $ forget ! 38 refl $ forget ! 40 refl $ forget ! 42 refl $ forget ! 44 refl $ forget ! 46 refl $ forget ! 48 refl $ forget ! 50 refl $ forget ! 52 refl $ forget ! 54 refl $ forget ! 56 refl $ forget ! 58 refl $ forget ! 60 refl $
+        move ! (60 ∷ 61 ∷ []) $ free1 ! $ move ! (58 ∷ 59 ∷ []) $ free1 ! $ move ! (56 ∷ 57 ∷ []) $ free1 ! $ move ! (54 ∷ 55 ∷ []) $ free1 ! $ move ! (52 ∷ 53 ∷ []) $ free1 ! $ move ! (50 ∷ 51 ∷ []) $ free1 ! $ move ! (48 ∷ 49 ∷ []) $ free1 ! $ move ! (46 ∷ 47 ∷ []) $ free1 ! $ move ! (44 ∷ 45 ∷ []) $ free1 ! $ move ! (42 ∷ 43 ∷ []) $ free1 ! $ move ! (40 ∷ 41 ∷ []) $ free1 ! $ move ! (38 ∷ 39 ∷ []) $ free1 ! $ move ! (36 ∷ 37 ∷ []) $ free1 ! $ move ! (34 ∷ 35 ∷ []) $ free1 ! $ move ! (32 ∷ 33 ∷ []) $ free1 ! $ move ! (30 ∷ 31 ∷ []) $ free1 ! $ move ! (28 ∷ 29 ∷ []) $ free1 ! $ move ! (26 ∷ 27 ∷ []) $ free1 ! $ move ! (24 ∷ 25 ∷ []) $ free1 ! $ move ! (22 ∷ 23 ∷ []) $ free1 ! $ move ! (20 ∷ 21 ∷ []) $ free1 ! $ move ! (18 ∷ 19 ∷ []) $ free1 ! $ move ! (16 ∷ 17 ∷ []) $ free1 ! $ move ! (14 ∷ 15 ∷ []) $ free1 ! $ move ! (12 ∷ 13 ∷ []) $ free1 ! $ move ! (10 ∷ 11 ∷ []) $ free1 ! $ move ! (8 ∷ 9 ∷ []) $ free1 ! $ free0 ! $
+        keep ! (2 ∷ 0 ∷ 6 ∷ 5 ∷ 4 ∷ 3 ∷ 1 ∷ []) $ by ! (exits (zs .1 .1 .1 .0) (zs .1 .1 .1 .1 .0) (zs .1 .1 .1 .1 .1 .0) (zs .1 .1 .1 .1 .1 .1 .0) ws (j .reply) (replied j c has) columns-same positions-same lowerEnds-same upperEnds-same len (open-emptied ys dimensions capacity directions lent e j said on (watched ws) m))))
+        (λ off. move ! (5 ∷ []) $ stays-last ! T.the-row (named 4) b o ys $
+        assigns ! (of-opd ! (load ! (from ! (fld ! refl (stop !))) (look-in ! 38 (sub ! 0 refl (whole !))))) (from ! (stop !)) (init ! 60 refl (LL.lawful R.the-type R′.the-laws 𝓤 H A W .typed (j .reply) _ (replied j c has) .0)) $
+        returns ! (look ! 60 refl) $ forget ! 16 refl $ forget ! 18 refl $ forget ! 20 refl $ forget ! 22 refl $ forget ! 24 refl $ forget ! 26 refl $ forget ! 28 refl $ forget ! 30 refl $ forget ! 32 refl $ forget ! 34 refl $ forget ! 36 refl $ forget ! 38 refl $ forget ! 40 refl $ forget ! 42 refl $ forget ! 44 refl $ forget ! 46 refl $ forget ! 48 refl $ forget ! 50 refl $ forget ! 52 refl $ forget ! 54 refl $ forget ! 56 refl $ forget ! 58 refl $ forget ! 60 refl $
+        move ! (60 ∷ 61 ∷ []) $ free1 ! $ move ! (58 ∷ 59 ∷ []) $ free1 ! $ move ! (56 ∷ 57 ∷ []) $ free1 ! $ move ! (54 ∷ 55 ∷ []) $ free1 ! $ move ! (52 ∷ 53 ∷ []) $ free1 ! $ move ! (50 ∷ 51 ∷ []) $ free1 ! $ move ! (48 ∷ 49 ∷ []) $ free1 ! $ move ! (46 ∷ 47 ∷ []) $ free1 ! $ move ! (44 ∷ 45 ∷ []) $ free1 ! $ move ! (42 ∷ 43 ∷ []) $ free1 ! $ move ! (40 ∷ 41 ∷ []) $ free1 ! $ move ! (38 ∷ 39 ∷ []) $ free1 ! $ move ! (36 ∷ 37 ∷ []) $ free1 ! $ move ! (34 ∷ 35 ∷ []) $ free1 ! $ move ! (32 ∷ 33 ∷ []) $ free1 ! $ move ! (30 ∷ 31 ∷ []) $ free1 ! $ move ! (28 ∷ 29 ∷ []) $ free1 ! $ move ! (26 ∷ 27 ∷ []) $ free1 ! $ move ! (24 ∷ 25 ∷ []) $ free1 ! $ move ! (22 ∷ 23 ∷ []) $ free1 ! $ move ! (20 ∷ 21 ∷ []) $ free1 ! $ move ! (18 ∷ 19 ∷ []) $ free1 ! $ move ! (16 ∷ 17 ∷ []) $ free1 ! $ move ! (14 ∷ 15 ∷ []) $ free1 ! $ move ! (12 ∷ 13 ∷ []) $ free1 ! $ move ! (10 ∷ 11 ∷ []) $ free1 ! $ move ! (8 ∷ 9 ∷ []) $ free1 ! $ free0 ! $
+        keep ! (1 ∷ 6 ∷ 5 ∷ 4 ∷ 3 ∷ 2 ∷ 0 ∷ []) $ by ! (exits (zs .1 .1 .1 .0) (zs .1 .1 .1 .1 .0) (zs .1 .1 .1 .1 .1 .0) (zs .1 .1 .1 .1 .1 .1 .0) ys (j .reply) (replied j c has) columns-same positions-same lowerEnds-same upperEnds-same refl (open-left ys dimensions capacity directions lent e j said off))))))))))))))))))))))))))))))))))))))))
 
 module _ {M : Type 1} (𝓤 : URA M) (H : Heap 𝓤) (A : Atoms 𝓤) (W : Given 𝓤 H A) (mem : Memory → SProp 𝓤) (run : Routine → Fun 𝓤) (𝓣 : Tables 𝓤 H)
     (known-numbers : Triple 𝓤 (𝓣 .C #watches·numbers) (Numbers 𝓤 H A mem run)) (known-callee : Triple 𝓤 (𝓣 .C #lending·open-lent) (Callee 𝓤 H A mem run)) (known-change : Triple 𝓤 (𝓣 .C #watches·store) (Store 𝓤 H A mem run)) where
   open-walks : Walks 𝓤 H A f.ended stayed (WpFn 𝓤 H (𝓣 .C) (𝓣 .Λ) code.function) (f.clauses 𝓤 H A mem run)
   open-walks =
-      walked 𝓤 H A f.ended stayed (f.clauses 𝓤 H A mem run) (WpFn 𝓤 H (𝓣 .C) (𝓣 .Λ) code.function) (λ κs. (uint-vals w32, (uint-vals w32, (uint-vals w32, (slice-vals, (slice-vals, (slice-vals, (slice-vals, tt))))))))
-      (λ κs. (uint-tells w32, (uint-tells w32, (uint-tells w32, (mut-slice-tells (named 0) (κs .0) u32, (mut-slice-tells (named 1) (κs .1 .0) u32, (mut-slice-tells (named 2) (κs .1 .1 .0) u32, (mut-slice-tells (named 3) (κs .1 .1 .1 .0) T.the-row, tt))))))))
-      (λ κs qs bounds a g are. via 𝓤 _ (fst∗ 𝓤 _ (emp 𝓤)) (walk 𝓤 H A W mem run (κs .0) (κs .1 .0) (κs .1 .1 .0) (κs .1 .1 .1 .0) (qs .0) (qs .1 .0) (qs .1 .1 .0) (qs .1 .1 .1 .0)
-      (a .0) (a .1 .0) (a .1 .1 .0) (a .1 .1 .1 .0) (a .1 .1 .1 .1 .0) (a .1 .1 .1 .1 .1 .0) (a .1 .1 .1 .1 .1 .1 .0 .ptr .0) (a .1 .1 .1 .1 .1 .1 .0 .ptr .1) (a .1 .1 .1 .1 .1 .1 .0 .name) (a .1 .1 .1 .1 .1 .1 .0 .now)
-      (are .0 .1) (are .1 .0 .1) (are .1 .1 .0 .1) (are .1 .1 .1 .0 .0 .1 .0) (are .1 .1 .1 .1 .0 .0 .1 .0) (are .1 .1 .1 .1 .1 .0 .0 .1 .0) (are .1 .1 .1 .1 .1 .1 .0 .0 .1) (𝓣 .C) (𝓣 .Λ) (fmOf 𝓤 H (W .laws) 𝓣) known-numbers known-callee known-change))
+      walked 𝓤 H A f.ended stayed (f.clauses 𝓤 H A mem run) (WpFn 𝓤 H (𝓣 .C) (𝓣 .Λ) code.function) (λ κs. (uint-vals w32, (uint-vals w32, (uint-vals w32, (slice-vals, (slice-vals, (slice-vals, (slice-vals, (slice-vals, tt)))))))))
+      (λ κs. (uint-tells w32, (uint-tells w32, (uint-tells w32, (mut-slice-tells (named 0) (κs .0) u32, (mut-slice-tells (named 1) (κs .1 .0) u32, (mut-slice-tells (named 2) (κs .1 .1 .0) u32, (mut-slice-tells (named 3) (κs .1 .1 .1 .0) u32, (mut-slice-tells (named 4) (κs .1 .1 .1 .1 .0) T.the-row, tt)))))))))
+      (λ κs qs bounds a g are. via 𝓤 _ (fst∗ 𝓤 _ (emp 𝓤)) (walk 𝓤 H A W mem run (κs .0) (κs .1 .0) (κs .1 .1 .0) (κs .1 .1 .1 .0) (κs .1 .1 .1 .1 .0) (qs .0) (qs .1 .0) (qs .1 .1 .0) (qs .1 .1 .1 .0) (qs .1 .1 .1 .1 .0)
+      (a .0) (a .1 .0) (a .1 .1 .0) (a .1 .1 .1 .0) (a .1 .1 .1 .1 .0) (a .1 .1 .1 .1 .1 .0) (a .1 .1 .1 .1 .1 .1 .0) (a .1 .1 .1 .1 .1 .1 .1 .0 .ptr .0) (a .1 .1 .1 .1 .1 .1 .1 .0 .ptr .1) (a .1 .1 .1 .1 .1 .1 .1 .0 .name) (a .1 .1 .1 .1 .1 .1 .1 .0 .now)
+      (are .0 .1) (are .1 .0 .1) (are .1 .1 .0 .1) (are .1 .1 .1 .0 .0 .1 .0) (are .1 .1 .1 .1 .0 .0 .1 .0) (are .1 .1 .1 .1 .1 .0 .0 .1 .0) (are .1 .1 .1 .1 .1 .1 .0 .0 .1 .0) (are .1 .1 .1 .1 .1 .1 .1 .0 .0 .1) (𝓣 .C) (𝓣 .Λ) (fmOf 𝓤 H (W .laws) 𝓣) known-numbers known-callee known-change))
 
   open-meets : Meets 𝓤 H A f.signature (WpFn 𝓤 H (𝓣 .C) (𝓣 .Λ) code.function) (f.spec 𝓤 H A mem run)
   open-meets =
       walk-meets 𝓤 H A f.ended stayed W
-      (goes-dropped 𝓤 H A W 4 (plain (λ _. u32)) yes (λ κs x f. refl), (goes-dropped 𝓤 H A W 4 (plain (λ _. u32)) yes (λ κs x f. refl), (goes-dropped 𝓤 H A W 4 (plain (λ _. u32)) yes (λ κs x f. refl), (goes-gave-slice 𝓤 H A W 4 0 tt (plain (λ _. u32)), (goes-gave-slice 𝓤 H A W 4 1 tt (plain (λ _. u32)), (goes-gave-slice 𝓤 H A W 4 2 tt (plain (λ _. u32)), (goes-gave-slice 𝓤 H A W 4 3 tt (plain (λ _. T.the-row)), tt)))))))
+      (goes-dropped 𝓤 H A W 5 (plain (λ _. u32)) yes (λ κs x f. refl), (goes-dropped 𝓤 H A W 5 (plain (λ _. u32)) yes (λ κs x f. refl), (goes-dropped 𝓤 H A W 5 (plain (λ _. u32)) yes (λ κs x f. refl), (goes-gave-slice 𝓤 H A W 5 0 tt (plain (λ _. u32)), (goes-gave-slice 𝓤 H A W 5 1 tt (plain (λ _. u32)), (goes-gave-slice 𝓤 H A W 5 2 tt (plain (λ _. u32)), (goes-gave-slice 𝓤 H A W 5 3 tt (plain (λ _. u32)), (goes-gave-slice 𝓤 H A W 5 4 tt (plain (λ _. T.the-row)), tt))))))))
       (f.clauses 𝓤 H A mem run) (WpFn 𝓤 H (𝓣 .C) (𝓣 .Λ) code.function) (WpFn-mono 𝓤 H (W .laws) 𝓣 code.function) open-walks
 
 pub open-spec : {M : Type 1} → stated.statement M

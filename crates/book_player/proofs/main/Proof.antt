@@ -1,5 +1,5 @@
 -- `main` meets its contract: each call leaves the buffers as long as they were.
-use mathlib.Core.Path.{_≡_, refl}
+use mathlib.Core.Path.{_≡_, refl, sym}
 use native.Mathlib.Omega.{arith}
 use lib.ListN.{length}
 use borrow.Author.Needs.{needs}
@@ -7,93 +7,100 @@ use Rattle.book_player.proofs.main.Statement.{statement}
 use Rattle.book_player.proofs.main.Tie as tie
 
 abbrev Inv-loop : tie.InvT-loop
-Inv-loop columns₀ positions₀ lower-ends₀ out₀ cells₀ text₀ lines₀ desk₀ print₀ stand₀ turns₀ columns positions lower-ends out cells text lines desk print stand turns =
-    (length columns ≡ 6144) × (length positions ≡ 1024) × (length lower-ends ≡ 1024) × (length out ≡ 57400) × (length cells ≡ 57400) × (length text ≡ 65536) × (length lines ≡ 65536)
+Inv-loop columns₀ positions₀ lower-ends₀ upper-ends₀ out₀ cells₀ text₀ lines₀ desk₀ print₀ stand₀ turns₀ columns positions lower-ends upper-ends out cells text lines desk print stand turns =
+    (length columns ≡ 6144) × (length positions ≡ 1024) × (length lower-ends ≡ 1024) × (length upper-ends ≡ 1024)
+    × (length out ≡ 57400) × (length cells ≡ 57400) × (length text ≡ 65536) × (length lines ≡ 65536)
 
 abbrev μ-loop : tie.MeasureT-loop
-μ-loop columns₀ positions₀ lower-ends₀ out₀ cells₀ text₀ lines₀ desk₀ print₀ stand₀ turns₀ columns positions lower-ends out cells text lines desk print stand turns =
+μ-loop columns₀ positions₀ lower-ends₀ upper-ends₀ out₀ cells₀ text₀ lines₀ desk₀ print₀ stand₀ turns₀ columns positions lower-ends upper-ends out cells text lines desk print stand turns =
     turns
 
-first-desk-requires : tie.Need-first-desk-requires Inv-loop μ-loop
-first-desk-requires c κs = search needs
+-- how long the buffers of a line are once it is played
+played : (c : tie.After-play Inv-loop μ-loop)
+    → (6144 ≡ length (c .play .last .1 .1 .0)) × (1024 ≡ length (c .play .last .1 .1 .1 .0)) × (1024 ≡ length (c .play .last .1 .1 .1 .1 .0))
+    × (1024 ≡ length (c .play .last .1 .1 .1 .1 .1 .0)) × (57400 ≡ length (c .play .last .1 .1 .1 .1 .1 .1 .0))
+    × (57400 ≡ length (c .play .last .1 .1 .1 .1 .1 .1 .1 .0))
+played c = let i = c .before .before .before .before .before .before .before .before .before .before .before .before .before .before .before .before .loop .inv in let k = c .play .kept in (
+  omega (arith, i .0, k .1 .1 .0),
+  omega (arith, i .1, k .1 .1 .1 .0),
+  omega (arith, i .2, k .1 .1 .1 .1 .0),
+  omega (arith, i .3, k .1 .1 .1 .1 .1 .0),
+  omega (arith, i .4, k .1 .1 .1 .1 .1 .1 .0),
+  omega (arith, i .5, k .1 .1 .1 .1 .1 .1 .1 .0),
+)
+
+first-requires : tie.Need-first-requires Inv-loop μ-loop
+first-requires c κs = search needs
+
+first-requires-2 : tie.Need-first-requires-2 Inv-loop μ-loop
+first-requires-2 c κs = search needs
 
 loop-holds : tie.Need-loop-holds Inv-loop μ-loop
-loop-holds c = (refl, refl, refl, refl, refl, refl, refl)
+loop-holds c = (refl, refl, refl, refl, refl, refl, refl, refl)
 
 sub-turns : tie.Need-sub-turns Inv-loop μ-loop
 sub-turns c = search needs
 
-slice-aggregate-find-line : tie.Need-slice-aggregate-find-line Inv-loop μ-loop
-slice-aggregate-find-line c = let i = c .before .before .before .before .loop .inv in omega (arith, i .0, i .1, i .2, i .3, i .4, i .5, i .6)
+slice-aggregate-next-line : tie.Need-slice-aggregate-next-line Inv-loop μ-loop
+slice-aggregate-next-line c = sym (c .before .before .before .before .before .loop .inv .6)
 
-find-line-requires : tie.Need-find-line-requires Inv-loop μ-loop
-find-line-requires c κs = search needs
-
-slice-aggregate-flush-unless : tie.Need-slice-aggregate-flush-unless Inv-loop μ-loop
-slice-aggregate-flush-unless c = let i = c .before .before .before .before .before .before .loop .inv in omega (arith, i .0, i .1, i .2, i .3, i .4, i .5, i .6)
-
-flush-unless-requires : tie.Need-flush-unless-requires Inv-loop μ-loop
-flush-unless-requires c κs = search needs
-
-slice-aggregate-line-of : tie.Need-slice-aggregate-line-of Inv-loop μ-loop
-slice-aggregate-line-of c = let i = c .before .before .before .before .before .before .before .before .loop .inv in omega (arith, i .0, i .1, i .2, i .3, i .4, i .5, i .6)
-
-line-of-requires : tie.Need-line-of-requires Inv-loop μ-loop
-line-of-requires c κs = search needs
+next-line-requires : tie.Need-next-line-requires Inv-loop μ-loop
+next-line-requires c κs = search needs
 
 slice-aggregate-play : tie.Need-slice-aggregate-play Inv-loop μ-loop
-slice-aggregate-play c = let i = c .before .before .before .before .before .before .before .before .before .before .loop .inv in omega (arith, i .0, i .1, i .2, i .3, i .4, i .5, i .6)
+slice-aggregate-play c = sym (c .before .before .before .before .before .before .before .before .before .before .loop .inv .0)
 
 slice-aggregate-play-2 : tie.Need-slice-aggregate-play-2 Inv-loop μ-loop
-slice-aggregate-play-2 c = let i = c .before .before .before .before .before .before .before .before .before .before .before .loop .inv in omega (arith, i .0, i .1, i .2, i .3, i .4, i .5, i .6)
+slice-aggregate-play-2 c = sym (c .before .before .before .before .before .before .before .before .before .before .before .loop .inv .1)
 
 slice-aggregate-play-3 : tie.Need-slice-aggregate-play-3 Inv-loop μ-loop
-slice-aggregate-play-3 c = let i = c .before .before .before .before .before .before .before .before .before .before .before .before .loop .inv in omega (arith, i .0, i .1, i .2, i .3, i .4, i .5, i .6)
+slice-aggregate-play-3 c = sym (c .before .before .before .before .before .before .before .before .before .before .before .before .loop .inv .2)
 
 slice-aggregate-play-4 : tie.Need-slice-aggregate-play-4 Inv-loop μ-loop
-slice-aggregate-play-4 c = let i = c .before .before .before .before .before .before .before .before .before .before .before .before .before .loop .inv in omega (arith, i .0, i .1, i .2, i .3, i .4, i .5, i .6)
+slice-aggregate-play-4 c = sym (c .before .before .before .before .before .before .before .before .before .before .before .before .before .loop .inv .3)
 
 slice-aggregate-play-5 : tie.Need-slice-aggregate-play-5 Inv-loop μ-loop
-slice-aggregate-play-5 c = let i = c .before .before .before .before .before .before .before .before .before .before .before .before .before .before .loop .inv in omega (arith, i .0, i .1, i .2, i .3, i .4, i .5, i .6)
+slice-aggregate-play-5 c = sym (c .before .before .before .before .before .before .before .before .before .before .before .before .before .before .loop .inv .4)
+
+slice-aggregate-play-6 : tie.Need-slice-aggregate-play-6 Inv-loop μ-loop
+slice-aggregate-play-6 c = sym (c .before .before .before .before .before .before .before .before .before .before .before .before .before .before .before .loop .inv .5)
 
 play-requires : tie.Need-play-requires Inv-loop μ-loop
 play-requires c κs = search needs
 
 slice-aggregate-print-line : tie.Need-slice-aggregate-print-line Inv-loop μ-loop
-slice-aggregate-print-line c = let i = c .before .before .before .before .before .before .before .before .before .before .before .before .before .before .before .before .before .before .before .before .before .loop .inv in omega (arith, i .0, i .1, i .2, i .3, i .4, i .5, i .6, (c .before .before .before .before .before .before .play))
+slice-aggregate-print-line c = played (c .before .before .before .before .before .before .before) .0
 
 slice-aggregate-print-line-2 : tie.Need-slice-aggregate-print-line-2 Inv-loop μ-loop
-slice-aggregate-print-line-2 c = let i = c .before .before .before .before .before .before .before .before .before .before .before .before .before .before .before .before .before .before .before .before .before .before .loop .inv in omega (arith, i .0, i .1, i .2, i .3, i .4, i .5, i .6, (c .before .before .before .before .before .before .before .play))
+slice-aggregate-print-line-2 c = played (c .before .before .before .before .before .before .before .before) .1
 
 slice-aggregate-print-line-3 : tie.Need-slice-aggregate-print-line-3 Inv-loop μ-loop
-slice-aggregate-print-line-3 c = let i = c .before .before .before .before .before .before .before .before .before .before .before .before .before .before .before .before .before .before .before .before .before .before .before .loop .inv in omega (arith, i .0, i .1, i .2, i .3, i .4, i .5, i .6, (c .before .before .before .before .before .before .before .before .play))
+slice-aggregate-print-line-3 c = played (c .before .before .before .before .before .before .before .before .before) .2
 
 slice-aggregate-print-line-4 : tie.Need-slice-aggregate-print-line-4 Inv-loop μ-loop
-slice-aggregate-print-line-4 c = let i = c .before .before .before .before .before .before .before .before .before .before .before .before .before .before .before .before .before .before .before .before .before .before .before .before .loop .inv in omega (arith, i .0, i .1, i .2, i .3, i .4, i .5, i .6, (c .before .before .before .before .before .before .before .before .before .play))
+slice-aggregate-print-line-4 c = played (c .before .before .before .before .before .before .before .before .before .before) .3
 
 slice-aggregate-print-line-5 : tie.Need-slice-aggregate-print-line-5 Inv-loop μ-loop
-slice-aggregate-print-line-5 c = let i = c .before .before .before .before .before .before .before .before .before .before .before .before .before .before .before .before .before .before .before .before .before .before .before .before .before .loop .inv in omega (arith, i .0, i .1, i .2, i .3, i .4, i .5, i .6, (c .before .before .before .before .before .before .before .before .before .before .play))
+slice-aggregate-print-line-5 c = played (c .before .before .before .before .before .before .before .before .before .before .before) .4
 
 slice-aggregate-print-line-6 : tie.Need-slice-aggregate-print-line-6 Inv-loop μ-loop
-slice-aggregate-print-line-6 c = let i = c .before .before .before .before .before .before .before .before .before .before .before .before .before .before .before .before .before .before .before .before .before .before .before .before .before .before .loop .inv in omega (arith, i .0, i .1, i .2, i .3, i .4, i .5, i .6, (c .before .before .before .before .before .before .before .before .before .before .before .play))
+slice-aggregate-print-line-6 c = played (c .before .before .before .before .before .before .before .before .before .before .before .before) .5
+
+slice-aggregate-print-line-7 : tie.Need-slice-aggregate-print-line-7 Inv-loop μ-loop
+slice-aggregate-print-line-7 c = sym (c .before .before .before .before .before .before .before .before .before .before .before .before .before .before .before .before .before .before .before .before .before .before .before .before .before .before .before .before .before .loop .inv .7)
 
 print-line-requires : tie.Need-print-line-requires Inv-loop μ-loop
 print-line-requires c κs = search needs
-
-slice-aggregate-read-on : tie.Need-slice-aggregate-read-on Inv-loop μ-loop
-slice-aggregate-read-on c = let i = c .before .before .before .before .before .before .before .before .before .before .before .before .before .before .before .before .before .before .before .before .before .before .before .before .before .before .before .before .before .loop .inv in omega (arith, i .0, i .1, i .2, i .3, i .4, i .5, i .6, (c .before .before .before .before .before .before .before .before .before .before .before .before .before .before .play), (c .before .before .print-line))
-
-read-on-requires : tie.Need-read-on-requires Inv-loop μ-loop
-read-on-requires c κs = search needs
 
 loop-less : tie.Need-loop-less Inv-loop μ-loop
 loop-less c = omega (arith, c .before .before .before .before .before .before .before .before .before .before .before .before .before .before .before .before .before .before .before .before .before .before .before .before .before .before .before .before .before .before .loop-test .taken)
 
 loop-again : tie.Need-loop-again Inv-loop μ-loop
-loop-again c = let i = c .before .before .before .before .before .before .before .before .before .before .before .before .before .before .before .before .before .before .before .before .before .before .before .before .before .before .before .before .before .before .before .loop .inv in (omega (arith, i .0, i .1, i .2, i .3, i .4, i .5, i .6, (c .before .before .before .before .before .before .before .before .before .before .before .before .before .before .before .before .play), (c .before .before .before .before .print-line), (c .before .read-on)), omega (arith, i .0, i .1, i .2, i .3, i .4, i .5, i .6, (c .before .before .before .before .before .before .before .before .before .before .before .before .before .before .before .before .play), (c .before .before .before .before .print-line), (c .before .read-on)), omega (arith, i .0, i .1, i .2, i .3, i .4, i .5, i .6, (c .before .before .before .before .before .before .before .before .before .before .before .before .before .before .before .before .play), (c .before .before .before .before .print-line), (c .before .read-on)), omega (arith, i .0, i .1, i .2, i .3, i .4, i .5, i .6, (c .before .before .before .before .before .before .before .before .before .before .before .before .before .before .before .before .play), (c .before .before .before .before .print-line), (c .before .read-on)), omega (arith, i .0, i .1, i .2, i .3, i .4, i .5, i .6, (c .before .before .before .before .before .before .before .before .before .before .before .before .before .before .before .before .play), (c .before .before .before .before .print-line), (c .before .read-on)), omega (arith, i .0, i .1, i .2, i .3, i .4, i .5, i .6, (c .before .before .before .before .before .before .before .before .before .before .before .before .before .before .before .before .play), (c .before .before .before .before .print-line), (c .before .read-on)), omega (arith, i .0, i .1, i .2, i .3, i .4, i .5, i .6, (c .before .before .before .before .before .before .before .before .before .before .before .before .before .before .before .before .play), (c .before .before .before .before .print-line), (c .before .read-on)))
+loop-again c = let i = c .before .before .before .before .before .before .before .before .before .before .before .before .before .before .before .before .before .before .before .before .before .before .before .before .before .before .before .before .before .before .before .loop .inv in let p = played (c .before .before .before .before .before .before .before .before .before .before .before .before .before .before .before) in
+    (sym (p .0), sym (p .1), sym (p .2), sym (p .3), sym (p .4), sym (p .5), omega (arith, i .6, c .before .before .before .before .before .before .before .before .before .before .before .before .before .before .before .before .before .before .before .before .before .before .before .before .before .next-line .kept), omega (arith, i .7, c .before .print-line .kept))
 
 slice-aggregate-flush : tie.Need-slice-aggregate-flush Inv-loop μ-loop
-slice-aggregate-flush c = let i = c .before .before .loop .inv in omega (arith, i .0, i .1, i .2, i .3, i .4, i .5, i .6)
+slice-aggregate-flush c = sym (c .before .before .loop .inv .7)
 
 flush-requires : tie.Need-flush-requires Inv-loop μ-loop
 flush-requires c κs = search needs
@@ -107,20 +114,18 @@ main-spec =
     (tie.spec
     Inv-loop
     μ-loop
-    first-desk-requires
+    first-requires
+    first-requires-2
     loop-holds
     sub-turns
-    slice-aggregate-find-line
-    find-line-requires
-    slice-aggregate-flush-unless
-    flush-unless-requires
-    slice-aggregate-line-of
-    line-of-requires
+    slice-aggregate-next-line
+    next-line-requires
     slice-aggregate-play
     slice-aggregate-play-2
     slice-aggregate-play-3
     slice-aggregate-play-4
     slice-aggregate-play-5
+    slice-aggregate-play-6
     play-requires
     slice-aggregate-print-line
     slice-aggregate-print-line-2
@@ -128,9 +133,8 @@ main-spec =
     slice-aggregate-print-line-4
     slice-aggregate-print-line-5
     slice-aggregate-print-line-6
+    slice-aggregate-print-line-7
     print-line-requires
-    slice-aggregate-read-on
-    read-on-requires
     loop-less
     loop-again
     slice-aggregate-flush

@@ -8,33 +8,33 @@ use Rattle.judged_calls.proofs.take_all.Statement.{statement}
 use Rattle.judged_calls.proofs.take_all.Tie as tie
 
 abbrev Inv-loop : tie.InvT-loop
-Inv-loop quotes columns₀ positions₀ lower-ends₀ records out₀ now₀ i₀ columns positions lower-ends out now i =
-    (length columns ≡ length columns₀) × (length positions ≡ length positions₀) × (length lower-ends ≡ length lower-ends₀) × (length out ≡ length out₀) × (i ≤ length quotes)
+Inv-loop quotes columns₀ positions₀ lower-ends₀ upper-ends₀ records out₀ now₀ i₀ columns positions lower-ends upper-ends out now i =
+    (length columns ≡ length columns₀) × (length positions ≡ length positions₀) × (length lower-ends ≡ length lower-ends₀) × (length upper-ends ≡ length upper-ends₀) × (length out ≡ length out₀) × (i ≤ length quotes)
 
 abbrev μ-loop : tie.MeasureT-loop
-μ-loop quotes columns₀ positions₀ lower-ends₀ records out₀ now₀ i₀ columns positions lower-ends out now i =
+μ-loop quotes columns₀ positions₀ lower-ends₀ upper-ends₀ records out₀ now₀ i₀ columns positions lower-ends upper-ends out now i =
     length quotes - i
 
 loop-holds : tie.Need-loop-holds Inv-loop μ-loop
-loop-holds c = (refl, refl, refl, refl, omega arith)
+loop-holds c = (refl, refl, refl, refl, refl, omega arith)
 
 add-loop : tie.Need-add-loop Inv-loop μ-loop
 add-loop c = search needs
 
-mul-t11 : tie.Need-mul-t11 Inv-loop μ-loop
-mul-t11 c = search needs
+mul-t12 : tie.Need-mul-t12 Inv-loop μ-loop
+mul-t12 c = search needs
 
-shared-slice-read-t15 : tie.Need-shared-slice-read-t15 Inv-loop μ-loop
-shared-slice-read-t15 c = search needs
+shared-slice-read-t16 : tie.Need-shared-slice-read-t16 Inv-loop μ-loop
+shared-slice-read-t16 c = search needs
 
-add-t12 : tie.Need-add-t12 Inv-loop μ-loop
-add-t12 c = search needs
+add-t13 : tie.Need-add-t13 Inv-loop μ-loop
+add-t13 c = search needs
 
-mul-t16 : tie.Need-mul-t16 Inv-loop μ-loop
-mul-t16 c = search needs
+mul-t17 : tie.Need-mul-t17 Inv-loop μ-loop
+mul-t17 c = search needs
 
-shared-slice-read-t18 : tie.Need-shared-slice-read-t18 Inv-loop μ-loop
-shared-slice-read-t18 c = search needs
+shared-slice-read-t19 : tie.Need-shared-slice-read-t19 Inv-loop μ-loop
+shared-slice-read-t19 c = search needs
 
 take-requires : tie.Need-take-requires Inv-loop μ-loop
 take-requires c κs = search needs
@@ -60,6 +60,9 @@ same-length-3 c = search needs
 same-length-4 : tie.Need-same-length-4 Inv-loop μ-loop
 same-length-4 c = search needs
 
+same-length-5 : tie.Need-same-length-5 Inv-loop μ-loop
+same-length-5 c = search needs
+
 returns : tie.Need-returns Inv-loop μ-loop
 returns c = search needs
 
@@ -71,11 +74,11 @@ take-all-spec =
     μ-loop
     loop-holds
     add-loop
-    mul-t11
-    shared-slice-read-t15
-    add-t12
-    mul-t16
-    shared-slice-read-t18
+    mul-t12
+    shared-slice-read-t16
+    add-t13
+    mul-t17
+    shared-slice-read-t19
     take-requires
     add-i
     loop-less
@@ -84,4 +87,5 @@ take-all-spec =
     same-length-2
     same-length-3
     same-length-4
+    same-length-5
     returns)

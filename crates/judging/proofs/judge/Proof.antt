@@ -24,8 +24,8 @@ returns c = stays _ _ (c .before .before .judge-loan .ensures) (c .enum-told2 .g
 
 torn-rows-requires : tie.Need-torn-rows-requires
 torn-rows-requires c κs =
-    let long = loan-passed _ _ (accepted-number _ (c .before .before .judge-loan .ensures) (c .enum-told .given .1)) .1 in
-    (long .positions, long .lowerEnds)
+    let loan = loan-passed _ _ (accepted-number _ (c .before .before .judge-loan .ensures) (c .enum-told .given .1)) in
+    (loan .0 .some-capacity, (loan .1 .positions, (loan .1 .lowerEnds, loan .1 .upperEnds)))
 
 with-test-requires : tie.Need-with-test-requires
 with-test-requires c κs = search needs
@@ -33,7 +33,7 @@ with-test-requires c κs = search needs
 returns-2 : tie.Need-returns-2
 unfolding loanAnswer answerOf
 returns-2 c =
-    tested _ _ _ (c .before .before .before .before .judge-loan .ensures) (c .before .torn-rows .ensures ∙ torn-columns _ _ _ _ _) (c .with-test .ensures) refl
+    tested _ _ _ (c .before .before .before .before .judge-loan .ensures) (c .before .torn-rows .ensures ∙ torn-columns _ _ _ _ _ _) (c .with-test .ensures) refl
 
 pub judge-spec : {M : Type 1} → statement M
 judge-spec =

@@ -19,7 +19,7 @@ judge-requires c κs = search needs
 
 returns : tie.Need-returns
 returns c =
-    let a = c .before .before .before .before .before .before .before .before .args in
+    let a = c .before .before .before .before .before .before .before .before .before .args in
     open-few (a .watches) (a .lent) (omega arith) _ _ _ _ _ (c .before .before .before .fresh .ensures) (c .before .before .fresh2 .ensures) (c .before .few .ensures) (c .judge .ensures)
 
 open-requires : tie.Need-open-requires
@@ -37,14 +37,17 @@ same-length-2 c = search needs
 same-length-3 : tie.Need-same-length-3
 same-length-3 c = search needs
 
+same-length-4 : tie.Need-same-length-4
+same-length-4 c = search needs
+
 returns-2 : tie.Need-returns-2
 returns-2 c =
-    let s = c .before .before .before .before .before .before .before .before .before .before .before .before .before .before .before in
+    let s = c .before .before .before .before .before .before .before .before .before .before .before .before .before .before .before .before .before .before .before in
     let a = s .args in
-    let g = s .good .1 .1 .1 .1 .1 .1 .0 in
-    open-eight (a .watches) (a .lent) _ _ _ _ (omega (arith, g)) (c .before .before .before .before .before .before .before .«open» .ensures) (c .judge2 .ensures)
+    let g = s .good .1 .1 .1 .1 .1 .1 .1 .0 in
+    open-eight (a .watches) (a .lent) _ _ _ _ (omega (arith, g, c .before .before .before .before .before .before .before .before .before .before .before .before .before .before .if1 .left)) (c .before .before .before .before .before .before .before .before .before .«open» .ensures) (c .judge2 .ensures)
 
 pub open-lent-spec : {M : Type 1} → statement M
 open-lent-spec =
     tie.close
-    (tie.spec fresh-requires fresh-requires-2 few-requires judge-requires returns open-requires judge-requires-2 same-length same-length-2 same-length-3 returns-2)
+    (tie.spec fresh-requires fresh-requires-2 few-requires judge-requires returns open-requires judge-requires-2 same-length same-length-2 same-length-3 same-length-4 returns-2)

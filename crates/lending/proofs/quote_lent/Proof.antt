@@ -10,7 +10,7 @@ few-requires c κs = search needs
 
 returns : tie.Need-returns
 returns c =
-    let a = c .before .before .before .before .before .before .before .args in
+    let a = c .before .before .before .before .before .before .before .before .args in
     quote-few (a .watches) (a .lent) (omega arith) _ _ _ (c .few .ensures)
 
 quote-requires : tie.Need-quote-requires
@@ -28,14 +28,17 @@ same-length-3 c = search needs
 same-length-4 : tie.Need-same-length-4
 same-length-4 c = search needs
 
+same-length-5 : tie.Need-same-length-5
+same-length-5 c = search needs
+
 returns-2 : tie.Need-returns-2
 returns-2 c =
-    let s = c .before .before .before .before .before .before .before .before .before .before .before .before .before .before .before .before .before .before .before in
+    let s = c .before .before .before .before .before .before .before .before .before .before .before .before .before .before .before .before .before .before .before .before .before .before .before in
     let a = s .args in
-    let g = s .good .1 .1 .1 .1 .1 .0 in
-    quote-eight (a .watches) (a .lent) _ _ _ (omega (arith, g)) (c .before .before .before .before .before .before .before .before .quote .ensures)
+    let g = s .good .1 .1 .1 .1 .1 .1 .0 in
+    quote-eight (a .watches) (a .lent) _ _ _ (omega (arith, g, c .before .before .before .before .before .before .before .before .before .before .before .before .before .before .before .before .if1 .left)) (c .before .before .before .before .before .before .before .before .before .before .quote .ensures)
 
 pub quote-lent-spec : {M : Type 1} → statement M
 quote-lent-spec =
     tie.close
-    (tie.spec few-requires returns quote-requires same-length same-length-2 same-length-3 same-length-4 returns-2)
+    (tie.spec few-requires returns quote-requires same-length same-length-2 same-length-3 same-length-4 same-length-5 returns-2)

@@ -1,8 +1,9 @@
 -- `judge_size` meets its contract: the test of n stands behind those of the tables.
 use mathlib.Core.Path.{refl}
-use borrow.Author.Needs.{needs}
 use Rattle.model.specs.Book.{answerOf}
 use Rattle.judging.proofs.Answering.{tested}
+use Rattle.looking.specs.Shown.{sizeAnswer}
+use borrow.Author.Needs.{needs}
 use Rattle.looking.proofs.judge_size.Statement.{statement}
 use Rattle.looking.proofs.judge_size.Tie as tie
 
@@ -16,8 +17,9 @@ with-test-requires : tie.Need-with-test-requires
 with-test-requires c κs = search needs
 
 returns : tie.Need-returns
-unfolding answerOf
+unfolding answerOf sizeAnswer
 returns c = tested _ _ _ (c .before .before .judge .ensures) (c .before .out-of-range .ensures) (c .with-test .ensures) refl
 
 pub judge-size-spec : {M : Type 1} → statement M
-judge-size-spec = tie.close (tie.spec judge-requires out-of-range-requires with-test-requires returns)
+judge-size-spec =
+    tie.close (tie.spec judge-requires out-of-range-requires with-test-requires returns)

@@ -1,11 +1,12 @@
--- `look` meets its contract: refused, it leaves everything as it was; accepted, it writes the list.
+-- `look` meets its contract: refused, it leaves everything as it was; accepted, it writes the list if there is room.
+use native.Mathlib.Omega.{arith}
+use Rattle.looking.proofs.Listing.{window-in, start-in, size-passed, look-refused, look-done}
 use borrow.Author.Needs.{needs}
-use Rattle.looking.proofs.Listing.{look-passed, look-fits, look-refused, look-done}
 use Rattle.looking.proofs.look.Statement.{statement}
 use Rattle.looking.proofs.look.Tie as tie
 
-judge-look-requires : tie.Need-judge-look-requires
-judge-look-requires c κs = search needs
+judge-size-requires : tie.Need-judge-size-requires
+judge-size-requires c κs = search needs
 
 enum-told : tie.Need-enum-told
 enum-told c = search needs
@@ -14,37 +15,29 @@ enum-told-2 : tie.Need-enum-told-2
 enum-told-2 c = search needs
 
 returns : tie.Need-returns
-returns c = look-refused _ _ _ _ (c .before .before .judge-look .ensures) (c .enum-told2 .given .1)
-
-cast-write-listed : tie.Need-cast-write-listed
-cast-write-listed c = search needs
+returns c = look-refused _ _ _ _ (c .before .before .judge-size .ensures) (c .enum-told2 .given .1)
 
 start-of-requires : tie.Need-start-of-requires
-start-of-requires c κs = look-passed _ _ _ (c .before .before .before .judge-look .ensures) (c .before .enum-told .given .1) .0 .whole .low-newest
+start-of-requires c κs = size-passed _ _ _ (c .before .before .judge-size .ensures) (c .enum-told .given .1) .0 .whole .low-newest
 
-write-listed-requires : tie.Need-write-listed-requires
-write-listed-requires c κs =
-    look-fits _ _ _ (c .before .before .before .before .before .judge-look .ensures) (c .before .before .before .enum-told .given .1) (c .before .start-of .ensures)
+write-list-requires : tie.Need-write-list-requires
+write-list-requires c κs = let p = size-passed _ _ _ (c .before .before .before .before .judge-size .ensures) (c .before .before .enum-told .given .1) in let w = start-in _ _ (p .0) (p .1) (c .before .start-of .ensures) in (p .0 .whole .low-newest, window-in _ _ (p .0) _ _ (w .0) (w .1) (omega arith))
 
 same-length : tie.Need-same-length
 same-length c = search needs
 
 returns-2 : tie.Need-returns-2
-returns-2 c =
-    let known = c .before .before in
-    look-done _ _ _ _ (known .before .before .before .before .before .before .judge-look .ensures) (known .before .before .before .before .enum-told .given .1)
-    (known .before .before .start-of .ensures) (known .write-listed .ensures .0) (known .write-listed .ensures .1)
+returns-2 c = look-done _ _ _ _ (c .before .before .before .before .before .before .before .judge-size .ensures) (c .before .before .before .before .before .enum-told .given .1) (c .before .before .before .before .start-of .ensures) (c .before .before .write-list .ensures)
 
 pub look-spec : {M : Type 1} → statement M
 look-spec =
     tie.close
     (tie.spec
-    judge-look-requires
+    judge-size-requires
     enum-told
     enum-told-2
     returns
-    cast-write-listed
     start-of-requires
-    write-listed-requires
+    write-list-requires
     same-length
     returns-2)

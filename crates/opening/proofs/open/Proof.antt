@@ -30,40 +30,47 @@ same-length-2 c = search needs
 same-length-3 : tie.Need-same-length-3
 same-length-3 c = search needs
 
+same-length-4 : tie.Need-same-length-4
+same-length-4 c = search needs
+
 returns : tie.Need-returns
 returns c =
     let judged = c .before .before .before in
-    let fresh = judged .before .before .before .before in
-    open-refused _ _ _ _ (fresh .fresh .ensures) (judged .judge-loan .ensures) _ (omega (arith, fresh .before .before .before .before .good)) (c .before .enum-told2 .given .1) (c .fresh2 .ensures)
+    let fresh = judged .before .before .before .before .before in
+    open-refused _ _ _ _ (fresh .fresh .ensures) (judged .judge-loan .ensures) _ (omega (arith, fresh .before .before .before .before .before .good)) (c .before .enum-told2 .given .1) (c .fresh2 .ensures)
 
 mul-clear : tie.Need-mul-clear
 mul-clear c =
     let judged = c .before .before .before in
-    let within = open-passed _ _ _ _ (judged .before .before .before .before .fresh .ensures) (judged .judge-loan .ensures) (c .before .enum-told .given .1) .0 in
+    let within = open-passed _ _ _ _ (judged .before .before .before .before .before .fresh .ensures) (judged .judge-loan .ensures) (c .before .enum-told .given .1) .0 in
     omega (arith, mul-le-mul (within .small-capacity) (within .few-columns))
 
 clear-requires : tie.Need-clear-requires
 clear-requires c κs =
     let judged = c .before .before .before in
-    let long = open-passed _ _ _ _ (judged .before .before .before .before .fresh .ensures) (judged .judge-loan .ensures) (c .before .enum-told .given .1) .1 in
+    let long = open-passed _ _ _ _ (judged .before .before .before .before .before .fresh .ensures) (judged .judge-loan .ensures) (c .before .enum-told .given .1) .1 in
     (omega arith, long .columns)
 
 clear-requires-2 : tie.Need-clear-requires-2
 clear-requires-2 c κs =
     let told = c .before .before .before .before .before in
     let judged = told .before .before in
-    let long = open-passed _ _ _ _ (judged .before .before .before .before .fresh .ensures) (judged .judge-loan .ensures) (told .enum-told .given .1) .1 in
+    let long = open-passed _ _ _ _ (judged .before .before .before .before .before .fresh .ensures) (judged .judge-loan .ensures) (told .enum-told .given .1) .1 in
     (omega arith, long .positions)
 
 clear-requires-3 : tie.Need-clear-requires-3
 clear-requires-3 c κs =
     let told = c .before .before .before .before .before .before .before .before .before in
     let judged = told .before .before in
-    let long = open-passed _ _ _ _ (judged .before .before .before .before .fresh .ensures) (judged .judge-loan .ensures) (told .enum-told .given .1) .1 in
+    let long = open-passed _ _ _ _ (judged .before .before .before .before .before .fresh .ensures) (judged .judge-loan .ensures) (told .enum-told .given .1) .1 in
     (omega arith, long .lowerEnds)
 
-same-length-4 : tie.Need-same-length-4
-same-length-4 c = search needs
+clear-requires-4 : tie.Need-clear-requires-4
+clear-requires-4 c κs =
+    let told = c .before .before .before .before .before .before .before .before .before .before .before .before .before in
+    let judged = told .before .before in
+    let long = open-passed _ _ _ _ (judged .before .before .before .before .before .fresh .ensures) (judged .judge-loan .ensures) (told .enum-told .given .1) .1 in
+    (omega arith, long .upperEnds)
 
 same-length-5 : tie.Need-same-length-5
 same-length-5 c = search needs
@@ -71,15 +78,22 @@ same-length-5 c = search needs
 same-length-6 : tie.Need-same-length-6
 same-length-6 c = search needs
 
+same-length-7 : tie.Need-same-length-7
+same-length-7 c = search needs
+
+same-length-8 : tie.Need-same-length-8
+same-length-8 c = search needs
+
 returns-2 : tie.Need-returns-2
 returns-2 c =
-    let third = c .before .before in
+    let fourth = c .before .before in
+    let third = fourth .before .before .before .before in
     let second = third .before .before .before .before in
     let one = second .before .before .before .before in
     let judged = one .before .before .before .before in
-    let fresh = judged .before .before .before .before in
-    open-done _ _ _ _ (fresh .fresh .ensures) (judged .judge-loan .ensures) _ (omega (arith, fresh .before .before .before .before .good)) (one .before .before .enum-told .given .1) (one .clear .ensures)
-    (second .clear2 .ensures) (third .clear3 .ensures)
+    let fresh = judged .before .before .before .before .before in
+    open-done _ _ _ _ (fresh .fresh .ensures) (judged .judge-loan .ensures) _ (omega (arith, fresh .before .before .before .before .before .good)) (one .before .before .enum-told .given .1) (one .clear .ensures)
+    (second .clear2 .ensures) (third .clear3 .ensures) (fourth .clear4 .ensures)
 
 pub open-spec : {M : Type 1} → statement M
 open-spec =
@@ -93,12 +107,15 @@ open-spec =
     same-length
     same-length-2
     same-length-3
+    same-length-4
     returns
     mul-clear
     clear-requires
     clear-requires-2
     clear-requires-3
-    same-length-4
+    clear-requires-4
     same-length-5
     same-length-6
+    same-length-7
+    same-length-8
     returns-2)

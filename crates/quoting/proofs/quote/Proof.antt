@@ -1,19 +1,13 @@
 -- `quote` meets its contract: it is judged, and takes the tables for any.
-use mathlib.Core.Path.{refl}
 use native.Mathlib.Omega.{arith}
-use borrow.Author.Needs.{needs}
 use Rattle.head.proofs.Numbers.{accepted-number}
-use Rattle.quoting.proofs.Quotes.{admitted, few-rows, quote-refused}
-use Rattle.quoting.proofs.Reaching.{any-known}
+use Rattle.settling.proofs.Findings.{findable}
+use Rattle.settling.proofs.Settled.{any-known}
+use Rattle.quoting.proofs.Quotes.{admitted, few-held, quote-refused}
+use Rattle.quoting.proofs.Reaching.{any-sound-if}
+use borrow.Author.Needs.{needs}
 use Rattle.quoting.proofs.quote.Statement.{statement}
 use Rattle.quoting.proofs.quote.Tie as tie
-
--- where a quote on few rows was entered, and one on many
-abbrev few : tie.After-slice-known8 → tie.After-enter
-few c = c .before .before .before .before .before .before .before .before .before .before
-
-abbrev many : tie.After-slice-known12 → tie.After-enter2
-many c = c .before .before .before .before .before .before .before .before .before .before
 
 judge-row-requires : tie.Need-judge-row-requires
 judge-row-requires c κs = search needs
@@ -25,74 +19,55 @@ enum-told-2 : tie.Need-enum-told-2
 enum-told-2 c = search needs
 
 same-length : tie.Need-same-length
-same-length c = refl
+same-length c = search needs
 
 same-length-2 : tie.Need-same-length-2
-same-length-2 c = refl
+same-length-2 c = search needs
 
 same-length-3 : tie.Need-same-length-3
-same-length-3 c = refl
+same-length-3 c = search needs
+
+same-length-4 : tie.Need-same-length-4
+same-length-4 c = search needs
 
 returns : tie.Need-returns
 returns c = quote-refused _ _ _ _ _ (c .before .before .judge-row .ensures) (c .enum-told2 .given .1)
 
+slice-aggregate-find : tie.Need-slice-aggregate-find
+slice-aggregate-find c = search needs
+
+find-requires : tie.Need-find-requires
+find-requires c κs = let a = admitted _ _ _ _ (accepted-number _ (c .before .before .before .before .before .judge-row .ensures) (c .before .before .before .enum-told .given .1)) .0 in findable a (omega (arith, few-held a))
+
+cast-named : tie.Need-cast-named
+cast-named c = search needs
+
+cast-used : tie.Need-cast-used
+cast-used c = search needs
+
 slice-aggregate-enter : tie.Need-slice-aggregate-enter
 slice-aggregate-enter c = search needs
 
-slice-aggregate-enter-2 : tie.Need-slice-aggregate-enter-2
-slice-aggregate-enter-2 c = search needs
-
 enter-requires : tie.Need-enter-requires
-enter-requires c κs =
-    let judged = c .before .before .before .before .before .before .before .before .before .before in
-    let accepted = accepted-number _ (judged .judge-row .ensures) (c .before .before .before .before .before .before .before .before .enum-told .given .1) in
-    let known = admitted _ _ _ _ accepted in
-    let test = c .before .before .before .before .before .before .if1 in
-    (omega (arith, few-rows known), (omega (arith, few-rows known), (accepted, any-known (known .passed))))
-
-same-length-4 : tie.Need-same-length-4
-same-length-4 c = few c .enter .kept .1 .1 .1 .1 .1 .0
+enter-requires c κs = let accepted = accepted-number _ (c .before .before .before .before .before .before .before .before .before .before .before .before .before .before .before .judge-row .ensures) (c .before .before .before .before .before .before .before .before .before .before .before .before .before .enum-told .given .1) in (accepted, (c .before .before .before .before .before .before .before .before .before .find .ensures, (any-known (admitted _ _ _ _ accepted .0), any-sound-if)))
 
 same-length-5 : tie.Need-same-length-5
-same-length-5 c = few c .enter .kept .1 .1 .1 .1 .1 .1 .0
+same-length-5 c = search needs
 
 same-length-6 : tie.Need-same-length-6
-same-length-6 c = few c .enter .kept .1 .1 .1 .1 .1 .1 .1 .0
+same-length-6 c = search needs
 
 same-length-7 : tie.Need-same-length-7
-same-length-7 c = few c .enter .kept .1 .1 .1 .1 .1 .1 .1 .1 .1 .0
-
-returns-2 : tie.Need-returns-2
-returns-2 c = few c .enter .ensures
-
-slice-aggregate-enter-3 : tie.Need-slice-aggregate-enter-3
-slice-aggregate-enter-3 c = search needs
-
-slice-aggregate-enter-4 : tie.Need-slice-aggregate-enter-4
-slice-aggregate-enter-4 c = search needs
-
-enter-requires-2 : tie.Need-enter-requires-2
-enter-requires-2 c κs =
-    let judged = c .before .before .before .before .before .before .before .before .before .before in
-    let accepted = accepted-number _ (judged .judge-row .ensures) (c .before .before .before .before .before .before .before .before .enum-told .given .1) in
-    let known = admitted _ _ _ _ accepted in
-    let test = c .before .before .before .before .before .before .if1 in
-    (omega (arith, few-rows known), (omega (arith, few-rows known), (accepted, any-known (known .passed))))
+same-length-7 c = search needs
 
 same-length-8 : tie.Need-same-length-8
-same-length-8 c = many c .enter2 .kept .1 .1 .1 .1 .1 .0
+same-length-8 c = search needs
 
 same-length-9 : tie.Need-same-length-9
-same-length-9 c = many c .enter2 .kept .1 .1 .1 .1 .1 .1 .0
+same-length-9 c = search needs
 
-same-length-10 : tie.Need-same-length-10
-same-length-10 c = many c .enter2 .kept .1 .1 .1 .1 .1 .1 .1 .0
-
-same-length-11 : tie.Need-same-length-11
-same-length-11 c = many c .enter2 .kept .1 .1 .1 .1 .1 .1 .1 .1 .1 .0
-
-returns-3 : tie.Need-returns-3
-returns-3 c = many c .enter2 .ensures
+returns-2 : tie.Need-returns-2
+returns-2 c = search needs
 
 pub quote-spec : {M : Type 1} → statement M
 quote-spec =
@@ -104,20 +79,17 @@ quote-spec =
     same-length
     same-length-2
     same-length-3
-    returns
-    slice-aggregate-enter
-    slice-aggregate-enter-2
-    enter-requires
     same-length-4
+    returns
+    slice-aggregate-find
+    find-requires
+    cast-named
+    cast-used
+    slice-aggregate-enter
+    enter-requires
     same-length-5
     same-length-6
     same-length-7
-    returns-2
-    slice-aggregate-enter-3
-    slice-aggregate-enter-4
-    enter-requires-2
     same-length-8
     same-length-9
-    same-length-10
-    same-length-11
-    returns-3)
+    returns-2)

@@ -1,8 +1,10 @@
--- `torn_rows` meets its contract: a torn head decides, and under any other head the order of the rows does.
+-- `torn_rows` meets its contract: a torn head decides, and under any other head the places of the rows do.
 use mathlib.Core.Path.{sym, _∙_}
 use native.Mathlib.Omega.{arith}
 use borrow.Author.Needs.{needs}
-use Rattle.rows.proofs.Torn.{head-torn, rows-fit, order-found}
+use Rattle.model.specs.Book.{bookRows}
+use Rattle.rows.proofs.Reading.{length-rows}
+use Rattle.rows.proofs.Torn.{head-torn, head-likely, likely-fits, by-places}
 use Rattle.rows.proofs.torn_rows.Statement.{statement}
 use Rattle.rows.proofs.torn_rows.Tie as tie
 
@@ -10,23 +12,31 @@ torn-head-requires : tie.Need-torn-head-requires
 torn-head-requires c κs = search needs
 
 returns : tie.Need-returns
-returns c = sym (head-torn _ _ (sym (c .before .torn-head .ensures) ∙ c .if1 .taken))
+unfolding bookRows
+returns c =
+    let entry = c .before .before .before .before .before in
+    sym (head-torn _ _ (length-rows _ _ _) (entry .pre .0) (sym (c .before .torn-head .ensures) ∙ c .if1 .taken))
 
-difference-requires : tie.Need-difference-requires
-difference-requires c κs = search needs
+window-start-requires : tie.Need-window-start-requires
+window-start-requires c κs = search needs
 
-cast-count : tie.Need-cast-count
-cast-count c = search needs
+cast-first : tie.Need-cast-first
+cast-first c =
+    let entry = c .before .before .before .before .before .before in
+    let likely = head-likely _ (sym (c .before .before .torn-head .ensures) ∙ c .before .if1 .left) in
+    omega (arith, c .window-start .ensures, likely-fits _ (entry .pre .0) likely)
 
-in-order-requires : tie.Need-in-order-requires
-in-order-requires c κs =
-    let fit = rows-fit _ (sym (c .before .before .before .torn-head .ensures) ∙ c .before .before .if1 .left) in
-    omega (arith, fit)
+in-places-requires : tie.Need-in-places-requires
+in-places-requires c κs =
+    let entry = c .before .before .before .before .before .before in
+    let likely = head-likely _ (sym (c .before .before .torn-head .ensures) ∙ c .before .if1 .left) in
+    omega (arith, c .window-start .ensures, likely .fills, likely-fits _ (entry .pre .0) likely)
 
 returns-2 : tie.Need-returns-2
 returns-2 c =
-    order-found _ _ _ _ _ (sym (c .before .before .before .before .torn-head .ensures) ∙ c .before .before .before .if1 .left) (c .before .before .difference .ensures) (c .in-order .ensures)
+    let entry = c .before .before .before .before .before .before .before in
+    by-places _ _ _ _ _ _ (entry .pre .0) (sym (c .before .before .before .torn-head .ensures) ∙ c .before .before .if1 .left) (c .before .window-start .ensures) (c .in-places .ensures)
 
 pub torn-rows-spec : {M : Type 1} → statement M
 torn-rows-spec =
-    tie.close (tie.spec torn-head-requires returns difference-requires cast-count in-order-requires returns-2)
+    tie.close (tie.spec torn-head-requires returns window-start-requires cast-first in-places-requires returns-2)

@@ -12,10 +12,10 @@ use Rattle.tape_printer.proofs.main.Statement.{statement}
 use Rattle.tape_printer.proofs.main.Tie as tie
 
 abbrev Inv-loop : tie.InvT-loop
-Inv-loop columns₀ positions₀ lower-ends₀ bytes₀ tape₀ text₀ stand₀ turns₀ columns positions lower-ends bytes tape text stand turns = (stand .used ≤ length text) × (stand .place ≤ stand .end) × (stand .end ≤ length tape) × (length tape ≡ 65536) × (length text ≡ 273613) × Reached (world (stand .head) (tables columns positions lower-ends) (stand .watches))
+Inv-loop columns₀ positions₀ lower-ends₀ upper-ends₀ bytes₀ tape₀ text₀ stand₀ turns₀ columns positions lower-ends upper-ends bytes tape text stand turns = (stand .used ≤ length text) × (stand .place ≤ stand .end) × (stand .end ≤ length tape) × (length tape ≡ 65536) × (length text ≡ 273624) × Reached (world (stand .head) (tables columns positions lower-ends upper-ends) (stand .watches))
 
 abbrev μ-loop : tie.MeasureT-loop
-μ-loop columns₀ positions₀ lower-ends₀ bytes₀ tape₀ text₀ stand₀ turns₀ columns positions lower-ends bytes tape text stand turns = turns
+μ-loop columns₀ positions₀ lower-ends₀ upper-ends₀ bytes₀ tape₀ text₀ stand₀ turns₀ columns positions lower-ends upper-ends bytes tape text stand turns = turns
 
 fresh-requires : tie.Need-fresh-requires Inv-loop μ-loop
 fresh-requires c κs = search needs
@@ -45,16 +45,16 @@ slice-aggregate-play-piece : tie.Need-slice-aggregate-play-piece Inv-loop μ-loo
 slice-aggregate-play-piece c = simp length-take (omega (arith, c .before .before .refill .ensures .2, c .before .before .refill .kept .1 .0))
 
 slice-aggregate-play-piece-2 : tie.Need-slice-aggregate-play-piece-2 Inv-loop μ-loop
-slice-aggregate-play-piece-2 c = sym (c .before .before .before .before .before .before .before .before .before .before .before .before .before .before .loop .inv .4)
+slice-aggregate-play-piece-2 c = sym (c .before .before .before .before .before .before .before .before .before .before .before .before .before .before .before .loop .inv .4)
 
 play-piece-requires : tie.Need-play-piece-requires Inv-loop μ-loop
-play-piece-requires c κs = let i = c .before .before .before .before .before .before .before .before .before .before .before .before .before .before .loop .inv in let f = c .before .before .before .before .before .before .before .before .before .flush .ensures in let r = c .before .before .before .before .before .before .before .refill .ensures in (omega (arith, r .0, f .0), omega (arith, i .4), simp length-take (omega (arith, r .1, r .2, c .before .before .before .before .before .before .before .refill .kept .1 .0)), same-reached (r .3 ∙ f .3) (r .4 ∙ f .4) (i .5))
+play-piece-requires c κs = let i = c .before .before .before .before .before .before .before .before .before .before .before .before .before .before .before .loop .inv in let f = c .before .before .before .before .before .before .before .before .before .before .flush .ensures in let r = c .before .before .before .before .before .before .before .before .refill .ensures in (omega (arith, r .0, f .0), omega (arith, i .4), simp length-take (omega (arith, r .1, r .2, c .before .before .before .before .before .before .before .before .refill .kept .1 .0)), same-reached (r .3 ∙ f .3) (r .4 ∙ f .4) (i .5))
 
 loop-less : tie.Need-loop-less Inv-loop μ-loop
-loop-less c = omega (arith, c .before .before .before .before .before .before .before .before .before .before .before .before .before .before .before .loop-test .taken)
+loop-less c = omega (arith, c .before .before .before .before .before .before .before .before .before .before .before .before .before .before .before .before .loop-test .taken)
 
 loop-again : tie.Need-loop-again Inv-loop μ-loop
-loop-again c = let i = c .before .before .before .before .before .before .before .before .before .before .before .before .before .before .before .before .loop .inv in let r = c .before .before .before .before .before .before .before .before .before .refill in let p = c .before .«play-piece» in (omega (arith, p .ensures .0, p .kept .1 .1 .1 .1 .1 .1 .0), omega (arith, rw length-take at (p .ensures .1), p .ensures .2), omega (arith, p .ensures .2, r .ensures .2, r .kept .1 .0), r .kept .1 .0 ∙ i .3, p .kept .1 .1 .1 .1 .1 .1 .0 ∙ i .4, p .ensures .3)
+loop-again c = let i = c .before .before .before .before .before .before .before .before .before .before .before .before .before .before .before .before .before .loop .inv in let r = c .before .before .before .before .before .before .before .before .before .before .refill in let p = c .before .«play-piece» in (omega (arith, p .ensures .0, p .kept .1 .1 .1 .1 .1 .1 .1 .0), omega (arith, rw length-take at (p .ensures .1), p .ensures .2), omega (arith, p .ensures .2, r .ensures .2, r .kept .1 .0), r .kept .1 .0 ∙ i .3, p .kept .1 .1 .1 .1 .1 .1 .1 .0 ∙ i .4, p .ensures .3)
 
 slice-aggregate-flush-2 : tie.Need-slice-aggregate-flush-2 Inv-loop μ-loop
 slice-aggregate-flush-2 c = sym (c .before .before .loop .inv .4)

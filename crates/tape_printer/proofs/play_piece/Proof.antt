@@ -15,10 +15,10 @@ use Rattle.tape_printer.proofs.play_piece.Statement.{statement}
 use Rattle.tape_printer.proofs.play_piece.Tie as tie
 
 abbrev Inv-loop : tie.InvT-loop
-Inv-loop tape columns₀ positions₀ lower-ends₀ bytes₀ text₀ now₀ columns positions lower-ends bytes text now = Playing tape (now₀ .end) text₀ columns positions lower-ends text (now .place) (now .end) (now .used) (now .head) (now .watches)
+Inv-loop tape columns₀ positions₀ lower-ends₀ upper-ends₀ bytes₀ text₀ now₀ columns positions lower-ends upper-ends bytes text now = Playing tape (now₀ .end) text₀ columns positions lower-ends upper-ends text (now .place) (now .end) (now .used) (now .head) (now .watches)
 
 abbrev μ-loop : tie.MeasureT-loop
-μ-loop tape columns₀ positions₀ lower-ends₀ bytes₀ text₀ now₀ columns positions lower-ends bytes text now = left tape (now .place) (now .over)
+μ-loop tape columns₀ positions₀ lower-ends₀ upper-ends₀ bytes₀ text₀ now₀ columns positions lower-ends upper-ends bytes text now = left tape (now .place) (now .over)
 
 loop-holds : tie.Need-loop-holds Inv-loop μ-loop
 loop-holds c = let p = c .before .before .pre in record { long = refl; room = p .1; inside = p .2; same = refl; fits = p .0; reached = p .3 }
@@ -30,25 +30,25 @@ with-room-requires : tie.Need-with-room-requires Inv-loop μ-loop
 with-room-requires c κs = let i = c .before .before .before .loop .inv in (i .fits, i .room)
 
 sub-play-reached : tie.Need-sub-play-reached Inv-loop μ-loop
-sub-play-reached c = omega (arith, c .before .before .before .before .before .before .«with-room» .ensures .0)
+sub-play-reached c = omega (arith, c .before .before .before .before .before .before .before .«with-room» .ensures .0)
 
 part-play-reached-start : tie.Need-part-play-reached-start Inv-loop μ-loop
-part-play-reached-start c = omega (arith, c .before .before .before .before .before .before .«with-room» .ensures .0)
+part-play-reached-start c = omega (arith, c .before .before .before .before .before .before .before .«with-room» .ensures .0)
 
 part-play-reached-end : tie.Need-part-play-reached-end Inv-loop μ-loop
 part-play-reached-end c = search needs
 
 play-reached-requires : tie.Need-play-reached-requires Inv-loop μ-loop
-play-reached-requires c κs = let e = c .before .before .before .before .before .before .before .«with-room» .ensures in (simp (length-take, length-drop) (omega (arith, e .0)), same-reached (e .3) (e .4) (c .before .before .before .before .before .before .before .before .before .before .before .loop .inv .reached))
+play-reached-requires c κs = let e = c .before .before .before .before .before .before .before .before .«with-room» .ensures in (simp (length-take, length-drop) (omega (arith, e .0)), same-reached (e .3) (e .4) (c .before .before .before .before .before .before .before .before .before .before .before .before .loop .inv .reached))
 
-add-t27 : tie.Need-add-t27 Inv-loop μ-loop
-add-t27 c = let made = c .before .before .before .before .before .play-reached in omega (arith, stepped-fits (made .ensures) (made .kept .1 .1 .1 .1 .1 .1 .1 .1 .0), c .before .before .before .before .before .before .play-reached-arg5 .given, c .before .before .before .before .before .before .before .before .before .before .before .before .before .«with-room» .ensures .0, c .before .before .before .before .before .before .before .before .before .before .before .before .before .before .before .before .before .loop .inv .long, c .before .before .before .before .before .before .before .before .before .before .before .before .before .before .before .before .before .before .before .before .good .1 .1 .1 .1 .1 .1 .0 .0)
+add-t30 : tie.Need-add-t30 Inv-loop μ-loop
+add-t30 c = let made = c .before .before .before .before .before .play-reached in omega (arith, stepped-fits (made .ensures) (made .kept .1 .1 .1 .1 .1 .1 .1 .1 .1 .0), c .before .before .before .before .before .before .play-reached-arg6 .given, c .before .before .before .before .before .before .before .before .before .before .before .before .before .before .«with-room» .ensures .0, c .before .before .before .before .before .before .before .before .before .before .before .before .before .before .before .before .before .before .loop .inv .long, c .before .before .before .before .before .before .before .before .before .before .before .before .before .before .before .before .before .before .before .before .before .good .1 .1 .1 .1 .1 .1 .1 .0 .0)
 
 loop-less : tie.Need-loop-less Inv-loop μ-loop
-loop-less c = let i = c .before .before .before .before .before .before .before .before .before .before .before .before .before .before .before .before .before .before .before .loop in less-left (i .now .over) (i .now .ended || ready (now (c .before .before .before .before .before .before .before .before .before .before .before .before .before .before .before .before .before .before .before .before .before .before .args .tape)) (i .now .place)) (stepped-on (c .before .before .before .before .before .before .before .play-reached .ensures) (c .before .before .before .before .before .before .before .before .before .before .before .before .before .before .before .«with-room» .result .over) (c .before .before .before .before .before .before .before .before .before .before .before .before .before .before .before .«with-room» .ensures .1) (i .inv .inside)) (c .before .before .before .before .before .before .before .before .before .before .before .before .before .before .before .before .before .before .plays .ensures) (c .before .before .before .before .before .before .before .before .before .before .before .before .before .before .before .before .before .if1 .taken)
+loop-less c = let i = c .before .before .before .before .before .before .before .before .before .before .before .before .before .before .before .before .before .before .before .before .loop in less-left (i .now .over) (i .now .ended || ready (now (c .before .before .before .before .before .before .before .before .before .before .before .before .before .before .before .before .before .before .before .before .before .before .before .args .tape)) (i .now .place)) (stepped-on (c .before .before .before .before .before .before .before .play-reached .ensures) (c .before .before .before .before .before .before .before .before .before .before .before .before .before .before .before .before .«with-room» .result .over) (c .before .before .before .before .before .before .before .before .before .before .before .before .before .before .before .before .«with-room» .ensures .1) (i .inv .inside)) (c .before .before .before .before .before .before .before .before .before .before .before .before .before .before .before .before .before .before .before .plays .ensures) (c .before .before .before .before .before .before .before .before .before .before .before .before .before .before .before .before .before .before .if1 .taken)
 
 loop-again : tie.Need-loop-again Inv-loop μ-loop
-loop-again c = let i = c .before .before .before .before .before .before .before .before .before .before .before .before .before .before .before .before .before .before .before .loop .inv in let made = c .before .before .before .before .before .before .before .play-reached in let x = c .before .before .before .before .before .before .before .before .before .before .before .before .before .before .before .before .before .before .before .loop .text in let u = c .before .before .before .before .before .before .before .before .before .before .before .before .before .before .before .«with-room» .result .used in let e = c .before .before .before .before .before .before .before .before .before .before .before .before .before .before .before .«with-room» .ensures in record { long = same-len-mid u (length x - u) x (made .last .1 .1 .1 .1 .1 .1 .1 .1 .0) (made .kept .1 .1 .1 .1 .1 .1 .1 .1 .0) ∙ i .long; room = fits-as (same-len-mid u (length x - u) x (made .last .1 .1 .1 .1 .1 .1 .1 .1 .0) (made .kept .1 .1 .1 .1 .1 .1 .1 .1 .0)) (i .room); inside = stepped-on (made .ensures) (c .before .before .before .before .before .before .before .before .before .before .before .before .before .before .before .«with-room» .result .over) (e .1) (i .inside) .inside; same = e .2 ∙ i .same; fits = fits-as (same-len-mid u (length x - u) x (made .last .1 .1 .1 .1 .1 .1 .1 .1 .0) (made .kept .1 .1 .1 .1 .1 .1 .1 .1 .0)) (omega (arith, stepped-fits (made .ensures) (made .kept .1 .1 .1 .1 .1 .1 .1 .1 .0), c .before .before .before .before .before .before .before .before .play-reached-arg5 .given, e .0)); reached = step-reached (made .ensures) (same-reached (e .3) (e .4) (i .reached)) }
+loop-again c = let i = c .before .before .before .before .before .before .before .before .before .before .before .before .before .before .before .before .before .before .before .before .loop .inv in let made = c .before .before .before .before .before .before .before .play-reached in let x = c .before .before .before .before .before .before .before .before .before .before .before .before .before .before .before .before .before .before .before .before .loop .text in let u = c .before .before .before .before .before .before .before .before .before .before .before .before .before .before .before .before .«with-room» .result .used in let e = c .before .before .before .before .before .before .before .before .before .before .before .before .before .before .before .before .«with-room» .ensures in record { long = same-len-mid u (length x - u) x (made .last .1 .1 .1 .1 .1 .1 .1 .1 .1 .0) (made .kept .1 .1 .1 .1 .1 .1 .1 .1 .1 .0) ∙ i .long; room = fits-as (same-len-mid u (length x - u) x (made .last .1 .1 .1 .1 .1 .1 .1 .1 .1 .0) (made .kept .1 .1 .1 .1 .1 .1 .1 .1 .1 .0)) (i .room); inside = stepped-on (made .ensures) (c .before .before .before .before .before .before .before .before .before .before .before .before .before .before .before .before .«with-room» .result .over) (e .1) (i .inside) .inside; same = e .2 ∙ i .same; fits = fits-as (same-len-mid u (length x - u) x (made .last .1 .1 .1 .1 .1 .1 .1 .1 .1 .0) (made .kept .1 .1 .1 .1 .1 .1 .1 .1 .1 .0)) (omega (arith, stepped-fits (made .ensures) (made .kept .1 .1 .1 .1 .1 .1 .1 .1 .1 .0), c .before .before .before .before .before .before .before .before .play-reached-arg6 .given, e .0)); reached = step-reached (made .ensures) (same-reached (e .3) (e .4) (i .reached)) }
 
 same-length : tie.Need-same-length Inv-loop μ-loop
 same-length c = c .before .before .loop .inv .long
@@ -69,7 +69,7 @@ play-piece-spec =
     part-play-reached-start
     part-play-reached-end
     play-reached-requires
-    add-t27
+    add-t30
     loop-less
     loop-again
     same-length

@@ -1,7 +1,7 @@
 -- `watch` meets its contract: refused, it leaves everything as it was; accepted, it writes the joins and inserts n.
 use native.Mathlib.Omega.{arith}
-use borrow.Author.Needs.{needs}
 use Rattle.watching.proofs.Watches.{watch-free, watch-fits, watch-refused, watch-done}
+use borrow.Author.Needs.{needs}
 use Rattle.watching.proofs.watch.Statement.{statement}
 use Rattle.watching.proofs.watch.Tie as tie
 
@@ -17,39 +17,29 @@ enum-told-2 c = search needs
 returns : tie.Need-returns
 returns c = watch-refused _ _ _ _ _ (c .before .before .judge-watch .ensures) (c .enum-told2 .given .1)
 
-cast-write-joins : tie.Need-cast-write-joins
-cast-write-joins c =
-    let known = watch-free _ _ _ _ (c .before .before .judge-watch .ensures) (c .enum-told .given .1) in
-    omega (arith, known .range, known .passed .settings)
-
-cast-write-joins-2 : tie.Need-cast-write-joins-2
-cast-write-joins-2 c = search needs
-
 start-of-requires : tie.Need-start-of-requires
-start-of-requires c κs = watch-free _ _ _ _ (c .before .before .before .judge-watch .ensures) (c .before .enum-told .given .1) .passed .whole .low-newest
+start-of-requires c κs = watch-free _ _ _ _ (c .before .before .judge-watch .ensures) (c .enum-told .given .1) .passed .whole .low-newest
+
+start-of-requires-2 : tie.Need-start-of-requires-2
+start-of-requires-2 c κs = watch-free _ _ _ _ (c .before .before .before .judge-watch .ensures) (c .before .enum-told .given .1) .passed .whole .low-newest
+
+cast-write-joins : tie.Need-cast-write-joins
+cast-write-joins c = let known = watch-free _ _ _ _ (c .before .before .before .before .judge-watch .ensures) (c .before .before .enum-told .given .1) in omega (arith, known .range, known .passed .settings)
 
 write-joins-requires : tie.Need-write-joins-requires
-write-joins-requires c κs =
-    watch-fits _ _ _ _ (watch-free _ _ _ _ (c .before .before .before .before .before .judge-watch .ensures) (c .before .before .before .enum-told .given .1)) (c .before .start-of .ensures)
+write-joins-requires c κs = watch-fits _ _ _ _ (watch-free _ _ _ _ (c .before .before .before .before .before .judge-watch .ensures) (c .before .before .before .enum-told .given .1)) (c .before .before .start-of .ensures) (c .before .start-of2 .ensures)
 
 after-watch-requires : tie.Need-after-watch-requires
 after-watch-requires c κs = search needs
 
 insert-requires : tie.Need-insert-requires
-insert-requires c κs =
-    let known = c .before .before .before .before .before .before .before in
-    let free = watch-free _ _ _ _ (known .before .before .judge-watch .ensures) (known .enum-told .given .1) in
-    record { capacity = _; untorn = free .untorn; free = free .free }
+insert-requires c κs = let free = watch-free _ _ _ _ (c .before .before .before .before .before .before .before .before .before .judge-watch .ensures) (c .before .before .before .before .before .before .before .enum-told .given .1) in record { capacity = _; untorn = free .untorn; free = free .free }
 
 same-length : tie.Need-same-length
 same-length c = search needs
 
 returns-2 : tie.Need-returns-2
-returns-2 c =
-    let wrote = c .before .before .before .before in
-    let known = wrote .before .before .before .before in
-    watch-done _ _ _ _ _ (known .before .before .judge-watch .ensures) (known .enum-told .given .1) (wrote .before .before .start-of .ensures) (wrote .write-joins .ensures .0)
-    (wrote .write-joins .ensures .1) (c .before .after-watch .ensures) (c .insert .ensures)
+returns-2 c = watch-done _ _ _ _ _ (c .before .before .before .before .before .before .before .before .before .before .judge-watch .ensures) (c .before .before .before .before .before .before .before .before .enum-told .given .1) (c .before .before .before .before .before .before .before .start-of .ensures) (c .before .before .before .before .before .before .start-of2 .ensures) (c .before .before .before .before .write-joins .ensures .0) (c .before .before .before .before .write-joins .ensures .1) (c .before .after-watch .ensures) (c .insert .ensures)
 
 pub watch-spec : {M : Type 1} → statement M
 watch-spec =
@@ -59,9 +49,9 @@ watch-spec =
     enum-told
     enum-told-2
     returns
-    cast-write-joins
-    cast-write-joins-2
     start-of-requires
+    start-of-requires-2
+    cast-write-joins
     write-joins-requires
     after-watch-requires
     insert-requires

@@ -1,56 +1,35 @@
--- `count_changes` meets its contract: after i turns the rows at the places below i that leave or join are counted.
+-- `count_changes` meets its contract: after i turns the rows below place i that leave or join are counted.
 use Prim.Native.Nat.{_-_}
 use native.Mathlib.Omega.{arith}
 use lib.Dec.{ltb}
+use Rattle.finding.specs.Found.{rows}
+use Rattle.listing.proofs.Picking.{byte-small, Counted, counted-start, counted-more, counted-all}
+use Rattle.changes.specs.Held.{held, changesAt}
+use Rattle.changes.proofs.Moving.{counted-changes}
 use borrow.Author.Needs.{needs}
-use Rattle.changes.specs.Flagged.{flagged, wasListed, nowListed}
-use Rattle.changes.proofs.Picking.{byte-small, Counted, counted-start, counted-more, counted-all}
-use Rattle.changes.proofs.Moving.{differs, changesAt, counted-changes}
 use Rattle.changes.proofs.moves.count_changes.Statement.{statement}
 use Rattle.changes.proofs.moves.count_changes.Tie as tie
 
 abbrev Inv-loop : tie.InvT-loop
-Inv-loop keep positions lower-ends count shift newest lower n₀ i₀ n i =
-    Counted (changesAt (flagged keep positions lower-ends count) shift) positions count n i
+Inv-loop head columns lower-ends upper-ends quote first shift lower count n₀ i₀ n i = Counted (changesAt (held first (head .held) lower-ends (rows (head .dimensions) (head .directions) columns upper-ends quote)) shift) first (head .held) n i
 
 abbrev μ-loop : tie.MeasureT-loop
-μ-loop keep positions lower-ends count shift newest lower n₀ i₀ n i = count - i
+μ-loop head columns lower-ends upper-ends quote first shift lower count n₀ i₀ n i = count - i
+
+cast-count : tie.Need-cast-count Inv-loop μ-loop
+cast-count c = search needs
 
 loop-holds : tie.Need-loop-holds Inv-loop μ-loop
 loop-holds c = counted-start _ _ _
 
-mul-position : tie.Need-mul-position Inv-loop μ-loop
-mul-position c = search needs
-
-shared-slice-read-position : tie.Need-shared-slice-read-position Inv-loop μ-loop
-shared-slice-read-position c = search needs
-
-mul-lower-end : tie.Need-mul-lower-end Inv-loop μ-loop
-mul-lower-end c = search needs
-
-shared-slice-read-lower-end : tie.Need-shared-slice-read-lower-end Inv-loop μ-loop
-shared-slice-read-lower-end c = search needs
-
-is-listed-requires : tie.Need-is-listed-requires Inv-loop μ-loop
-is-listed-requires c κs = search needs
-
-shared-slice-read-stays-listed : tie.Need-shared-slice-read-stays-listed Inv-loop μ-loop
-shared-slice-read-stays-listed c = search needs
-
-stays-listed-requires : tie.Need-stays-listed-requires Inv-loop μ-loop
-stays-listed-requires c κs = search needs
+changes-at-requires : tie.Need-changes-at-requires Inv-loop μ-loop
+changes-at-requires c κs = (c .before .before .before .before .before .before .before .pre, c .loop-test .taken)
 
 cast-n : tie.Need-cast-n Inv-loop μ-loop
 cast-n c = search needs
 
-loop-again : tie.Need-loop-again Inv-loop μ-loop
-unfolding wasListed nowListed
-loop-again c =
-    counted-more (c .before .before .before .before .before .before .loop .inv) (c .before .before .before .before .before .loop-test .taken) (differs (c .before .before .is-listed .result) (c .stays-listed .result))
-    (rw (c .before .before .is-listed .ensures, c .stays-listed .ensures))
-
 add-n : tie.Need-add-n Inv-loop μ-loop
-add-n c = omega (arith, byte-small (differs (c .before .before .is-listed .result) (c .stays-listed .result)))
+add-n c = omega (arith, byte-small (c .changes-at .result), c .before .before .loop .inv .few)
 
 add-i : tie.Need-add-i Inv-loop μ-loop
 add-i c = search needs
@@ -58,14 +37,17 @@ add-i c = search needs
 loop-less : tie.Need-loop-less Inv-loop μ-loop
 loop-less c = search needs
 
+loop-again : tie.Need-loop-again Inv-loop μ-loop
+loop-again c = counted-more (c .before .before .loop .inv) (c .before .loop-test .taken) (c .changes-at .result) (c .changes-at .ensures)
+
 cast-result : tie.Need-cast-result Inv-loop μ-loop
 cast-result c = search needs
 
-returns : tie.Need-returns Inv-loop μ-loop
-returns c = counted-changes _ _ _ _ _ (counted-all (c .before .before .loop .inv) (c .before .loop-test .left))
-
 add-result : tie.Need-add-result Inv-loop μ-loop
-add-result c = omega (arith, byte-small (ltb (c .before .before .before .before .before .before .args .lower) (c .before .before .before .before .before .before .args .shift .after)))
+add-result c = omega (arith, byte-small (ltb (c .before .before .before .before .before .before .before .before .args .lower) (c .before .before .before .before .before .before .before .before .args .shift .after)), c .before .before .loop .inv .few, c .before .before .loop .inv .within)
+
+returns : tie.Need-returns Inv-loop μ-loop
+returns c = counted-changes _ _ _ _ (counted-all (c .before .before .loop .inv) (c .before .loop-test .left))
 
 pub count-changes-spec : {M : Type 1} → statement M
 count-changes-spec =
@@ -73,14 +55,9 @@ count-changes-spec =
     (tie.spec
     Inv-loop
     μ-loop
+    cast-count
     loop-holds
-    mul-position
-    shared-slice-read-position
-    mul-lower-end
-    shared-slice-read-lower-end
-    is-listed-requires
-    shared-slice-read-stays-listed
-    stays-listed-requires
+    changes-at-requires
     cast-n
     add-n
     add-i

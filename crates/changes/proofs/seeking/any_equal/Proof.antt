@@ -3,19 +3,19 @@ use mathlib.Core.Path.{refl}
 use Prim.Native.Nat.{_-_}
 use lib.Dec.{eqb}
 use lib.ListN.{getD}
+use Rattle.changes.proofs.Passing.{Tested, tested-start, tested-more, tested-all}
 use borrow.Author.Needs.{needs}
-use Rattle.cells.proofs.Places.{Tested, tested-start, tested-more, tested-all}
 use Rattle.changes.proofs.seeking.any_equal.Statement.{statement}
 use Rattle.changes.proofs.seeking.any_equal.Tie as tie
 
 abbrev Inv-loop : tie.InvT-loop
-Inv-loop cells from x found₀ i₀ found i = Tested (λ k. eqb (getD cells k 0) x) from found i
+Inv-loop cells from size x found₀ i₀ found i = Tested (λ k. eqb (getD cells k 0) x) from size found i
 
 abbrev μ-loop : tie.MeasureT-loop
-μ-loop cells from x found₀ i₀ found i = 16 - i
+μ-loop cells from size x found₀ i₀ found i = size - i
 
 loop-holds : tie.Need-loop-holds Inv-loop μ-loop
-loop-holds c = tested-start _ _
+loop-holds c = tested-start _ _ _
 
 add-found : tie.Need-add-found Inv-loop μ-loop
 add-found c = search needs
@@ -33,7 +33,7 @@ loop-less : tie.Need-loop-less Inv-loop μ-loop
 loop-less c = search needs
 
 loop-again : tie.Need-loop-again Inv-loop μ-loop
-loop-again c = tested-more (c .before .before .loop .inv) (c .before .loop-test .taken) refl
+loop-again c = tested-more (c .before .before .loop .inv) (c .before .loop-test .taken) _ refl
 
 returns : tie.Need-returns Inv-loop μ-loop
 returns c = tested-all (c .before .loop .inv) (c .loop-test .left)

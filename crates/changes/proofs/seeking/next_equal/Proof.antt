@@ -1,23 +1,26 @@
--- `next_equal` meets its contract: from every place that it comes to the same is sought.
-use mathlib.Core.Path.{_≡_, _∙_}
+-- `next_equal` meets its contract: blocks are passed, then cells.
 use Prim.Native.Nat.{_-_}
-use Rattle.changes.specs.Sought.{nextEqual}
-use Rattle.changes.proofs.Places.{equal-past, equal-here, equal-pass}
+use native.Mathlib.Omega.{arith}
+use Rattle.changes.specs.Sought.{Unequal}
+use Rattle.changes.proofs.Passing.{unequal-join, unequal-cell}
 use borrow.Author.Needs.{needs}
 use Rattle.changes.proofs.seeking.next_equal.Statement.{statement}
 use Rattle.changes.proofs.seeking.next_equal.Tie as tie
 
 abbrev Inv-loop : tie.InvT-loop
-Inv-loop cells from count x i₀ i = nextEqual cells x count i ≡ nextEqual cells x count from
+Inv-loop cells from to x near i₀ i = Unequal cells x from to i
 
 abbrev μ-loop : tie.MeasureT-loop
-μ-loop cells from count x i₀ i = count - i
+μ-loop cells from to x near i₀ i = to - i
 
 skip-unequal-requires : tie.Need-skip-unequal-requires Inv-loop μ-loop
-skip-unequal-requires c κs = search needs
+skip-unequal-requires c κs = (c .before .pre .0, (c .before .pre .1, omega arith))
+
+skip-unequal-requires-2 : tie.Need-skip-unequal-requires-2 Inv-loop μ-loop
+skip-unequal-requires-2 c κs = (c .skip-unequal .ensures .high, (c .before .before .pre .1, omega arith))
 
 loop-holds : tie.Need-loop-holds Inv-loop μ-loop
-loop-holds c = c .skip-unequal .ensures
+loop-holds c = unequal-join _ _ _ _ (c .before .skip-unequal .ensures) (c .skip-unequal2 .ensures)
 
 mul-if1 : tie.Need-mul-if1 Inv-loop μ-loop
 mul-if1 c = search needs
@@ -26,7 +29,7 @@ shared-slice-read-if1 : tie.Need-shared-slice-read-if1 Inv-loop μ-loop
 shared-slice-read-if1 c = search needs
 
 returns : tie.Need-returns Inv-loop μ-loop
-returns c = equal-here _ _ _ _ (c .before .before .loop-test .taken) (c .if1 .taken) ∙ c .before .before .before .loop .inv
+returns c = record { passed = c .before .before .before .loop .inv; found = λ _. c .if1 .taken }
 
 add-i : tie.Need-add-i Inv-loop μ-loop
 add-i c = search needs
@@ -35,10 +38,10 @@ loop-less : tie.Need-loop-less Inv-loop μ-loop
 loop-less c = search needs
 
 loop-again : tie.Need-loop-again Inv-loop μ-loop
-loop-again c = equal-pass _ _ _ _ (c .if1 .left) ∙ c .before .before .before .loop .inv
+loop-again c = unequal-cell _ _ _ _ (c .before .before .before .loop .inv) (c .before .before .loop-test .taken) (c .if1 .left)
 
 returns-2 : tie.Need-returns-2 Inv-loop μ-loop
-returns-2 c = equal-past _ _ _ _ (c .loop-test .left) ∙ c .before .loop .inv
+returns-2 c = record { passed = c .before .loop .inv; found = λ low. absurd (omega (arith, c .loop-test .left)) }
 
 pub next-equal-spec : {M : Type 1} → statement M
 next-equal-spec =
@@ -47,6 +50,7 @@ next-equal-spec =
     Inv-loop
     μ-loop
     skip-unequal-requires
+    skip-unequal-requires-2
     loop-holds
     mul-if1
     shared-slice-read-if1

@@ -1,44 +1,40 @@
--- `skip_unequal` meets its contract: from every place that it comes to the same is sought.
-use mathlib.Core.Path.{_≡_, refl, _∙_}
+-- `skip_unequal` meets its contract: each turn passes a block.
 use Prim.Native.Nat.{_-_}
-use Rattle.changes.specs.Sought.{nextEqual}
-use Rattle.changes.proofs.Places.{equal-skip}
-use borrow.Author.Needs.{needs}
+use native.Mathlib.Omega.{arith}
+use Rattle.changes.specs.Sought.{Unequal}
+use Rattle.changes.proofs.Passing.{unequal-none, unequal-block}
 use Rattle.changes.proofs.seeking.skip_unequal.Statement.{statement}
 use Rattle.changes.proofs.seeking.skip_unequal.Tie as tie
 
 abbrev Inv-loop : tie.InvT-loop
-Inv-loop cells from count x i₀ i = nextEqual cells x count i ≡ nextEqual cells x count from
+Inv-loop cells from to size x i₀ i = Unequal cells x from to i
 
 abbrev μ-loop : tie.MeasureT-loop
-μ-loop cells from count x i₀ i = count - i
+μ-loop cells from to size x i₀ i = to - i
 
 loop-holds : tie.Need-loop-holds Inv-loop μ-loop
-loop-holds c = refl
+loop-holds c = unequal-none _ _ _ _ (c .before .pre .0)
 
-sub-if1 : tie.Need-sub-if1 Inv-loop μ-loop
-sub-if1 c = search needs
-
-returns : tie.Need-returns Inv-loop μ-loop
-returns c = c .before .before .loop .inv
+sub-loop : tie.Need-sub-loop Inv-loop μ-loop
+sub-loop c = omega (arith, c .loop .inv .high)
 
 any-equal-requires : tie.Need-any-equal-requires Inv-loop μ-loop
-any-equal-requires c κs = search needs
+any-equal-requires c κs = omega (arith, c .before .loop .inv .high, c .loop-test .taken, c .before .before .before .pre .1 .0)
 
-returns-2 : tie.Need-returns-2 Inv-loop μ-loop
-returns-2 c = c .before .before .before .before .loop .inv
+returns : tie.Need-returns Inv-loop μ-loop
+returns c = c .before .before .before .loop .inv
 
 add-i : tie.Need-add-i Inv-loop μ-loop
-add-i c = search needs
+add-i c = omega (arith, c .before .before .before .loop .inv .high, c .before .before .loop-test .taken)
 
 loop-less : tie.Need-loop-less Inv-loop μ-loop
-loop-less c = search needs
+loop-less c = omega (arith, c .before .before .before .loop .inv .high, c .before .before .loop-test .taken, c .before .before .before .before .before .pre .1 .1)
 
 loop-again : tie.Need-loop-again Inv-loop μ-loop
-loop-again c = equal-skip _ _ _ _ (c .before .any-equal .ensures) (c .if2 .left) ∙ c .before .before .before .before .loop .inv
+loop-again c = unequal-block _ _ _ _ (c .before .before .before .loop .inv) (c .before .before .loop-test .taken) (c .before .any-equal .ensures) (c .if1 .left)
 
-returns-3 : tie.Need-returns-3 Inv-loop μ-loop
-returns-3 c = c .before .loop .inv
+returns-2 : tie.Need-returns-2 Inv-loop μ-loop
+returns-2 c = c .before .loop .inv
 
 pub skip-unequal-spec : {M : Type 1} → statement M
 skip-unequal-spec =
@@ -47,11 +43,10 @@ skip-unequal-spec =
     Inv-loop
     μ-loop
     loop-holds
-    sub-if1
-    returns
+    sub-loop
     any-equal-requires
-    returns-2
+    returns
     add-i
     loop-less
     loop-again
-    returns-3)
+    returns-2)

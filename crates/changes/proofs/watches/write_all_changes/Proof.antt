@@ -1,21 +1,24 @@
 -- `write_all_changes` meets its contract: after i turns the frames of the first i watch records stand at the front of the output.
 use Prim.Native.Nat.{_-_}
 use native.Mathlib.Omega.{arith}
-use borrow.Author.Needs.{needs}
-use Rattle.changes.specs.Flagged.{flagged}
+use Rattle.finding.specs.Found.{rows}
 use Rattle.changes.proofs.Records.{watch-below}
-use Rattle.changes.proofs.Watching.{start-below, Written, written-start, written-fits, written-rest, written-more, written-all}
+use Rattle.changes.proofs.Watching.{Written, written-start, written-fits, written-rest, written-more, written-all}
+use borrow.Author.Needs.{needs}
 use Rattle.changes.proofs.watches.write_all_changes.Statement.{statement}
 use Rattle.changes.proofs.watches.write_all_changes.Tie as tie
 
 abbrev Inv-loop : tie.InvT-loop
-Inv-loop head keep removed positions lower-ends gone lower named out₀ watches at₀ i₀ out at i = Written gone (head .newest) (flagged keep positions lower-ends (head .rows)) lower watches out₀ out at i
+Inv-loop head retired columns lower-ends upper-ends quote lower sound out₀ watches first at₀ i₀ out at i = Written head lower-ends (rows (head .dimensions) (head .directions) columns upper-ends quote) lower watches out₀ out at i
 
 abbrev μ-loop : tie.MeasureT-loop
-μ-loop head keep removed positions lower-ends gone lower named out₀ watches at₀ i₀ out at i = 8 - i
+μ-loop head retired columns lower-ends upper-ends quote lower sound out₀ watches first at₀ i₀ out at i = 8 - i
+
+start-of-requires : tie.Need-start-of-requires Inv-loop μ-loop
+start-of-requires c κs = omega (arith, c .before .before .before .before .before .before .pre .1 .1 .0 .space)
 
 loop-holds : tie.Need-loop-holds Inv-loop μ-loop
-loop-holds c = written-start _ _ _ _ _ _ (search needs) (c .before .before .before .before .before .pre .1 .1 .1 .1 .1 .1 .1 .1 .1 .1)
+loop-holds c = written-start _ _ _ _ _ _ (search needs) (c .before .before .before .before .before .before .before .pre .1 .1 .1 .1 .1)
 
 mul-write-watch : tie.Need-mul-write-watch Inv-loop μ-loop
 mul-write-watch c = search needs
@@ -33,13 +36,10 @@ part-write-watch-end : tie.Need-part-write-watch-end Inv-loop μ-loop
 part-write-watch-end c = search needs
 
 write-watch-requires : tie.Need-write-watch-requires Inv-loop μ-loop
-write-watch-requires c κs =
-    let p = c .before .before .before .before .before .before .before .before .pre in
-    let n = watch-below _ _ (c .before .before .loop .i) (p .1 .0) (c .before .loop-test .taken) in
-    (omega arith, (p .1 .1 .0, (p .1 .1 .1 .0, (p .1 .1 .1 .1 .0, (p .1 .1 .1 .1 .1 .0, (p .1 .1 .1 .1 .1 .1 .0, (p .1 .1 .1 .1 .1 .1 .1 .0, (p .1 .1 .1 .1 .1 .1 .1 .1 .0, (start-below _ _ _ _ n (p .1 .1 .1 .1 .1 .1 .1 .1 .1 .0), written-rest (c .before .before .loop .inv) (c .before .loop-test .taken))))))))))
+write-watch-requires c κs = let p = c .before .before .before .before .before .before .before .before .before .before .pre in let n = watch-below _ _ (c .before .before .loop .i) (p .1 .0) (c .before .loop-test .taken) in (omega arith, (n, (c .before .before .before .start-of .ensures, (p .1 .1 .0, (p .1 .1 .1 .0, (p .1 .1 .1 .1 .0, written-rest (c .before .before .loop .inv) (c .before .loop-test .taken)))))))
 
 add-at : tie.Need-add-at Inv-loop μ-loop
-add-at c = omega (arith, written-fits (c .before .before .before .before .before .loop .inv) (c .before .before .before .before .loop-test .taken), c .before .before .write-watch .ensures .0)
+add-at c = omega (arith, written-fits (c .before .before .before .before .before .loop .inv) (c .before .before .before .before .loop-test .taken), c .before .before .write-watch .ensures .0, c .before .before .before .before .before .loop .inv .laying .front .long, c .before .before .before .before .before .before .before .before .before .before .before .before .before .good)
 
 add-i : tie.Need-add-i Inv-loop μ-loop
 add-i c = search needs
@@ -62,6 +62,7 @@ write-all-changes-spec =
     (tie.spec
     Inv-loop
     μ-loop
+    start-of-requires
     loop-holds
     mul-write-watch
     array-read-write-watch

@@ -33,9 +33,15 @@ above-quotes : (kind : ℕ) → 7 ≤ kind → kind < 16 → Unknown ≡ shapeOf
 unfolding kinds shapeIn shapeOf run
 above-quotes = in-row Unknown 7 9 refl
 
-above-sizes : (kind : ℕ) → 19 ≤ kind → kind < 32 → Unknown ≡ shapeOf kind
+-- the kinds between those of a size and those of changes, but for a past look's
+above-sizes : (kind : ℕ) → 19 ≤ kind → kind < 32 → (kind ≡ 23 → ⊥) → Unknown ≡ shapeOf kind
 unfolding kinds shapeIn shapeOf run
-above-sizes = in-row Unknown 19 13 refl
+above-sizes kind low top other = go (order kind 23)
+  where
+    go : (kind < 23) ⊎ ((kind ≡ 23) ⊎ (23 < kind)) → Unknown ≡ shapeOf kind
+    go (inl l) = in-row Unknown 19 4 refl kind low (omega arith)
+    go (inr (inl e)) = absurd (other e)
+    go (inr (inr g)) = in-row Unknown 24 8 refl kind (omega arith) (omega arith)
 
 -- the kinds above those of changes, but for an opening's
 high : (kind : ℕ) → 34 ≤ kind → kind < 256 → (kind ≡ 48 → ⊥) → Unknown ≡ shapeOf kind
@@ -52,26 +58,30 @@ unfolding kinds shapeIn shapeOf
 returns c = rw (c .match .keys1)
 
 returns-2 : tie.Need-returns-2
-returns-2 c = quotes _ (omega arith) (omega arith)
+unfolding kinds shapeIn shapeOf
+returns-2 c = rw (c .match .keys2)
 
 returns-3 : tie.Need-returns-3
-returns-3 c = sizes _ (omega arith) (omega arith)
+returns-3 c = quotes _ (omega arith) (omega arith)
 
 returns-4 : tie.Need-returns-4
-returns-4 c = changes _ (omega arith) (omega arith)
+returns-4 c = sizes _ (omega arith) (omega arith)
 
 returns-5 : tie.Need-returns-5
-returns-5 c = none _ (omega arith) (omega arith)
+returns-5 c = changes _ (omega arith) (omega arith)
 
 returns-6 : tie.Need-returns-6
-returns-6 c = above-quotes _ (omega arith) (omega arith)
+returns-6 c = none _ (omega arith) (omega arith)
 
 returns-7 : tie.Need-returns-7
-returns-7 c = above-sizes _ (omega arith) (omega arith)
+returns-7 c = above-quotes _ (omega arith) (omega arith)
 
 returns-8 : tie.Need-returns-8
-returns-8 c = high _ (omega arith) (search needs) (c .before .before .before .before .before .before .match .rest .1)
+returns-8 c = above-sizes _ (omega arith) (omega arith) (λ e. omega arith)
+
+returns-9 : tie.Need-returns-9
+returns-9 c = high _ (omega arith) (search needs) (λ e. omega arith)
 
 pub shape-of-spec : {M : Type 1} → statement M
 shape-of-spec =
-    tie.close (tie.spec returns returns-2 returns-3 returns-4 returns-5 returns-6 returns-7 returns-8)
+    tie.close (tie.spec returns returns-2 returns-3 returns-4 returns-5 returns-6 returns-7 returns-8 returns-9)

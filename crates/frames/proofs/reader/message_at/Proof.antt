@@ -1,8 +1,8 @@
 -- `message_at` meets its contract: the shape says which numbers stand within the body.
 use mathlib.Core.Path.{sym, _∙_}
 use native.Mathlib.Omega.{arith}
-use Rattle.frames.proofs.Shapes.{size-body, change-body, open-body}
-use Rattle.frames.proofs.ReadCases.{quote-message, size-message, change-message, open-message, unknown-message}
+use Rattle.frames.proofs.Shapes.{size-body, change-body, pair-body, open-body}
+use Rattle.frames.proofs.ReadCases.{quote-message, size-message, change-message, pair-message, open-message, unknown-message}
 use borrow.Author.Needs.{needs}
 use Rattle.frames.proofs.reader.message_at.Statement.{statement}
 use Rattle.frames.proofs.reader.message_at.Tie as tie
@@ -34,23 +34,35 @@ four-at-requires c κs = omega (arith, change-body _ (sym (c .before .before .be
 enum-told-4 : tie.Need-enum-told-4
 enum-told-4 c = search needs
 
-shared-slice-read-t11 : tie.Need-shared-slice-read-t11
-shared-slice-read-t11 c = omega (arith, open-body _ (sym (c .before .before .before .shape-of .ensures) ∙ c .before .enum-told4 .given .1))
+two-at-requires-3 : tie.Need-two-at-requires-3
+two-at-requires-3 c κs = omega (arith, pair-body _ (sym (c .before .before .shape-of .ensures) ∙ c .enum-told4 .given .1))
 
 add-two-at : tie.Need-add-two-at
 add-two-at c = search needs
 
-two-at-requires-3 : tie.Need-two-at-requires-3
-two-at-requires-3 c κs = omega (arith, open-body _ (sym (c .before .before .before .shape-of .ensures) ∙ c .before .enum-told4 .given .1))
-
-add-t14 : tie.Need-add-t14
-add-t14 c = search needs
-
-shared-slice-read-t16 : tie.Need-shared-slice-read-t16
-shared-slice-read-t16 c = omega (arith, open-body _ (sym (c .before .before .before .before .before .shape-of .ensures) ∙ c .before .before .before .enum-told4 .given .1))
+two-at-requires-4 : tie.Need-two-at-requires-4
+two-at-requires-4 c κs = omega (arith, pair-body _ (sym (c .before .before .before .shape-of .ensures) ∙ c .before .enum-told4 .given .1))
 
 enum-told-5 : tie.Need-enum-told-5
 enum-told-5 c = search needs
+
+shared-slice-read-t14 : tie.Need-shared-slice-read-t14
+shared-slice-read-t14 c = omega (arith, open-body _ (sym (c .before .before .before .shape-of .ensures) ∙ c .before .enum-told5 .given .1))
+
+add-two-at-2 : tie.Need-add-two-at-2
+add-two-at-2 c = search needs
+
+two-at-requires-5 : tie.Need-two-at-requires-5
+two-at-requires-5 c κs = omega (arith, open-body _ (sym (c .before .before .before .shape-of .ensures) ∙ c .before .enum-told5 .given .1))
+
+add-t17 : tie.Need-add-t17
+add-t17 c = search needs
+
+shared-slice-read-t19 : tie.Need-shared-slice-read-t19
+shared-slice-read-t19 c = omega (arith, open-body _ (sym (c .before .before .before .before .before .shape-of .ensures) ∙ c .before .before .before .enum-told5 .given .1))
+
+enum-told-6 : tie.Need-enum-told-6
+enum-told-6 c = search needs
 
 returns : tie.Need-returns
 returns c = quote-message _ _ _ (sym (c .before .before .shape-of .ensures) ∙ c .enum-told .given .1)
@@ -62,10 +74,13 @@ returns-3 : tie.Need-returns-3
 returns-3 c = change-message _ _ _ (sym (c .before .before .before .before .shape-of .ensures) ∙ c .before .before .enum-told3 .given .1) (c .before .two-at2 .ensures) (c .four-at .ensures)
 
 returns-4 : tie.Need-returns-4
-returns-4 c = open-message _ _ _ (sym (c .before .before .before .before .before .shape-of .ensures) ∙ c .before .before .before .enum-told4 .given .1) (c .before .two-at3 .ensures)
+returns-4 c = pair-message _ _ _ (sym (c .before .before .before .before .shape-of .ensures) ∙ c .before .before .enum-told4 .given .1) (c .before .two-at3 .ensures) (c .two-at4 .ensures)
 
 returns-5 : tie.Need-returns-5
-returns-5 c = unknown-message _ _ _ (sym (c .before .before .shape-of .ensures) ∙ c .enum-told5 .given .1)
+returns-5 c = open-message _ _ _ (sym (c .before .before .before .before .before .shape-of .ensures) ∙ c .before .before .before .enum-told5 .given .1) (c .before .two-at5 .ensures)
+
+returns-6 : tie.Need-returns-6
+returns-6 c = unknown-message _ _ _ (sym (c .before .before .shape-of .ensures) ∙ c .enum-told6 .given .1)
 
 pub message-at-spec : {M : Type 1} → statement M
 message-at-spec =
@@ -80,14 +95,19 @@ message-at-spec =
     add-four-at
     four-at-requires
     enum-told-4
-    shared-slice-read-t11
-    add-two-at
     two-at-requires-3
-    add-t14
-    shared-slice-read-t16
+    add-two-at
+    two-at-requires-4
     enum-told-5
+    shared-slice-read-t14
+    add-two-at-2
+    two-at-requires-5
+    add-t17
+    shared-slice-read-t19
+    enum-told-6
     returns
     returns-2
     returns-3
     returns-4
-    returns-5)
+    returns-5
+    returns-6)

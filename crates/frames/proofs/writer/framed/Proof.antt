@@ -23,6 +23,12 @@ enum-known-message-3 c = search needs
 has-shape-requires-3 : tie.Need-has-shape-requires-3
 has-shape-requires-3 c κs = search needs
 
+enum-known-message-4 : tie.Need-enum-known-message-4
+enum-known-message-4 c = search needs
+
+has-shape-requires-4 : tie.Need-has-shape-requires-4
+has-shape-requires-4 c κs = search needs
+
 enum-told : tie.Need-enum-told
 enum-told c = search needs
 
@@ -46,15 +52,19 @@ returns-3 c = rw (c .before .before .message3 .given .1) (c .has-shape3 .ensures
 
 returns-4 : tie.Need-returns-4
 unfolding framed
-returns-4 c = rw (c .enum-told .given .1)
+returns-4 c = rw (c .before .before .message4 .given .1) (c .has-shape4 .ensures)
 
 returns-5 : tie.Need-returns-5
 unfolding framed
-returns-5 c = rw (c .enum-told2 .given .1)
+returns-5 c = rw (c .enum-told .given .1)
 
 returns-6 : tie.Need-returns-6
 unfolding framed
-returns-6 c = rw (c .enum-told3 .given .1)
+returns-6 c = rw (c .enum-told2 .given .1)
+
+returns-7 : tie.Need-returns-7
+unfolding framed
+returns-7 c = rw (c .enum-told3 .given .1)
 
 pub framed-spec : {M : Type 1} → statement M
 framed-spec =
@@ -66,6 +76,8 @@ framed-spec =
     has-shape-requires-2
     enum-known-message-3
     has-shape-requires-3
+    enum-known-message-4
+    has-shape-requires-4
     enum-told
     enum-told-2
     enum-told-3
@@ -74,4 +86,5 @@ framed-spec =
     returns-3
     returns-4
     returns-5
-    returns-6)
+    returns-6
+    returns-7)

@@ -1,7 +1,7 @@
 -- `lay` meets its contract: each message by the function that lays its frame.
 use Rattle.lists.specs.Lists.{laid}
 use Rattle.frames.specs.Frames.{frame}
-use Rattle.frames.proofs.WriteCases.{quote-fits, size-fits, change-fits, open-fits}
+use Rattle.frames.proofs.WriteCases.{quote-fits, size-fits, change-fits, pair-fits, open-fits}
 use borrow.Author.Needs.{needs}
 use Rattle.frames.proofs.writer.lay.Statement.{statement}
 use Rattle.frames.proofs.writer.lay.Tie as tie
@@ -27,8 +27,14 @@ lay-change-requires c κs = change-fits _ _ (c .before .before .before .before .
 enum-known-message-4 : tie.Need-enum-known-message-4
 enum-known-message-4 c = search needs
 
+lay-pair-requires : tie.Need-lay-pair-requires
+lay-pair-requires c κs = pair-fits _ _ (c .before .before .before .before .before .pre .0) (c .before .before .before .before .before .pre .1) _ _ _ (c .before .before .message4 .given .1)
+
+enum-known-message-5 : tie.Need-enum-known-message-5
+enum-known-message-5 c = search needs
+
 lay-open-requires : tie.Need-lay-open-requires
-lay-open-requires c κs = open-fits _ _ (c .before .before .before .before .before .pre .0) (c .before .before .before .before .before .pre .1) _ _ _ (c .before .before .message4 .given .1)
+lay-open-requires c κs = open-fits _ _ (c .before .before .before .before .before .pre .0) (c .before .before .before .before .before .pre .1) _ _ _ (c .before .before .message5 .given .1)
 
 enum-told : tie.Need-enum-told
 enum-told c = search needs
@@ -62,15 +68,22 @@ same-length-4 c = search needs
 
 returns-4 : tie.Need-returns-4
 unfolding frame
-returns-4 c = rw (c .before .before .before .before .before .message4 .given .1) (c .before .before .lay-open .ensures)
+returns-4 c = rw (c .before .before .before .before .before .message4 .given .1) (c .before .before .lay-pair .ensures)
+
+same-length-5 : tie.Need-same-length-5
+same-length-5 c = search needs
 
 returns-5 : tie.Need-returns-5
-unfolding frame laid
-returns-5 c = rw (c .enum-told .given .1)
+unfolding frame
+returns-5 c = rw (c .before .before .before .before .before .message5 .given .1) (c .before .before .lay-open .ensures)
 
 returns-6 : tie.Need-returns-6
 unfolding frame laid
-returns-6 c = rw (c .enum-told2 .given .1)
+returns-6 c = rw (c .enum-told .given .1)
+
+returns-7 : tie.Need-returns-7
+unfolding frame laid
+returns-7 c = rw (c .enum-told2 .given .1)
 
 pub lay-spec : {M : Type 1} → statement M
 lay-spec =
@@ -83,6 +96,8 @@ lay-spec =
     enum-known-message-3
     lay-change-requires
     enum-known-message-4
+    lay-pair-requires
+    enum-known-message-5
     lay-open-requires
     enum-told
     enum-told-2
@@ -94,5 +109,7 @@ lay-spec =
     returns-3
     same-length-4
     returns-4
+    same-length-5
     returns-5
-    returns-6)
+    returns-6
+    returns-7)

@@ -9,12 +9,12 @@ returns : tie.Need-returns
 unfolding afterQuote
 returns c = simp (le-ltb _ _ (c .if1 .taken))
 
-add-t5 : tie.Need-add-t5
-add-t5 c = search needs
+add-t6 : tie.Need-add-t6
+add-t6 c = search needs
 
 returns-2 : tie.Need-returns-2
 unfolding afterQuote
 returns-2 c = simp (lt-ltb _ _ (c .if1 .left))
 
 pub after-quote-spec : {M : Type 1} → statement M
-after-quote-spec = tie.close (tie.spec returns add-t5 returns-2)
+after-quote-spec = tie.close (tie.spec returns add-t6 returns-2)

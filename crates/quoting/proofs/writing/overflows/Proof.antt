@@ -1,8 +1,8 @@
 -- `overflows` meets its contract: room for any quote's changes is enough, and any other room is compared with their length.
 use mathlib.Core.Path.{ap}
-use borrow.Author.Needs.{needs}
 use lib.Dec.{ltb}
 use Rattle.quoting.proofs.Room.{room-enough}
+use borrow.Author.Needs.{needs}
 use Rattle.quoting.proofs.writing.overflows.Statement.{statement}
 use Rattle.quoting.proofs.writing.overflows.Tie as tie
 

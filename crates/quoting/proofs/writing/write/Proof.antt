@@ -1,7 +1,6 @@
 -- `write` meets its contract: nothing is written before the room is known.
-use borrow.Author.Needs.{needs}
-use borrow.Author.Tests.{eqb-true}
 use Rattle.quoting.proofs.Room.{written-none, room-fits, written-all}
+use borrow.Author.Needs.{needs}
 use Rattle.quoting.proofs.writing.write.Statement.{statement}
 use Rattle.quoting.proofs.writing.write.Tie as tie
 
@@ -12,10 +11,7 @@ returns : tie.Need-returns
 returns c = written-none _ _ (c .before .overflows .ensures) (c .if1 .taken)
 
 write-all-changes-requires : tie.Need-write-all-changes-requires
-write-all-changes-requires c κs =
-    let start = c .before .before .before .before .before .before .before .before in
-    let v = start .pre in
-    (v .few, (v .untorn, (v .below, (v .flags-fit, (v .positions-fit, (v .lower-ends-fit, (v .removed≡, (v .rises, ((λ e. v .named (eqb-true (start .args .unknown) 0 e)), (v .expired, room-fits _ _ (c .before .before .overflows .ensures) (c .before .if1 .left)))))))))))
+write-all-changes-requires c κs = let n = c .before .before .before .before .before .before .before .before .before .pre .0 in let v = c .before .before .before .before .before .before .before .before .before .pre .1 in (v .few, (n .untorn, (n .full, (v .outdone, (v .named, room-fits _ _ (c .before .before .overflows .ensures) (c .before .if1 .left))))))
 
 after-quote-requires : tie.Need-after-quote-requires
 after-quote-requires c κs = search needs
@@ -24,10 +20,7 @@ same-length : tie.Need-same-length
 same-length c = search needs
 
 returns-2 : tie.Need-returns-2
-returns-2 c =
-    let wrote = c .before .before .before in
-    let tested = wrote .before .before in
-    written-all _ _ (tested .before .overflows .ensures) (tested .if1 .left) (c .after-quote .ensures) (wrote .write-all-changes .ensures .0) (wrote .write-all-changes .ensures .1)
+returns-2 c = written-all _ _ (c .before .before .before .before .before .before .overflows .ensures) (c .before .before .before .before .before .if1 .left) (c .after-quote .ensures) (c .before .before .before .write-all-changes .ensures .0) (c .before .before .before .write-all-changes .ensures .1)
 
 pub write-spec : {M : Type 1} → statement M
 write-spec =

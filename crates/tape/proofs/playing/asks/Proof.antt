@@ -20,11 +20,17 @@ enum-told c = search needs
 enum-known-message-3 : tie.Need-enum-known-message-3
 enum-known-message-3 c = search needs
 
-enum-told-2 : tie.Need-enum-told-2
-enum-told-2 c = search needs
+paired-requires : tie.Need-paired-requires
+paired-requires c κs = search needs
 
 enum-known-message-4 : tie.Need-enum-known-message-4
 enum-known-message-4 c = search needs
+
+enum-told-2 : tie.Need-enum-told-2
+enum-told-2 c = search needs
+
+enum-known-message-5 : tie.Need-enum-known-message-5
+enum-known-message-5 c = search needs
 
 returns : tie.Need-returns
 unfolding wants asks
@@ -39,16 +45,20 @@ unfolding wants asks
 returns-3 c = λ columns. rw (c .enum-told .given .1)
 
 returns-4 : tie.Need-returns-4
-unfolding wants asks
-returns-4 c = λ columns. rw (c .before .message3 .given .1)
+unfolding asks
+returns-4 c = λ columns. rw (c .before .before .message3 .given .1) (c .paired .ensures columns)
 
 returns-5 : tie.Need-returns-5
 unfolding wants asks
-returns-5 c = λ columns. rw (c .enum-told2 .given .1)
+returns-5 c = λ columns. rw (c .before .message4 .given .1)
 
 returns-6 : tie.Need-returns-6
 unfolding wants asks
-returns-6 c = λ columns. rw (c .before .message4 .given .1)
+returns-6 c = λ columns. rw (c .enum-told2 .given .1)
+
+returns-7 : tie.Need-returns-7
+unfolding wants asks
+returns-7 c = λ columns. rw (c .before .message5 .given .1)
 
 pub asks-spec : {M : Type 1} → statement M
 asks-spec =
@@ -59,11 +69,14 @@ asks-spec =
     sized-requires
     enum-told
     enum-known-message-3
-    enum-told-2
+    paired-requires
     enum-known-message-4
+    enum-told-2
+    enum-known-message-5
     returns
     returns-2
     returns-3
     returns-4
     returns-5
-    returns-6)
+    returns-6
+    returns-7)

@@ -29,10 +29,10 @@ slice-aggregate-quote-reached : tie.Need-slice-aggregate-quote-reached
 slice-aggregate-quote-reached c = simp length-take (omega (arith, columns-six _ _ (c .before .before .before .before .before .before .before .read-at .result) (c .before .before .before .before .before .before .before .read-at .ensures), quote-few _ _ _ (c .before .before .before .before .before .before .before .read-at .result) (c .before .before .before .before .placed .result) (c .before .before .before .before .before .before .before .read-at .ensures) (c .before .before .before .before .placed .ensures) (c .before .before .wanted .given .1)))
 
 quote-reached-requires : tie.Need-quote-reached-requires
-quote-reached-requires c κs = c .before .before .before .before .before .before .before .before .before .before .before .before .before .before .before .before .before .pre .1
+quote-reached-requires c κs = c .before .before .before .before .before .before .before .before .before .before .before .before .before .before .before .before .before .before .before .pre .1
 
 put-quote-requires : tie.Need-put-quote-requires
-put-quote-requires c κs = (omega (arith, quote-fits (c .before .before .before .before .before .before .before .before .before .quote-reached .ensures)), (omega arith, omega (arith, c .before .before .before .before .before .before .before .before .before .before .before .before .before .before .before .before .before .before .before .before .before .before .before .before .before .before .before .pre .0)))
+put-quote-requires c κs = (omega (arith, quote-fits (c .before .before .before .before .before .before .before .before .before .before .before .quote-reached .ensures)), (omega arith, omega (arith, c .before .before .before .before .before .before .before .before .before .before .before .before .before .before .before .before .before .before .before .before .before .before .before .before .before .before .before .before .before .before .before .pre .0)))
 
 step-requires : tie.Need-step-requires
 step-requires c κs = search needs
@@ -55,11 +55,11 @@ same-length-3 c = search needs
 same-length-4 : tie.Need-same-length-4
 same-length-4 c = search needs
 
-returns : tie.Need-returns
-returns c = quote-played _ _ _ _ _ _ _ (c .before .before .before .before .before .before .before .before .before .before .before .before .before .before .before .before .before .before .before .before .before .before .before .before .before .read-at .result) (c .before .before .before .before .before .before .before .before .before .before .before .before .before .before .before .before .before .before .before .before .before .before .placed .result) (c .before .before .before .before .before .before .before .before .before .before .before .before .before .before .before .before .before .before .before .before .before .before .before .before .before .read-at .ensures) (c .before .before .before .before .before .before .before .before .before .before .before .before .before .before .before .before .before .before .before .before .before .before .before .settings-hold .ensures) (c .before .before .before .before .before .before .before .before .before .before .before .before .before .before .before .before .before .before .before .before .before .before .placed .ensures) (c .step .ensures) (c .before .before .before .before .before .before .before .before .before .before .before .before .before .before .before .before .before .before .before .before .wanted .given .1) (c .before .before .before .put-quote .ensures _ _ _ _ _ (c .before .before .before .before .before .before .before .before .before .before .before .before .before .quote-reached .ensures))
-
 same-length-5 : tie.Need-same-length-5
 same-length-5 c = search needs
+
+returns : tie.Need-returns
+returns c = quote-played _ _ _ _ _ _ _ (c .before .before .before .before .before .before .before .before .before .before .before .before .before .before .before .before .before .before .before .before .before .before .before .before .before .before .before .before .read-at .result) (c .before .before .before .before .before .before .before .before .before .before .before .before .before .before .before .before .before .before .before .before .before .before .before .before .before .placed .result) (c .before .before .before .before .before .before .before .before .before .before .before .before .before .before .before .before .before .before .before .before .before .before .before .before .before .before .before .before .read-at .ensures) (c .before .before .before .before .before .before .before .before .before .before .before .before .before .before .before .before .before .before .before .before .before .before .before .before .before .before .settings-hold .ensures) (c .before .before .before .before .before .before .before .before .before .before .before .before .before .before .before .before .before .before .before .before .before .before .before .before .before .placed .ensures) (c .step .ensures) (c .before .before .before .before .before .before .before .before .before .before .before .before .before .before .before .before .before .before .before .before .before .before .before .wanted .given .1) (c .before .before .before .put-quote .ensures _ _ _ _ _ (c .before .before .before .before .before .before .before .before .before .before .before .before .before .before .before .quote-reached .ensures))
 
 same-length-6 : tie.Need-same-length-6
 same-length-6 c = search needs
@@ -70,8 +70,14 @@ same-length-7 c = search needs
 same-length-8 : tie.Need-same-length-8
 same-length-8 c = search needs
 
+same-length-9 : tie.Need-same-length-9
+same-length-9 c = search needs
+
+same-length-10 : tie.Need-same-length-10
+same-length-10 c = search needs
+
 returns-2 : tie.Need-returns-2
-returns-2 c = other-played _ _ _ _ _ _ _ (c .before .before .before .before .before .before .before .before .before .before .before .before .before .before .before .before .before .before .before .read-at .result) (c .before .before .before .before .before .before .before .before .before .before .before .before .before .before .before .before .placed .result) (c .before .before .before .before .before .before .before .before .before .before .before .before .before .before .before .before .before .before .before .read-at .ensures) (c .before .before .before .before .before .before .before .before .before .before .before .before .before .before .before .before .before .settings-hold .ensures) (c .before .before .before .before .before .before .before .before .before .before .before .before .before .before .before .before .placed .ensures) (c .step2 .ensures) (c .before .before .before .before .before .before .before .before .before .before .before .before .before .before .before .match .keys2) (c .before .before .before .before .before .before .before .before .before .make-other .ensures)
+returns-2 c = other-played _ _ _ _ _ _ _ (c .before .before .before .before .before .before .before .before .before .before .before .before .before .before .before .before .before .before .before .before .before .before .read-at .result) (c .before .before .before .before .before .before .before .before .before .before .before .before .before .before .before .before .before .before .before .placed .result) (c .before .before .before .before .before .before .before .before .before .before .before .before .before .before .before .before .before .before .before .before .before .before .read-at .ensures) (c .before .before .before .before .before .before .before .before .before .before .before .before .before .before .before .before .before .before .before .before .settings-hold .ensures) (c .before .before .before .before .before .before .before .before .before .before .before .before .before .before .before .before .before .before .before .placed .ensures) (c .step2 .ensures) (c .before .before .before .before .before .before .before .before .before .before .before .before .before .before .before .before .before .before .match .keys2) (c .before .before .before .before .before .before .before .before .before .before .before .make-other .ensures)
 
 pub play-reached-spec : {M : Type 1} → statement M
 play-reached-spec =
@@ -93,9 +99,11 @@ play-reached-spec =
     same-length-2
     same-length-3
     same-length-4
-    returns
     same-length-5
+    returns
     same-length-6
     same-length-7
     same-length-8
+    same-length-9
+    same-length-10
     returns-2)

@@ -29,10 +29,10 @@ add-end c = omega (arith, look-fits (c .before .before .look .ensures))
 array-share-prefix-cells : tie.Need-array-share-prefix-cells
 array-share-prefix-cells c =
     let made = c .before .before .look in
-    cells-room (made .last .1 .1 .1 .1 .1 .0) (look-fits (made .ensures)) (made .kept .1 .1 .1 .1 .1 .0)
+    cells-room (made .last .1 .1 .1 .1 .1 .1 .0) (look-fits (made .ensures)) (made .kept .1 .1 .1 .1 .1 .1 .0)
 
 slice-aggregate-put-answer : tie.Need-slice-aggregate-put-answer
-slice-aggregate-put-answer c = simp (append-nil, length-take) (omega (arith, look-fits (c .before .before .before .look .ensures), c .before .before .before .look .kept .1 .1 .1 .1 .1 .0))
+slice-aggregate-put-answer c = simp (append-nil, length-take) (omega (arith, look-fits (c .before .before .before .look .ensures), c .before .before .before .look .kept .1 .1 .1 .1 .1 .1 .0))
 
 put-answer-requires : tie.Need-put-answer-requires
 put-answer-requires c κs = (omega arith, simp (append-nil, length-take) (omega (arith, look-fits (c .before .before .before .before .look .ensures))))

@@ -47,12 +47,12 @@ same-length-3 c = search needs
 same-length-4 : tie.Need-same-length-4
 same-length-4 c = search needs
 
-returns : tie.Need-returns
-unfolding unquoted
-returns c = rw (c .before .before .before .before .before .before .before .before .before .before .before .before .before .before .before .wanted .given .1) (c .before .before .put-opening .ensures _ _ _ _ (c .before .before .before .before .before .before .before .before .before .before .«open» .ensures))
-
 same-length-5 : tie.Need-same-length-5
 same-length-5 c = search needs
+
+returns : tie.Need-returns
+unfolding unquoted
+returns c = rw (c .before .before .before .before .before .before .before .before .before .before .before .before .before .before .before .before .before .before .wanted .given .1) (c .before .before .put-opening .ensures _ _ _ _ (c .before .before .before .before .before .before .before .before .before .before .before .before .«open» .ensures))
 
 same-length-6 : tie.Need-same-length-6
 same-length-6 c = search needs
@@ -66,8 +66,14 @@ same-length-8 c = search needs
 same-length-9 : tie.Need-same-length-9
 same-length-9 c = search needs
 
+same-length-10 : tie.Need-same-length-10
+same-length-10 c = search needs
+
+same-length-11 : tie.Need-same-length-11
+same-length-11 c = search needs
+
 returns-2 : tie.Need-returns-2
-returns-2 c = rw (other-observed _ _ (c .before .before .before .before .before .before .before .before .before .before .match .keys2)) (c .before .before .before .before .observe .ensures)
+returns-2 c = rw (other-observed _ _ (c .before .before .before .before .before .before .before .before .before .before .before .match .keys2)) (c .before .before .before .before .observe .ensures)
 
 pub make-other-spec : {M : Type 1} → statement M
 make-other-spec =
@@ -87,10 +93,12 @@ make-other-spec =
     same-length-2
     same-length-3
     same-length-4
-    returns
     same-length-5
+    returns
     same-length-6
     same-length-7
     same-length-8
     same-length-9
+    same-length-10
+    same-length-11
     returns-2)

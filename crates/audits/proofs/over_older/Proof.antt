@@ -1,0 +1,46 @@
+-- `over_older` meets its contract: the older row is worse in a column and better in none.
+use borrow.Author.Needs.{needs}
+use Rattle.audits.proofs.Seeking.{over-older-by}
+use Rattle.audits.proofs.over_older.Statement.{statement}
+use Rattle.audits.proofs.over_older.Tie as tie
+
+mul-from : tie.Need-mul-from
+mul-from c = search needs
+
+add-to : tie.Need-add-to
+add-to c = search needs
+
+mul-compare : tie.Need-mul-compare
+mul-compare c = search needs
+
+sub-compare : tie.Need-sub-compare
+sub-compare c = search needs
+
+part-compare-start : tie.Need-part-compare-start
+part-compare-start c = search needs
+
+part-compare-end : tie.Need-part-compare-end
+part-compare-end c = search needs
+
+mul-compare-2 : tie.Need-mul-compare-2
+mul-compare-2 c = search needs
+
+compare-requires : tie.Need-compare-requires
+compare-requires c κs = search needs
+
+returns : tie.Need-returns
+returns c = over-older-by _ _ _ _ _ _ (c .before .before .compare .ensures)
+
+pub over-older-spec : {M : Type 1} → statement M
+over-older-spec =
+    tie.close
+    (tie.spec
+    mul-from
+    add-to
+    mul-compare
+    sub-compare
+    part-compare-start
+    part-compare-end
+    mul-compare-2
+    compare-requires
+    returns)

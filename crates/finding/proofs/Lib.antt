@@ -1,0 +1,6 @@
+-- The laws of the crate.
+pub mod Scanning
+pub mod Blocks
+pub mod Looping
+pub mod Finding
+pub mod Seeking

@@ -1,0 +1,154 @@
+-- The invariants of the loops that count live rows, compare rows side by side, and go through rows from the youngest back.
+use mathlib.Core.Path.{_≡_, refl, sym, ap, _∙_}
+use Prim.Native.Nat.{ℕ, zero, suc, _+_, _-_, _*_, _≤_, _<_}
+use native.Mathlib.Nat.{add-zero, suc-mul, mul-le-mul-right, le-refl}
+use native.Mathlib.Numerals.{add-one}
+use native.Mathlib.Omega.{arith}
+use mathlib.Core.Bool.{Bool, true, false, _&&_, cond}
+use mathlib.Core.List.{List}
+use lib.ListN.{length, drop}
+use Rattle.lists.specs.Lists.{filter, run}
+use Rattle.lists.proofs.Booleans.{clash}
+use Rattle.dominance.specs.declared.Comparison.{Comparison}
+use Rattle.dominance.specs.Compared.{compared}
+use Rattle.finding.specs.Found.{live, liveIn, dullIn, Rows, rows, over, under, youngest, Fits, Scan, Outcome, through, stopped, Room}
+use Rattle.finding.specs.declared.Found.{Found}
+use Rattle.finding.proofs.Blocks.{live-more, none-live, dull-none, dull-more, skipped}
+
+-- i of 16 rows have been counted
+pub record Counting (uppers : List ℕ) (from count i : ℕ) : Type 0 where
+  pub within : i ≤ 16
+  pub few : count ≤ i
+  pub count≡ : count ≡ liveIn uppers from i
+
+pub count-start : (uppers : List ℕ) (from : ℕ) → Counting uppers from 0 0
+unfolding liveIn filter run
+count-start uppers from = record { within = omega arith; few = omega arith; count≡ = refl }
+
+pub count-turn : {uppers : List ℕ} {from count i : ℕ} → Counting uppers from count i → i < 16 → (n : ℕ) → n ≡ cond (live uppers (from + i)) 1 0 → n ≤ 1
+    → Counting uppers from (count + n) (i + 1)
+count-turn {uppers} {from} {count} {i} v h n e o = record {
+  within = omega arith;
+  few = omega (arith, v .few);
+  count≡ = rw (live-more uppers from i, ← v .count≡, ← e);
+}
+
+-- the cells of a row lie within those of the rows below b
+pub row-in : (i b d : ℕ) → i < b → i * d + d ≤ b * d
+row-in i b d h = rw (← suc-mul i d) (mul-le-mul-right d h)
+
+-- one of two neighbours lies between them
+pub pushed : (t : Bool) {at r : ℕ} → r ≡ cond t (at - 1) at → (at - 1 ≤ r) × (r ≤ at)
+pushed true e = (omega arith, omega arith)
+pushed false e = (omega arith, omega arith)
+
+module _ (s : Rows) where
+  pub fits-less : {a b : ℕ} → a ≤ b → Fits s b → Fits s a
+  fits-less {a} {b} h v =
+      let m : a * s .d ≤ b * s .d = mul-le-mul-right (s .d) h in
+      record { quoted = v .quoted; columns = omega (arith, v .columns); uppers = omega (arith, v .uppers); few = omega (arith, v .few) }
+
+  -- i of 16 rows have been compared
+  pub record Comparing (from : ℕ) (all : Bool) (start i : ℕ) : Type 0 where
+    pub within : i ≤ 16
+    pub start≡ : start ≡ (from + i) * s .d
+    pub all≡ : all ≡ dullIn s from i
+
+  pub compare-start : (from : ℕ) → Comparing from true (from * s .d) 0
+  compare-start from = record { within = omega arith; start≡ = rw add-zero; all≡ = sym (dull-none s from) }
+
+  pub compare-turn : {from : ℕ} {all : Bool} {start i : ℕ} → Comparing from all start i → i < 16 → (c : Comparison)
+      → c ≡ compared (s .d) (s .directions) (s .quote) (drop start (s .columns)) → Comparing from (all && c .better && c .worse) (start + s .d) (i + 1)
+  compare-turn {from} {all} {start} {i} v h c e = record {
+    within = omega arith;
+    start≡ = let z : from + (i + 1) ≡ suc (from + i) = omega arith in rw (z, suc-mul, v .start≡);
+    all≡ = rw (v .all≡) (sym (dull-more s from i c (e ∙ rw (v .start≡))));
+  }
+
+  -- the rows below to have been gone through down to place i
+  pub record Scanning (from to : ℕ) (before : List ℕ) (at : ℕ) (places : List ℕ) (i left : ℕ) : Type 0 where
+    pub least : from ≤ i
+    pub most : i ≤ to
+    pub room : Room s i places left
+    pub same-length : length places ≡ length before
+    pub scanned : (b : ℕ) (rest : List ℕ) → to ≤ b → Scan s to b rest before at → Scan s i b rest places left
+
+  pub scan-start : {from to : ℕ} {places : List ℕ} {at : ℕ} → from ≤ to → Room s to places at → Scanning from to places at places to at
+  scan-start {to = to} h r = record { least = h; most = le-refl to; room = r; same-length = refl; scanned = λ b rest l v. v }
+
+  module _ {from to : ℕ} {before : List ℕ} {at : ℕ} {places : List ℕ} {i left k : ℕ} (v : Scanning from to before at places i left) (h : from ≤ k) (l : k ≤ i)
+      (places' : List ℕ) (f : Found) (r : Room s k places' (f .at)) (o : (b : ℕ) (rest : List ℕ) → i ≤ b → Scan s i b rest places left → Outcome s k b rest places' f) where
+    -- nothing was found down to place k
+    pub scan-turn : length places' ≡ length places → f .last ≤ 0 → Scanning from to before at places' k (f .at)
+    scan-turn e z = record {
+      least = h;
+      most = omega (arith, v .most);
+      room = r;
+      same-length = e ∙ v .same-length;
+      scanned = λ b rest m w. go b rest (o b rest (omega (arith, v .most)) (v .scanned b rest m w));
+    }
+      where
+        go : (b : ℕ) (rest : List ℕ) → Outcome s k b rest places' f → Scan s k b rest places' (f .at)
+        go b rest (through a w) = w
+        go b rest (stopped j a c d t u o' w) = absurd (omega arith)
+
+    room-less : Room s from places' (f .at)
+    room-less = record { least = omega (arith, r .least); most = r .most }
+
+    -- a live row over the quote was found
+    pub scan-found : 0 < f .last → Room s from places' (f .at) × ((b : ℕ) (rest : List ℕ) → to ≤ b → Scan s to b rest before at → Outcome s from b rest places' f)
+    scan-found z = (room-less, λ b rest m w. go b rest (o b rest (omega (arith, v .most)) (v .scanned b rest m w)))
+      where
+        go : (b : ℕ) (rest : List ℕ) → Outcome s k b rest places' f → Outcome s from b rest places' f
+        go b rest (through a w) = absurd (omega arith)
+        go b rest (stopped j a c d t u o' w) = stopped j a (omega arith) d t u o' w
+
+  -- the list has room once a place more is listed
+  pub room-pushed : {i at : ℕ} {places places' : List ℕ} → Room s (suc i) places at → (next : ℕ) → (at - 1 ≤ next) × (next ≤ at) → length places' ≡ length places → Room s i places' next
+  room-pushed r next e l = record { least = omega (arith, e, r .least); most = omega (arith, e, r .most) }
+
+  -- what one row more says
+  pub row-below : {i left : ℕ} {places places' : List ℕ} {f : Found} → 0 < i
+      → ((b : ℕ) (rest : List ℕ) → i - 1 < b → Scan s (suc (i - 1)) b rest places left → Outcome s (i - 1) b rest places' f) → (b : ℕ) (rest : List ℕ) → i ≤ b → Scan s i b rest places left → Outcome s (i - 1) b rest places' f
+  row-below {i} h o b rest l v = let e : suc (i - 1) ≡ i = omega arith in o b rest (omega arith) (rw e v)
+
+  -- what one block more says
+  pub block-below : {i left : ℕ} {places places' : List ℕ} {f : Found} → 16 ≤ i
+      → ((b : ℕ) (rest : List ℕ) → i - 16 + 16 ≤ b → Scan s (i - 16 + 16) b rest places left → Outcome s (i - 16) b rest places' f) → (b : ℕ) (rest : List ℕ) → i ≤ b → Scan s i b rest places left → Outcome s (i - 16) b rest places' f
+  block-below {i} h o b rest l v = let e : i - 16 + 16 ≡ i = omega arith in o b rest (omega arith) (rw e v)
+
+  -- the rows left were gone through
+  pub scan-rest : {from to : ℕ} {before : List ℕ} {at : ℕ} {places : List ℕ} {i left : ℕ} → Scanning from to before at places i left → (places' : List ℕ) (f : Found) → Room s from places' (f .at)
+      → ((b : ℕ) (rest : List ℕ) → i ≤ b → Scan s i b rest places left → Outcome s from b rest places' f) → Room s from places' (f .at) × ((b : ℕ) (rest : List ℕ) → to ≤ b → Scan s to b rest before at → Outcome s from b rest places' f)
+  scan-rest v places' f r o = (r, λ b rest m w. o b rest (omega (arith, v .most)) (v .scanned b rest m w))
+
+  -- a block of rows need not be gone through
+  pub block-passed : {from at : ℕ} {places : List ℕ} (f : Found) → f .at ≡ at → f .last ≡ 0 → Room s (from + 16) places at
+      → ((q : ℕ) → from ≤ q → q < from + 16 → live (s .uppers) q ≡ true → (over s q ≡ false) × (under s q ≡ false))
+      → Room s from places (f .at) × ((b : ℕ) (rest : List ℕ) → from + 16 ≤ b → Scan s (from + 16) b rest places at → Outcome s from b rest places f)
+  block-passed f e z r g = (
+    rw e (record { least = omega (arith, r .least); most = r .most }),
+    λ b rest l v. through z (rw e (skipped s 16 l g v)),
+  )
+
+  pub none-in-block : (from : ℕ) → liveIn (s .uppers) from 16 ≡ 0 → (q : ℕ) → from ≤ q → q < from + 16 → live (s .uppers) q ≡ true → (over s q ≡ false) × (under s q ≡ false)
+  unfolding liveIn
+  none-in-block from e q h l t = absurd (clash (live (s .uppers) q) t (none-live (live (s .uppers)) from 16 e q h l))
+
+  -- all rows have been gone through
+  pub scan-end : {from to : ℕ} {before : List ℕ} {at : ℕ} {places : List ℕ} {i left : ℕ} → Scanning from to before at places i left → i ≤ from → (f : Found)
+      → f .at ≡ left → f .last ≡ 0 → Room s from places (f .at) × ((b : ℕ) (rest : List ℕ) → to ≤ b → Scan s to b rest before at → Outcome s from b rest places f)
+  scan-end {from} {i = i} v h f a z =
+      let e : i ≡ from = omega (arith, v .least) in (
+        rw (a, ← e) (v .room),
+        λ b rest m w. through z (rw (a, ← e) (v .scanned b rest m w)),
+      )
+
+-- where d is k, what is asked and said of rows of d columns is asked and said of rows of k
+pub dull-asked-at : {d k directions : ℕ} {columns uppers quote : List ℕ} {n : ℕ} → d ≡ k
+    → Fits (rows d directions columns uppers quote) n → Fits (rows k directions columns uppers quote) n
+dull-asked-at e v = rw (← e) v
+
+pub dull-said-at : {d k : ℕ} (directions : ℕ) (columns uppers quote : List ℕ) (from : ℕ) {r : Bool} → d ≡ k
+    → r ≡ dullIn (rows k directions columns uppers quote) from 16 → r ≡ dullIn (rows d directions columns uppers quote) from 16
+dull-said-at directions columns uppers quote from e v = rw e v

@@ -1,0 +1,438 @@
+// What a quote finds among the rows of a table: those that it retires, and the youngest row over it, sought from the youngest row back.
+ghost use mathlib.Core.Path.{_≡_};
+ghost use mathlib.Core.Bool.{cond, _&&_};
+ghost use Prim.Native.Nat.{ℕ, suc, _+_, _-_, _*_, _≤_, _<_};
+ghost use mathlib.Core.List.{List};
+ghost use lib.Dec.{eqb};
+ghost use lib.ListN.{length, getD, set, drop};
+ghost use Rattle.finding.specs.Found.{liveIn, dullIn, rows, retired, youngest, Fits, Scan, Outcome, Room, Sound, Finds};
+use dominance::compare;
+
+// What was found: the place in the list of retired rows from which on they are listed, and the number of the youngest row over the
+// quote, counted from 1, or 0.
+pub struct Found {
+    pub at: usize,
+    pub last: usize,
+}
+
+// x if the test passed, else y.
+fn chosen(test: bool, x: usize, y: usize) -> usize
+    ensures { λ r. ⌜ r ≡ cond test x y ⌝ }
+{
+    if test { x } else { y }
+}
+
+// 1 if the test passed, else 0.
+fn one(test: bool) -> u32
+    ensures { λ r. ⌜ r ≡ cond test 1 0 ⌝ }
+    ensures { λ r. ⌜ r ≤ 1 ⌝ }
+{
+    if test { 1 } else { 0 }
+}
+
+// How many of the 16 rows from a place on are live.
+fn count_live(uppers: &[u32], from: usize) -> u32
+    requires { ⌜ from + 16 ≤ length (now uppers) ⌝ }
+    ensures { λ r. ⌜ r ≡ liveIn (now (uppers .entry)) from 16 ⌝ }
+{
+    let mut count: u32 = 0;
+    let mut i = 0;
+    while i < 16 {
+        count += one(uppers[from + i] == 0);
+        i += 1;
+    }
+    count
+}
+
+// Whether the quote is better than each of the 16 rows from a place on in some column, and worse in another. It is without branches, so
+// that rows can be compared side by side.
+fn dull(
+    directions: u32,
+    d: usize,
+    columns: &[u32],
+    uppers: &[u32],
+    quote: &[u32],
+    from: usize,
+) -> bool
+    requires { ⌜ Fits (rows d directions (now columns) (now uppers) (now quote)) (from + 16) ⌝ }
+    ensures { λ r. ⌜ r ≡ dullIn (rows d directions (now (columns .entry)) (now (uppers .entry)) (now (quote .entry))) from 16 ⌝ }
+{
+    let mut all = true;
+    let mut start = from * d;
+    let mut i: usize = 0;
+    while i < 16 {
+        let c = compare(directions, d, quote, columns, start);
+        all = all & c.better & c.worse;
+        start += d;
+        i += 1;
+    }
+    all
+}
+
+// The same of rows of one column.
+fn dull_one(directions: u32, columns: &[u32], uppers: &[u32], quote: &[u32], from: usize) -> bool
+    requires { ⌜ Fits (rows 1 directions (now columns) (now uppers) (now quote)) (from + 16) ⌝ }
+    ensures { λ r. ⌜ r ≡ dullIn (rows 1 directions (now (columns .entry)) (now (uppers .entry)) (now (quote .entry))) from 16 ⌝ }
+{
+    dull(directions, 1, columns, uppers, quote, from)
+}
+
+// The same of rows of two columns.
+fn dull_two(directions: u32, columns: &[u32], uppers: &[u32], quote: &[u32], from: usize) -> bool
+    requires { ⌜ Fits (rows 2 directions (now columns) (now uppers) (now quote)) (from + 16) ⌝ }
+    ensures { λ r. ⌜ r ≡ dullIn (rows 2 directions (now (columns .entry)) (now (uppers .entry)) (now (quote .entry))) from 16 ⌝ }
+{
+    dull(directions, 2, columns, uppers, quote, from)
+}
+
+// The same of rows of three columns.
+fn dull_three(directions: u32, columns: &[u32], uppers: &[u32], quote: &[u32], from: usize) -> bool
+    requires { ⌜ Fits (rows 3 directions (now columns) (now uppers) (now quote)) (from + 16) ⌝ }
+    ensures { λ r. ⌜ r ≡ dullIn (rows 3 directions (now (columns .entry)) (now (uppers .entry)) (now (quote .entry))) from 16 ⌝ }
+{
+    dull(directions, 3, columns, uppers, quote, from)
+}
+
+// The same of rows of four columns.
+fn dull_four(directions: u32, columns: &[u32], uppers: &[u32], quote: &[u32], from: usize) -> bool
+    requires { ⌜ Fits (rows 4 directions (now columns) (now uppers) (now quote)) (from + 16) ⌝ }
+    ensures { λ r. ⌜ r ≡ dullIn (rows 4 directions (now (columns .entry)) (now (uppers .entry)) (now (quote .entry))) from 16 ⌝ }
+{
+    dull(directions, 4, columns, uppers, quote, from)
+}
+
+// The same of rows of five columns.
+fn dull_five(directions: u32, columns: &[u32], uppers: &[u32], quote: &[u32], from: usize) -> bool
+    requires { ⌜ Fits (rows 5 directions (now columns) (now uppers) (now quote)) (from + 16) ⌝ }
+    ensures { λ r. ⌜ r ≡ dullIn (rows 5 directions (now (columns .entry)) (now (uppers .entry)) (now (quote .entry))) from 16 ⌝ }
+{
+    dull(directions, 5, columns, uppers, quote, from)
+}
+
+// The same of rows of six columns.
+fn dull_six(directions: u32, columns: &[u32], uppers: &[u32], quote: &[u32], from: usize) -> bool
+    requires { ⌜ Fits (rows 6 directions (now columns) (now uppers) (now quote)) (from + 16) ⌝ }
+    ensures { λ r. ⌜ r ≡ dullIn (rows 6 directions (now (columns .entry)) (now (uppers .entry)) (now (quote .entry))) from 16 ⌝ }
+{
+    dull(directions, 6, columns, uppers, quote, from)
+}
+
+// The same, where the number of columns is one of 01's by a function of its own: the loop over the columns is then unrolled, and rows are
+// compared side by side.
+fn dull_columns(
+    directions: u32,
+    d: usize,
+    columns: &[u32],
+    uppers: &[u32],
+    quote: &[u32],
+    from: usize,
+) -> bool
+    requires { ⌜ Fits (rows d directions (now columns) (now uppers) (now quote)) (from + 16) ⌝ }
+    ensures { λ r. ⌜ r ≡ dullIn (rows d directions (now (columns .entry)) (now (uppers .entry)) (now (quote .entry))) from 16 ⌝ }
+{
+    if d == 1 {
+        return dull_one(directions, columns, uppers, quote, from);
+    }
+    if d == 2 {
+        return dull_two(directions, columns, uppers, quote, from);
+    }
+    if d == 3 {
+        return dull_three(directions, columns, uppers, quote, from);
+    }
+    if d == 4 {
+        return dull_four(directions, columns, uppers, quote, from);
+    }
+    if d == 5 {
+        return dull_five(directions, columns, uppers, quote, from);
+    }
+    if d == 6 {
+        return dull_six(directions, columns, uppers, quote, from);
+    }
+    dull(directions, d, columns, uppers, quote, from)
+}
+
+// Lists a place in front of those listed from at on, if the test passed. Returns from where on they are listed.
+fn push(places: &mut [u16], at: usize, place: usize, test: bool) -> usize
+    requires { ⌜ 0 < at ⌝ }
+    requires { ⌜ at ≤ length (now places) ⌝ }
+    requires { ⌜ place < 65536 ⌝ }
+    ensures { λ r. ⌜ r ≡ cond test (at - 1) at ⌝ }
+    ensures { λ r. ⌜ (at - 1 ≤ r) × (r ≤ at) ⌝ }
+    ensures { λ _. ⌜ now (places .exit) ≡ set (now (places .entry)) (at - 1) place ⌝ }
+{
+    let before = at - 1;
+    places[before] = place as u16;
+    chosen(test, before, at)
+}
+
+// Goes through the row at a place.
+fn step(
+    directions: u32,
+    d: usize,
+    columns: &[u32],
+    uppers: &[u32],
+    quote: &[u32],
+    place: usize,
+    places: &mut [u16],
+    at: usize,
+) -> Found
+    requires { ⌜ Fits (rows d directions (now columns) (now uppers) (now quote)) (suc place) ⌝ }
+    requires { ⌜ Room (rows d directions (now columns) (now uppers) (now quote)) (suc place) (now places) at ⌝ }
+    ensures { λ r. ⌜ Room (rows d directions (now (columns .entry)) (now (uppers .entry)) (now (quote .entry))) place (now (places .exit)) (r .at) ⌝ }
+    ensures { λ r. ⌜ ((b : ℕ) (rest : List ℕ) → place < b → Scan (rows d directions (now (columns .entry)) (now (uppers .entry)) (now (quote .entry))) (suc place) b rest (now (places .entry)) at → Outcome (rows d directions (now (columns .entry)) (now (uppers .entry)) (now (quote .entry))) place b rest (now (places .exit)) r) ⌝ }
+{
+    if uppers[place] != 0 {
+        return Found { at, last: 0 };
+    }
+    let c = compare(directions, d, quote, columns, place * d);
+    let next = push(places, at, place, c.better & !c.worse);
+    Found {
+        at: next,
+        last: chosen(c.worse & !c.better, place + 1, 0),
+    }
+}
+
+// Goes through the rows below a place down to another, or down to a live row over the quote.
+fn scan(
+    directions: u32,
+    d: usize,
+    columns: &[u32],
+    uppers: &[u32],
+    quote: &[u32],
+    from: usize,
+    to: usize,
+    places: &mut [u16],
+    at: usize,
+) -> Found
+    requires { ⌜ from ≤ to ⌝ }
+    requires { ⌜ Fits (rows d directions (now columns) (now uppers) (now quote)) to ⌝ }
+    requires { ⌜ Room (rows d directions (now columns) (now uppers) (now quote)) to (now places) at ⌝ }
+    ensures { λ r. ⌜ Room (rows d directions (now (columns .entry)) (now (uppers .entry)) (now (quote .entry))) from (now (places .exit)) (r .at) ⌝ }
+    ensures { λ r. ⌜ ((b : ℕ) (rest : List ℕ) → to ≤ b → Scan (rows d directions (now (columns .entry)) (now (uppers .entry)) (now (quote .entry))) to b rest (now (places .entry)) at → Outcome (rows d directions (now (columns .entry)) (now (uppers .entry)) (now (quote .entry))) from b rest (now (places .exit)) r) ⌝ }
+{
+    let mut i = to;
+    let mut left = at;
+    while from < i {
+        i -= 1;
+        let found = step(directions, d, columns, uppers, quote, i, places, left);
+        left = found.at;
+        if 0 < found.last {
+            return found;
+        }
+    }
+    Found { at: left, last: 0 }
+}
+
+// Goes through the 16 rows from a place on: none where none is live, and where most are, one by one only if one is comparable.
+fn scan_block(
+    directions: u32,
+    d: usize,
+    columns: &[u32],
+    uppers: &[u32],
+    quote: &[u32],
+    from: usize,
+    places: &mut [u16],
+    at: usize,
+) -> Found
+    requires { ⌜ Fits (rows d directions (now columns) (now uppers) (now quote)) (from + 16) ⌝ }
+    requires { ⌜ Room (rows d directions (now columns) (now uppers) (now quote)) (from + 16) (now places) at ⌝ }
+    ensures { λ r. ⌜ Room (rows d directions (now (columns .entry)) (now (uppers .entry)) (now (quote .entry))) from (now (places .exit)) (r .at) ⌝ }
+    ensures { λ r. ⌜ ((b : ℕ) (rest : List ℕ) → from + 16 ≤ b → Scan (rows d directions (now (columns .entry)) (now (uppers .entry)) (now (quote .entry))) (from + 16) b rest (now (places .entry)) at → Outcome (rows d directions (now (columns .entry)) (now (uppers .entry)) (now (quote .entry))) from b rest (now (places .exit)) r) ⌝ }
+{
+    let live = count_live(uppers, from);
+    if live == 0 {
+        return Found { at, last: 0 };
+    }
+    if 8 < live {
+        if dull_columns(directions, d, columns, uppers, quote, from) {
+            return Found { at, last: 0 };
+        }
+    }
+    scan(
+        directions,
+        d,
+        columns,
+        uppers,
+        quote,
+        from,
+        from + 16,
+        places,
+        at,
+    )
+}
+
+// Goes through the rows below a place down to another, by blocks of 16, or down to a live row over the quote.
+fn scan_blocks(
+    directions: u32,
+    d: usize,
+    columns: &[u32],
+    uppers: &[u32],
+    quote: &[u32],
+    from: usize,
+    to: usize,
+    places: &mut [u16],
+    at: usize,
+) -> Found
+    requires { ⌜ from ≤ to ⌝ }
+    requires { ⌜ Fits (rows d directions (now columns) (now uppers) (now quote)) to ⌝ }
+    requires { ⌜ Room (rows d directions (now columns) (now uppers) (now quote)) to (now places) at ⌝ }
+    ensures { λ r. ⌜ Room (rows d directions (now (columns .entry)) (now (uppers .entry)) (now (quote .entry))) from (now (places .exit)) (r .at) ⌝ }
+    ensures { λ r. ⌜ ((b : ℕ) (rest : List ℕ) → to ≤ b → Scan (rows d directions (now (columns .entry)) (now (uppers .entry)) (now (quote .entry))) to b rest (now (places .entry)) at → Outcome (rows d directions (now (columns .entry)) (now (uppers .entry)) (now (quote .entry))) from b rest (now (places .exit)) r) ⌝ }
+{
+    let mut i = to;
+    let mut left = at;
+    while 16 <= i - from {
+        i -= 16;
+        let found = scan_block(directions, d, columns, uppers, quote, i, places, left);
+        left = found.at;
+        if 0 < found.last {
+            return found;
+        }
+    }
+    scan(directions, d, columns, uppers, quote, from, i, places, left)
+}
+
+// Finds which of the rows from a place on and below another a quote retires, and the youngest of them over it, where the rows are as
+// calls leave them: no row need be gone through beyond the youngest live one over the quote.
+pub fn find_sound(
+    directions: u32,
+    d: usize,
+    columns: &[u32],
+    uppers: &[u32],
+    quote: &[u32],
+    from: usize,
+    to: usize,
+    places: &mut [u16],
+) -> Found
+    requires { ⌜ from ≤ to ⌝ }
+    requires { ⌜ Fits (rows d directions (now columns) (now uppers) (now quote)) to ⌝ }
+    requires { ⌜ to ≤ length (now places) ⌝ }
+    requires { ⌜ Sound (rows d directions (now columns) (now uppers) (now quote)) from to ⌝ }
+    ensures { λ r. ⌜ Finds (rows d directions (now (columns .entry)) (now (uppers .entry)) (now (quote .entry))) from to (now (places .exit)) r ⌝ }
+{
+    let end = places.len();
+    scan_blocks(directions, d, columns, uppers, quote, from, to, places, end)
+}
+
+// The number of the youngest of the rows from a place on and below another that is over the quote, counted from 1, or 0.
+fn seek(
+    directions: u32,
+    d: usize,
+    columns: &[u32],
+    uppers: &[u32],
+    quote: &[u32],
+    from: usize,
+    to: usize,
+) -> usize
+    requires { ⌜ from ≤ to ⌝ }
+    requires { ⌜ Fits (rows d directions (now columns) (now uppers) (now quote)) to ⌝ }
+    ensures { λ r. ⌜ r ≡ youngest (rows d directions (now (columns .entry)) (now (uppers .entry)) (now (quote .entry))) from to ⌝ }
+{
+    let mut i = to;
+    while from < i {
+        i -= 1;
+        let c = compare(directions, d, quote, columns, i * d);
+        if c.worse & !c.better {
+            return i + 1;
+        }
+    }
+    0
+}
+
+// The same of the 16 rows from a place on: row by row only where one is comparable.
+fn seek_block(
+    directions: u32,
+    d: usize,
+    columns: &[u32],
+    uppers: &[u32],
+    quote: &[u32],
+    from: usize,
+) -> usize
+    requires { ⌜ Fits (rows d directions (now columns) (now uppers) (now quote)) (from + 16) ⌝ }
+    ensures { λ r. ⌜ r ≡ youngest (rows d directions (now (columns .entry)) (now (uppers .entry)) (now (quote .entry))) from (from + 16) ⌝ }
+{
+    if dull_columns(directions, d, columns, uppers, quote, from) {
+        return 0;
+    }
+    seek(directions, d, columns, uppers, quote, from, from + 16)
+}
+
+// The same of any rows, by blocks of 16.
+fn seek_blocks(
+    directions: u32,
+    d: usize,
+    columns: &[u32],
+    uppers: &[u32],
+    quote: &[u32],
+    from: usize,
+    to: usize,
+) -> usize
+    requires { ⌜ from ≤ to ⌝ }
+    requires { ⌜ Fits (rows d directions (now columns) (now uppers) (now quote)) to ⌝ }
+    ensures { λ r. ⌜ r ≡ youngest (rows d directions (now (columns .entry)) (now (uppers .entry)) (now (quote .entry))) from to ⌝ }
+{
+    let mut i = to;
+    while 16 <= i - from {
+        i -= 16;
+        let number = seek_block(directions, d, columns, uppers, quote, i);
+        if 0 < number {
+            return number;
+        }
+    }
+    seek(directions, d, columns, uppers, quote, from, i)
+}
+
+// Where the rows that are left to go through end: at the row that was found, or at the first.
+fn end_of(last: usize, from: usize) -> usize
+    ensures { λ r. ⌜ r ≡ cond (eqb last 0) from (last - 1) ⌝ }
+{
+    if last == 0 { from } else { last - 1 }
+}
+
+// Lists the rows from a place on and below another that a quote retires. Returns from where on they are listed.
+fn retire(
+    directions: u32,
+    d: usize,
+    columns: &[u32],
+    uppers: &[u32],
+    quote: &[u32],
+    from: usize,
+    to: usize,
+    places: &mut [u16],
+) -> usize
+    requires { ⌜ from ≤ to ⌝ }
+    requires { ⌜ Fits (rows d directions (now columns) (now uppers) (now quote)) to ⌝ }
+    requires { ⌜ to ≤ length (now places) ⌝ }
+    ensures { λ r. ⌜ drop r (now (places .exit)) ≡ retired (rows d directions (now (columns .entry)) (now (uppers .entry)) (now (quote .entry))) from to ⌝ }
+    ensures { λ r. ⌜ r ≤ length (now (places .exit)) ⌝ }
+{
+    let mut end = to;
+    let mut at = places.len();
+    while from < end {
+        let found = scan_blocks(directions, d, columns, uppers, quote, from, end, places, at);
+        at = found.at;
+        end = end_of(found.last, from);
+    }
+    at
+}
+
+// Finds which of the rows from a place on and below another a quote retires, and the youngest of them over it, on any rows.
+pub fn find_any(
+    directions: u32,
+    d: usize,
+    columns: &[u32],
+    uppers: &[u32],
+    quote: &[u32],
+    from: usize,
+    to: usize,
+    places: &mut [u16],
+) -> Found
+    requires { ⌜ from ≤ to ⌝ }
+    requires { ⌜ Fits (rows d directions (now columns) (now uppers) (now quote)) to ⌝ }
+    requires { ⌜ to ≤ length (now places) ⌝ }
+    ensures { λ r. ⌜ Finds (rows d directions (now (columns .entry)) (now (uppers .entry)) (now (quote .entry))) from to (now (places .exit)) r ⌝ }
+{
+    let at = retire(directions, d, columns, uppers, quote, from, to, places);
+    let last = seek_blocks(directions, d, columns, uppers, quote, from, to);
+    Found { at, last }
+}

@@ -1,0 +1,130 @@
+-- `write_joins` meets its contract: each turn writes the join of the row at one place of the window, if it is listed.
+use Prim.Native.Nat.{_+_, _-_, _≤_}
+use native.Mathlib.Omega.{arith}
+use lib.ListN.{length, length-take, length-drop}
+use Rattle.frames.specs.Kinds.{joinKind}
+use Rattle.frames.specs.Frames.{frame}
+use Rattle.frames.proofs.RoundTrips.{change-length}
+use Rattle.model.specs.Changes.{join}
+use Rattle.listing.specs.Picked.{listedIn}
+use Rattle.listing.proofs.Writing.{writing-pass, writing-all}
+use Rattle.listing.proofs.Framing.{framing, frames-cells, joins-length, frame-fits, frame-laid}
+use Rattle.listing.proofs.Listing.{Listing, listing-start, listed-inside}
+use borrow.Author.Needs.{needs}
+use Rattle.listing.proofs.write_joins.Statement.{statement}
+use Rattle.listing.proofs.write_joins.Tie as tie
+
+abbrev Inv-loop : tie.InvT-loop
+Inv-loop n lower-ends upper-ends first a b out₀ end at₀ i₀ out at i = Listing first a b lower-ends upper-ends (framing (join n)) out₀ out at i
+
+abbrev μ-loop : tie.MeasureT-loop
+μ-loop n lower-ends upper-ends first a b out₀ end at₀ i₀ out at i = end - i
+
+add-end : tie.Need-add-end Inv-loop μ-loop
+add-end c = search needs
+
+sub-end : tie.Need-sub-end Inv-loop μ-loop
+sub-end c = search needs
+
+sub-i : tie.Need-sub-i Inv-loop μ-loop
+sub-i c = search needs
+
+cast-i : tie.Need-cast-i Inv-loop μ-loop
+cast-i c = search needs
+
+loop-holds : tie.Need-loop-holds Inv-loop μ-loop
+loop-holds c = let n = c .before .before .before .args .n in listing-start _ _ _ _ _ _ _ (c .before .before .before .pre .0) (rw (← frames-cells (join n), joins-length n) (c .before .before .before .pre .1))
+
+cast-position : tie.Need-cast-position Inv-loop μ-loop
+cast-position c = search needs
+
+add-position : tie.Need-add-position Inv-loop μ-loop
+add-position c = search needs
+
+mul-is-listed : tie.Need-mul-is-listed Inv-loop μ-loop
+mul-is-listed c = search needs
+
+shared-slice-read-is-listed : tie.Need-shared-slice-read-is-listed Inv-loop μ-loop
+shared-slice-read-is-listed c = search needs
+
+mul-is-listed-2 : tie.Need-mul-is-listed-2 Inv-loop μ-loop
+mul-is-listed-2 c = search needs
+
+shared-slice-read-is-listed-2 : tie.Need-shared-slice-read-is-listed-2 Inv-loop μ-loop
+shared-slice-read-is-listed-2 c = search needs
+
+is-listed-requires : tie.Need-is-listed-requires Inv-loop μ-loop
+is-listed-requires c κs = search needs
+
+add-i : tie.Need-add-i Inv-loop μ-loop
+add-i c = search needs
+
+-- a position that is listed has room for its frame
+fits : (c : tie.Then1 Inv-loop μ-loop) → c .before .before .before .before .before .loop .at + 7 ≤ length (c .before .before .before .before .before .loop .out)
+fits c = frame-fits (join (c .before .before .before .before .before .before .before .before .before .args .n)) (change-length joinKind _) (c .before .before .before .before .before .loop .inv .writing) (c .before .before .before .before .loop-test .taken) (listed-inside _ _ _ _ _ _ (c .before .before .before .before .before .loop .inv .reached) (omega arith) (c .before .is-listed .ensures)) (c .if1 .taken)
+
+sub-lay-change : tie.Need-sub-lay-change Inv-loop μ-loop
+sub-lay-change c = omega (arith, fits c)
+
+part-lay-change-start : tie.Need-part-lay-change-start Inv-loop μ-loop
+part-lay-change-start c = omega (arith, fits c)
+
+part-lay-change-end : tie.Need-part-lay-change-end Inv-loop μ-loop
+part-lay-change-end c = search needs
+
+lay-change-requires : tie.Need-lay-change-requires Inv-loop μ-loop
+lay-change-requires c κs = simp (length-take, length-drop) (omega (arith, fits (c .before)))
+
+add-at : tie.Need-add-at Inv-loop μ-loop
+add-at c = omega (arith, fits (c .before .before .before .before))
+
+loop-less : tie.Need-loop-less Inv-loop μ-loop
+loop-less c = search needs
+
+loop-again : tie.Need-loop-again Inv-loop μ-loop
+unfolding frame
+loop-again c = record { reached = omega (arith, c .before .before .before .before .before .before .before .before .before .loop .inv .reached); writing = frame-laid (join (c .before .before .before .before .before .before .before .before .before .before .before .before .before .args .n)) (change-length joinKind _) (c .before .before .before .before .before .before .before .before .before .loop .inv .writing) (c .before .before .before .before .before .before .before .before .loop-test .taken) (listed-inside _ _ _ _ _ _ (c .before .before .before .before .before .before .before .before .before .loop .inv .reached) (omega arith) (c .before .before .before .before .before .is-listed .ensures)) (c .before .before .lay-change .ensures) (c .before .before .before .before .if1 .taken) }
+
+loop-less-2 : tie.Need-loop-less-2 Inv-loop μ-loop
+loop-less-2 c = search needs
+
+loop-again-2 : tie.Need-loop-again-2 Inv-loop μ-loop
+loop-again-2 c = record { reached = omega (arith, c .before .before .before .before .before .loop .inv .reached); writing = writing-pass (c .before .before .before .before .before .loop .inv .writing) (c .before .before .before .before .loop-test .taken) (listed-inside _ _ _ _ _ _ (c .before .before .before .before .before .loop .inv .reached) (omega arith) (c .before .is-listed .ensures)) (c .if1 .left) }
+
+same-length : tie.Need-same-length Inv-loop μ-loop
+same-length c = c .before .loop .inv .writing .laying .front .long
+
+returns : tie.Need-returns Inv-loop μ-loop
+unfolding listedIn
+returns c = rw frames-cells (writing-all (c .before .loop .inv .writing) (c .loop-test .left))
+
+pub write-joins-spec : {M : Type 1} → statement M
+write-joins-spec =
+    tie.close
+    (tie.spec
+    Inv-loop
+    μ-loop
+    add-end
+    sub-end
+    sub-i
+    cast-i
+    loop-holds
+    cast-position
+    add-position
+    mul-is-listed
+    shared-slice-read-is-listed
+    mul-is-listed-2
+    shared-slice-read-is-listed-2
+    is-listed-requires
+    add-i
+    sub-lay-change
+    part-lay-change-start
+    part-lay-change-end
+    lay-change-requires
+    add-at
+    loop-less
+    loop-again
+    loop-less-2
+    loop-again-2
+    same-length
+    returns)

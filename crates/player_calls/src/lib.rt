@@ -1,0 +1,108 @@
+// The call that a line of the book player asks for, made on the parts of the buffers that are lent.
+use by_value::Made;
+use head::Answer;
+use head::Reply;
+use player_desk::Desk;
+use player_desk::Seen;
+use player_lines::Command;
+use player_lines::Line;
+use player_reads::read;
+
+// The first numbers, so many, or all where there are fewer.
+fn front<'a>(numbers: &'a [u32], count: usize) -> &'a [u32] {
+    if count < numbers.len() {
+        return &numbers[..count];
+    }
+    numbers
+}
+
+// The columns that a line quotes.
+fn quoted<'a>(numbers: &'a [u32; 12], count: usize) -> &'a [u32] {
+    front(&numbers[..], count)
+}
+
+// Whether a reply accepts.
+fn accepts(reply: Reply) -> bool {
+    let answer = reply.answer;
+    match answer {
+        Answer::Accepted => true,
+        Answer::Refused(_) => false,
+    }
+}
+
+// The desk after an opening. One that is refused leaves the head for the next call.
+fn opened(desk: Desk, made: Made) -> Desk {
+    let reply = made.reply;
+    let records = made.records;
+    let head = desk.head;
+    let answered = desk.answered(reply, Seen::Bytes);
+    if accepts(reply) {
+        let fresh = reply.head;
+        return answered.holding(fresh, records);
+    }
+    answered.holding(head, records)
+}
+
+// The desk after a quote.
+fn taken(desk: Desk, reply: Reply) -> Desk {
+    let next = reply.head;
+    let records = desk.records;
+    let answered = desk.answered(reply, Seen::Bytes);
+    answered.holding(next, records)
+}
+
+// Makes the call of a line, where it asks for one: an opening and a quote write the tables, the others read them.
+pub fn call(
+    desk: Desk,
+    line: Line,
+    columns: &mut [u32],
+    positions: &mut [u32],
+    lower_ends: &mut [u32],
+    upper_ends: &mut [u32],
+    out: &mut [u8],
+    cells: &mut [u32],
+) -> Desk {
+    let command = line.command;
+    let n = line.numbers;
+    let head = desk.head;
+    let records = desk.records;
+    match command {
+        Command::Open => {
+            let made = by_value::open(
+                n[0],
+                n[1],
+                n[2],
+                columns,
+                positions,
+                lower_ends,
+                upper_ends,
+                records,
+            );
+            opened(desk, made)
+        }
+        Command::Quote => {
+            let quote = quoted(&n, line.count);
+            let reply = by_value::quote(
+                head,
+                quote,
+                columns,
+                positions,
+                lower_ends,
+                upper_ends,
+                records,
+                out,
+            );
+            taken(desk, reply)
+        }
+        _ => read(
+            desk,
+            line,
+            columns,
+            positions,
+            lower_ends,
+            upper_ends,
+            out,
+            cells,
+        ),
+    }
+}

@@ -1,0 +1,8 @@
+-- The laws of the crate.
+pub mod Reading
+pub mod Numbers
+pub mod Standing
+pub mod Findings
+pub mod Putting
+pub mod Settled
+pub mod Reaching

@@ -1,0 +1,270 @@
+-- What is known of a book that calls left: which rows need not be gone through, that only the places of its rows are in use, and where
+-- lower ends may name the expired position.
+use mathlib.Core.Path.{_≡_, refl, sym, ap, subst, _∙_}
+use mathlib.Core.Logic.{_⊎_, inl, inr}
+use Prim.Native.Nat.{ℕ, suc, _+_, _-_, _*_, _≤_, _<_}
+use native.Mathlib.Nat.{le-refl, mul-le-mul-right}
+use native.Mathlib.Omega.{arith}
+use mathlib.Core.Bool.{Bool, true, false, _&&_, cond}
+use mathlib.Core.List.{List, map}
+use lib.Dec.{eqb}
+use lib.ListN.{length, getD, length-map}
+use borrow.Author.Tests.{eqb-true, eqb-false, eq-eqb}
+use Rattle.lists.specs.Lists.{flat, run, between, padded}
+use Rattle.lists.proofs.Booleans.{either, clash, and-left, and-right}
+use Rattle.lists.proofs.Runs.{length-run, order}
+use Rattle.dominance.specs.Dominance.{dominates}
+use Rattle.dominance.proofs.Laws.{dominates-irreflexive, dominates-transitive}
+use Rattle.skyline.specs.Skyline.{windowStart}
+use Rattle.skyline.specs.Past.{lowerEnd, upperEnd}
+use Rattle.skyline.proofs.Ends.{NoneOrYounger, upper-spec, lower-below, upper-within}
+use Rattle.head.specs.declared.Head.{Head}
+use Rattle.head.specs.Heads.{freshHead}
+use Rattle.model.specs.Rows.{Row, Tables, rowAt, rowsIn, filled, expiring, renamed}
+use Rattle.model.specs.Reference.{Reference, unopened, quoteAt, dominatesAt, newest, rowOf, rowsOf, headOf}
+use Rattle.model.specs.Reference as reference
+use Rattle.model.specs.Book.{bookRows}
+use Rattle.model.specs.Calls.{Lent, World, Reached}
+use Rattle.model.specs.Promises.{world}
+use Rattle.model.proofs.Tables.{cells-counted}
+use Rattle.model.proofs.Torn.{window-length}
+use Rattle.model.proofs.Sound.{rows-few, rows-wide}
+use Rattle.model.proofs.Simulation.{Invariant, some-capacity, rows-read}
+use Rattle.model.proofs.Sought.{named-before-upper, named-live-on}
+use Rattle.model.proofs.Reached.{reached-by}
+use Rattle.cells.specs.Blank.{Blank}
+use Rattle.cells.proofs.Blanks.{blank-padded}
+use Rattle.finding.specs.Found.{Rows, live, over, under, retires, Sound}
+use Rattle.settling.specs.Findings.{expiredPlaces, heldRows, namedBefore}
+use Rattle.settling.specs.Settled.{Unnamed, Known}
+use Rattle.settling.proofs.Reading.{run-at}
+use Rattle.settling.proofs.Numbers.{before-none, before-live, before-upper}
+
+-- a lower end that does not name the expired position stays
+renamed-same : (g y : ℕ) → (0 < g → y ≡ g → ⊥) → renamed g y ≡ y
+unfolding renamed
+renamed-same g y n = go (eqb y g) refl
+  where
+    go : (b : Bool) → eqb y g ≡ b → cond b 0 y ≡ y
+    go true e = let z = eqb-true y g e in let w : (0 < g → ⊥) = λ k. n k z in omega (arith, w)
+    go false e = refl
+
+module _ (s : Reference) (l : Lent) (f : Invariant s l) where
+  abbrev M : ℕ
+  M = newest s
+
+  abbrev S : ℕ
+  S = windowStart M (s .capacity)
+
+  abbrev h : Head
+  h = headOf s
+
+  abbrev t : Tables
+  t = l .tables
+
+  -- as many rows as the window of N has positions
+  held-is : h .held ≡ suc M - S
+  unfolding headOf rowsOf
+  held-is = length-map (between S M) (rowOf s) ∙ window-length (s .capacity) M
+
+  -- the row at a place is the reference model's of its position
+  row-at : (i : ℕ) → i < h .held → rowAt (s .dimensions) t i ≡ rowOf s (S + i)
+  unfolding headOf rowsOf between bookRows rowsIn
+  row-at i k = run-at (rowAt (s .dimensions) t) (rowOf s) (h .held) S (suc M - S) i (rows-read s l f) k (omega (arith, held-is))
+
+  -- its columns and its ends
+  columns-at : (x : List ℕ) (i : ℕ) → i < h .held → Rattle.finding.specs.Found.rowAt (heldRows h x (t .columns) (t .upperEnds)) i ≡ quoteAt (s .quotes) (S + i)
+  unfolding Rattle.finding.specs.Found.rowAt rowAt rowOf headOf
+  columns-at x i k = ap Row.columns (row-at i k)
+
+  upper-at : (i : ℕ) → i < h .held → getD (t .upperEnds) i 0 ≡ upperEnd (reference.over s) M (S + i)
+  unfolding rowAt rowOf
+  upper-at i k = ap Row.upperEnd (row-at i k)
+
+  lower-at : (i : ℕ) → i < h .held → getD (t .lowerEnds) i 0 ≡ rowOf s (S + i) .lowerEnd
+  unfolding rowAt
+  lower-at i k = ap Row.lowerEnd (row-at i k)
+
+  -- ---- what need not be gone through
+
+  module _ (x : List ℕ) where
+    abbrev rs : Rows
+    rs = heldRows h x (t .columns) (t .upperEnds)
+
+    -- rows over the quote and under it, by their quotes
+    under-at : (i : ℕ) → i < h .held → under rs i ≡ dominates (s .dimensions) (s .directions) (quoteAt (s .quotes) (S + i)) x
+    unfolding under headOf
+    under-at i k = rw (columns-at x i k)
+
+    over-at : (i : ℕ) → i < h .held → over rs i ≡ dominates (s .dimensions) (s .directions) x (quoteAt (s .quotes) (S + i))
+    unfolding over headOf
+    over-at i k = rw (columns-at x i k)
+
+    -- the youngest row over the quote is live, since a younger one over it would be over the quote too
+    alive : (i : ℕ) → i < h .held → under rs i ≡ true → ((j : ℕ) → i < j → j < h .held → under rs j ≡ false) → live (t .upperEnds) i ≡ true
+    unfolding live dominatesAt
+    alive i k u none = rw (upper-at i k) (go (upperEnd (reference.over s) M (S + i)) (upper-spec (reference.over s) M (S + i) .named))
+      where
+        go : (y : ℕ) → NoneOrYounger (reference.over s) M (S + i) y → eqb y 0 ≡ true
+        go y (inl e) = eq-eqb y 0 e
+        go y (inr n) =
+            let j = y - S in
+            let low : i < j = omega (arith, n .0) in
+            let high : j < h .held = omega (arith, n .1, held-is) in
+            let at : S + j ≡ y = omega (arith, n .0) in
+            absurd (clash (under rs j)
+            (under-at j high ∙ rw at (dominates-transitive (s .dimensions) (s .directions) (quoteAt (s .quotes) y) (quoteAt (s .quotes) (S + i)) x (n .2) (sym (under-at i k) ∙ u)))
+            (none j low high))
+
+    -- a live row that the quote is over is younger than each row over the quote
+    younger : (i j : ℕ) → i < h .held → j < h .held → retires rs i ≡ true → under rs j ≡ true → j < i
+    unfolding retires live dominatesAt
+    younger i j k m r u = go (order j i)
+      where
+        above : dominates (s .dimensions) (s .directions) (quoteAt (s .quotes) (S + j)) (quoteAt (s .quotes) (S + i)) ≡ true
+        above =
+            dominates-transitive (s .dimensions) (s .directions) (quoteAt (s .quotes) (S + j)) x (quoteAt (s .quotes) (S + i)) (sym (under-at j m) ∙ u)
+            (sym (over-at i k) ∙ and-right (eqb (getD (t .upperEnds) i 0) 0) (over rs i) r)
+
+        free : upperEnd (reference.over s) M (S + i) ≡ 0
+        free = sym (upper-at i k) ∙ eqb-true (getD (t .upperEnds) i 0) 0 (and-left (eqb (getD (t .upperEnds) i 0) 0) (over rs i) r)
+
+        go : (j < i) ⊎ ((j ≡ i) ⊎ (i < j)) → j < i
+        go (inl w) = w
+        go (inr (inl e)) = absurd (clash _ (rw e at above) (dominates-irreflexive (s .dimensions) (s .directions) (quoteAt (s .quotes) (S + i))))
+        go (inr (inr w)) = absurd (clash _ above (upper-spec (reference.over s) M (S + i) .live free (S + j) (omega arith) (omega (arith, held-is))))
+
+    sound : (a : ℕ) → Sound rs a (h .held)
+    sound a = record { alive = λ i u k v n. alive i k v n; younger = λ i j u k r w m v. younger i j k m r v }
+
+  -- ---- where lower ends may name the expired position
+
+  abbrev g : ℕ
+  g = expiring M (s .capacity)
+
+  -- a position that expires is the first held
+  first-held : 0 < g → (g ≡ S) × (0 < h .held)
+  unfolding expiring windowStart
+  first-held z = omega (arith, held-is, some-capacity s l f)
+
+  -- lower ends from there on do not name it
+  unnamed : Unnamed g (namedBefore h (t .upperEnds)) (h .held) (t .lowerEnds)
+  unfolding headOf rowAt
+  unnamed = go (either (eqb g 0)) (either (eqb u 0))
+    where
+      u : ℕ
+      u = getD (t .upperEnds) 0 0
+
+      -- where no position expires none is named
+      none : g ≡ 0 → Unnamed g 0 (h .held) (t .lowerEnds)
+      none e = record { within = omega arith; same = λ i a b. renamed-same g (getD (t .lowerEnds) i 0) (λ z. absurd (omega arith)) }
+
+      -- rows that name it lie before its upper end
+      before : 0 < g → (u ≡ 0 → ⊥) → Unnamed g (u - g) (h .held) (t .lowerEnds)
+      before z n =
+          let first = first-held z in
+          let at : S + 0 ≡ g = omega (arith, first .0) in
+          let same : u ≡ rowOf s g .upperEnd = ap Row.upperEnd (row-at 0 (first .1) ∙ ap (rowOf s) at) in
+          record {
+            within = go' first (upper-spec (reference.over s) M (S + 0) .named) (upper-at 0 (first .1));
+            same = λ i a b. renamed-same g (getD (t .lowerEnds) i 0) (λ p e.
+                let w = named-before-upper s g (S + i) z (sym (lower-at i b) ∙ e) (rw (← same) (omega (arith, n))) in
+                omega (arith, first .0, same, w, a));
+          }
+        where
+          go' : (g ≡ S) × (0 < h .held) → NoneOrYounger (reference.over s) M (S + 0) (upperEnd (reference.over s) M (S + 0)) → u ≡ upperEnd (reference.over s) M (S + 0) → u - g ≤ h .held
+          go' first (inl e) q = omega (arith, q, e)
+          go' first (inr y) q = omega (arith, q, y .1, first .0, held-is)
+
+      go : (eqb g 0 ≡ true) ⊎ (eqb g 0 ≡ false) → (eqb u 0 ≡ true) ⊎ (eqb u 0 ≡ false) → Unnamed g (namedBefore h (t .upperEnds)) (h .held) (t .lowerEnds)
+      go (inl e) q = rw (← before-none h (t .upperEnds) refl (eqb-true g 0 e)) (none (eqb-true g 0 e))
+      go (inr e) (inl q) = rw (← before-live h (t .upperEnds) refl (eqb-false g 0 e) (eqb-true u 0 q)) (record { within = le-refl (h .held); same = λ i a b. absurd (omega arith) })
+      go (inr e) (inr q) = rw (← before-upper h (t .upperEnds) refl (eqb-false g 0 e) (eqb-false u 0 q)) (before (let z = eqb-false g 0 e in omega (arith, z)) (eqb-false u 0 q))
+
+  -- ---- the tables are filled, so zeros stand behind the rows
+
+  few : h .held ≤ h .capacity
+  unfolding headOf
+  few = rows-few s (some-capacity s l f)
+
+  blank-cells : (p : Row → ℕ) (before : List ℕ) → Blank (h .held) (h .capacity) (padded (h .capacity) (map p (rowsOf s)) before)
+  unfolding headOf
+  blank-cells p before = blank-padded (s .capacity) (length (rowsOf s)) (map p (rowsOf s)) before (omega (arith, length-map (rowsOf s) p)) few
+
+  blank-columns : Blank (h .held * h .dimensions) (h .capacity * h .dimensions) (padded (h .capacity * h .dimensions) (flat (map Row.columns (rowsOf s))) (t .columns))
+  unfolding headOf
+  blank-columns =
+      blank-padded (s .capacity * s .dimensions) (length (rowsOf s) * s .dimensions) (flat (map Row.columns (rowsOf s))) (t .columns)
+      (omega (arith, cells-counted (s .dimensions) (rowsOf s) (rows-wide s (f .wide)))) (mul-le-mul-right (s .dimensions) few)
+
+  known : Known h (h .held) (namedBefore h (t .upperEnds)) t
+  unfolding filled headOf
+  known = record {
+    held-used = le-refl (h .held);
+    used-fit = few;
+    columns = subst (λ (c : List ℕ). Blank (h .held * h .dimensions) (h .capacity * h .dimensions) c) (ap Tables.columns (f .tables)) blank-columns;
+    positions = subst (Blank (h .held) (h .capacity)) (ap Tables.positions (f .tables)) (blank-cells Row.position (t .positions));
+    lowerEnds = subst (Blank (h .held) (h .capacity)) (ap Tables.lowerEnds (f .tables)) (blank-cells Row.lowerEnd (t .lowerEnds));
+    upperEnds = subst (Blank (h .held) (h .capacity)) (ap Tables.upperEnds (f .tables)) (blank-cells Row.upperEnd (t .upperEnds));
+    unnamed = unnamed;
+  }
+
+  -- ---- lower ends of live rows name live rows
+
+  window-one : 1 ≤ S
+  unfolding windowStart
+  window-one = omega arith
+
+  live-named : (i : ℕ) → i < h .held → live (t .upperEnds) i ≡ true → S ≤ getD (t .lowerEnds) i 0 → live (t .upperEnds) (getD (t .lowerEnds) i 0 - S) ≡ true
+  unfolding live rowOf
+  live-named i k e m =
+      let q = S + i in
+      let p = getD (t .lowerEnds) i 0 in
+      let j = p - S in
+      let low : p < q = rw (lower-at i k) (lower-below (reference.over s) S q (omega (arith, one))) in
+      let high : j < h .held = omega arith in
+      let at : S + j ≡ p = omega arith in
+      let free : upperEnd (reference.over s) M q ≡ 0 = sym (upper-at i k) ∙ eqb-true (getD (t .upperEnds) i 0) 0 e in
+      rw (upper-at j high, at) (go p (upper-within (reference.over s) M p) (named-live-on s M p q (omega (arith, one)) (sym (lower-at i k)) (omega (arith, held-is)) (inl free)))
+    where
+      one : 1 ≤ S
+      one = window-one
+
+      go : (p : ℕ) → (upperEnd (reference.over s) M p ≡ 0) ⊎ ((p < upperEnd (reference.over s) M p) × (upperEnd (reference.over s) M p ≤ M))
+          → (upperEnd (reference.over s) M p ≡ 0) ⊎ (M < upperEnd (reference.over s) M p) → eqb (upperEnd (reference.over s) M p) 0 ≡ true
+      go p u (inl z) = eq-eqb (upperEnd (reference.over s) M p) 0 z
+      go p (inl z) (inr w) = eq-eqb (upperEnd (reference.over s) M p) 0 z
+      go p (inr u) (inr w) = absurd (omega (arith, u .1))
+
+-- the same, by the head
+named-of : (s : Reference) (l : Lent) → Invariant s l → (i : ℕ) → i < headOf s .held → live (l .tables .upperEnds) i ≡ true → windowStart (headOf s .newest) (headOf s .capacity) ≤ getD (l .tables .lowerEnds) i 0
+    → live (l .tables .upperEnds) (getD (l .tables .lowerEnds) i 0 - windowStart (headOf s .newest) (headOf s .capacity)) ≡ true
+unfolding headOf
+named-of s l f = live-named s l f
+
+-- before any opening no settings hold
+no-capacity : {A : Type 0} → 1 ≤ headOf unopened .capacity → A
+unfolding headOf
+no-capacity k = absurd (omega arith)
+
+-- on a book that calls left, once opened, no row need be gone through beyond the youngest live one over the quote
+pub reached-sound : {h : Head} {t : Tables} {ws : List ℕ} (x : List ℕ) → Reached (world h t ws) → 1 ≤ h .capacity → Sound (heldRows h x (t .columns) (t .upperEnds)) (expiredPlaces h) (h .held)
+reached-sound {h} {t} {ws} x =
+    reached-by (λ w. 1 ≤ w .head .capacity → Sound (heldRows (w .head) x (w .lent .tables .columns) (w .lent .tables .upperEnds)) (expiredPlaces (w .head)) (w .head .held))
+    (λ l k. no-capacity k) (λ s l f k. sound s l f x (expiredPlaces (headOf s)))
+
+-- and only the places of its rows are in use, and the rows that name the expired position lie before its upper end
+pub reached-known : {h : Head} {t : Tables} {ws : List ℕ} → Reached (world h t ws) → 1 ≤ h .capacity → Known h (h .held) (namedBefore h (t .upperEnds)) t
+reached-known {h} {t} {ws} =
+    reached-by (λ w. 1 ≤ w .head .capacity → Known (w .head) (w .head .held) (namedBefore (w .head) (w .lent .tables .upperEnds)) (w .lent .tables))
+    (λ l k. no-capacity k) (λ s l f k. known s l f)
+
+-- and the lower end of a live row, if it is held, is that of a live row
+pub reached-live : {h : Head} {t : Tables} {ws : List ℕ} → Reached (world h t ws) → 1 ≤ h .capacity → (i : ℕ) → i < h .held → live (t .upperEnds) i ≡ true
+    → windowStart (h .newest) (h .capacity) ≤ getD (t .lowerEnds) i 0 → live (t .upperEnds) (getD (t .lowerEnds) i 0 - windowStart (h .newest) (h .capacity)) ≡ true
+reached-live {h} {t} {ws} =
+    reached-by
+    (λ w.
+    1 ≤ w .head .capacity → (i : ℕ) → i < w .head .held → live (w .lent .tables .upperEnds) i ≡ true → windowStart (w .head .newest) (w .head .capacity) ≤ getD (w .lent .tables .lowerEnds) i 0
+    → live (w .lent .tables .upperEnds) (getD (w .lent .tables .lowerEnds) i 0 - windowStart (w .head .newest) (w .head .capacity)) ≡ true)
+    (λ l k. no-capacity k) (λ s l f k. named-of s l f)

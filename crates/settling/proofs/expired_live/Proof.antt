@@ -1,0 +1,20 @@
+-- `expired_live` meets its contract.
+use borrow.Author.Needs.{needs}
+use Rattle.settling.proofs.Numbers.{live-none, live-one, live-lost}
+use Rattle.settling.proofs.expired_live.Statement.{statement}
+use Rattle.settling.proofs.expired_live.Tie as tie
+
+returns : tie.Need-returns
+returns c = live-none _ (c .if1 .taken)
+
+shared-slice-read-if2 : tie.Need-shared-slice-read-if2
+shared-slice-read-if2 c = search needs
+
+returns-2 : tie.Need-returns-2
+returns-2 c = live-one _ (c .before .before .before .pre .0) (c .before .before .if1 .left) (c .if2 .taken)
+
+returns-3 : tie.Need-returns-3
+returns-3 c = live-lost _ (c .before .before .before .pre .0) (c .before .before .if1 .left) (c .if2 .left)
+
+pub expired-live-spec : {M : Type 1} → statement M
+expired-live-spec = tie.close (tie.spec returns shared-slice-read-if2 returns-2 returns-3)

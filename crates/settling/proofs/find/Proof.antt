@@ -1,0 +1,42 @@
+-- `find` meets its contract: what is found among the rows is told.
+use borrow.Author.Needs.{needs}
+use Rattle.settling.proofs.Numbers.{counts, tellable, tells}
+use Rattle.settling.proofs.find.Statement.{statement}
+use Rattle.settling.proofs.find.Tie as tie
+
+cast-d : tie.Need-cast-d
+cast-d c = search needs
+
+cast-held : tie.Need-cast-held
+cast-held c = search needs
+
+expired-places-requires : tie.Need-expired-places-requires
+expired-places-requires c κs = counts (c .before .before .before .before .before .before .pre) .2
+
+find-any-requires : tie.Need-find-any-requires
+find-any-requires c κs = (rw (c .before .expired-places .ensures) (counts (c .before .before .before .before .before .before .before .before .pre) .1), (c .before .before .before .before .before .before .before .before .pre .fits, c .before .before .before .before .before .before .before .before .pre .room))
+
+sub-tell : tie.Need-sub-tell
+sub-tell c = search needs
+
+tell-requires : tie.Need-tell-requires
+tell-requires c κs = tellable (c .before .before .before .before .before .before .before .before .before .before .before .before .pre) (c .before .before .before .before .before .expired-places .ensures) (c .before .before .before .find-any .ensures)
+
+same-length : tie.Need-same-length
+same-length c = search needs
+
+returns : tie.Need-returns
+returns c = tells (c .before .before .before .before .before .before .before .before .before .before .before .before .before .pre) (c .before .before .before .before .before .before .expired-places .ensures) (c .before .before .before .before .find-any .ensures) (c .tell .ensures)
+
+pub find-spec : {M : Type 1} → statement M
+find-spec =
+    tie.close
+    (tie.spec
+    cast-d
+    cast-held
+    expired-places-requires
+    find-any-requires
+    sub-tell
+    tell-requires
+    same-length
+    returns)

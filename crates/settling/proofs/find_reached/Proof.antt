@@ -1,0 +1,42 @@
+-- `find_reached` meets its contract: what is found among the rows is told.
+use borrow.Author.Needs.{needs}
+use Rattle.settling.proofs.Numbers.{counts, tellable, tells}
+use Rattle.settling.proofs.find_reached.Statement.{statement}
+use Rattle.settling.proofs.find_reached.Tie as tie
+
+cast-d : tie.Need-cast-d
+cast-d c = search needs
+
+cast-held : tie.Need-cast-held
+cast-held c = search needs
+
+expired-places-requires : tie.Need-expired-places-requires
+expired-places-requires c κs = counts (c .before .before .before .before .before .before .pre .0) .2
+
+find-sound-requires : tie.Need-find-sound-requires
+find-sound-requires c κs = (rw (c .before .expired-places .ensures) (counts (c .before .before .before .before .before .before .before .before .pre .0) .1), (c .before .before .before .before .before .before .before .before .pre .0 .fits, (c .before .before .before .before .before .before .before .before .pre .0 .room, rw (c .before .expired-places .ensures) (c .before .before .before .before .before .before .before .before .pre .1))))
+
+sub-tell : tie.Need-sub-tell
+sub-tell c = search needs
+
+tell-requires : tie.Need-tell-requires
+tell-requires c κs = tellable (c .before .before .before .before .before .before .before .before .before .before .before .before .pre .0) (c .before .before .before .before .before .expired-places .ensures) (c .before .before .before .find-sound .ensures)
+
+same-length : tie.Need-same-length
+same-length c = search needs
+
+returns : tie.Need-returns
+returns c = tells (c .before .before .before .before .before .before .before .before .before .before .before .before .before .pre .0) (c .before .before .before .before .before .before .expired-places .ensures) (c .before .before .before .before .find-sound .ensures) (c .tell .ensures)
+
+pub find-reached-spec : {M : Type 1} → statement M
+find-reached-spec =
+    tie.close
+    (tie.spec
+    cast-d
+    cast-held
+    expired-places-requires
+    find-sound-requires
+    sub-tell
+    tell-requires
+    same-length
+    returns)

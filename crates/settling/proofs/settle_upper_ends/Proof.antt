@@ -1,0 +1,35 @@
+-- `settle_upper_ends` meets its contract.
+use mathlib.Core.Path.{refl}
+use borrow.Author.Needs.{needs}
+use Rattle.settling.proofs.Putting.{places-below, uppers-ready, uppers-put}
+use Rattle.settling.proofs.settle_upper_ends.Statement.{statement}
+use Rattle.settling.proofs.settle_upper_ends.Tie as tie
+
+add-store-at : tie.Need-add-store-at
+add-store-at c = search needs
+
+store-at-requires : tie.Need-store-at-requires
+store-at-requires c κs = places-below (c .before .before .before .before .pre .0) (c .before .before .before .before .pre .1 .1)
+
+slice-aggregate-settle : tie.Need-slice-aggregate-settle
+slice-aggregate-settle c = search needs
+
+settle-requires : tie.Need-settle-requires
+settle-requires c κs = (uppers-ready (c .before .before .before .before .before .before .before .before .before .pre .0) (c .before .before .before .before .before .before .before .before .before .pre .1 .1) (c .before .before .before .before .store-at .ensures) (c .before .before .before .before .store-at .kept .0), refl)
+
+same-length : tie.Need-same-length
+same-length c = search needs
+
+returns : tie.Need-returns
+returns c = uppers-put (c .before .before .before .before .before .before .before .before .before .before .before .before .pre .0) (c .before .before .before .before .before .before .before .before .before .before .before .before .pre .1 .1) (c .before .before .before .before .before .before .before .store-at .ensures) (c .before .before .settle .ensures)
+
+pub settle-upper-ends-spec : {M : Type 1} → statement M
+settle-upper-ends-spec =
+    tie.close
+    (tie.spec
+    add-store-at
+    store-at-requires
+    slice-aggregate-settle
+    settle-requires
+    same-length
+    returns)

@@ -1,0 +1,219 @@
+// What a quote finds among the rows that a book holds, on shared tables, and the tables settled by it, one at a time.
+ghost use mathlib.Core.Path.{_≡_};
+ghost use Prim.Native.Nat.{_+_, _*_, _≤_, _<_};
+ghost use mathlib.Core.List.{[], _∷_};
+ghost use lib.ListN.{length, getD};
+ghost use Rattle.head.specs.Heads.{lastPosition};
+ghost use Rattle.model.specs.Rows.{expiring};
+ghost use Rattle.cells.specs.Marked.{Below};
+ghost use Rattle.finding.specs.Found.{liveIn, Sound};
+ghost use Rattle.settling.specs.Findings.{expiredPlaces, positionOf, heldRows, Findable, Tellable, told, Finds, Placed, namedBefore};
+ghost use Rattle.settling.specs.Settled.{rowsPut, lowersPut, uppersPut, Ready, Unnamed};
+use cells::enter;
+use cells::rename;
+use cells::store_at;
+use finding::find_any;
+use finding::find_sound;
+use head::Head;
+
+// What is found of a quote before anything is written: how many places expire with it, the position that does, from where on the
+// places of the retired rows are listed, the quote's lower end, and how many rows are live and held after it.
+pub struct Finding {
+    pub by: usize,
+    pub gone: u32,
+    pub at: usize,
+    pub lower: u32,
+    pub live: u32,
+    pub held: u32,
+}
+
+// How many places expire with the next quote: one where all N hold a row.
+fn expired_places(head: Head) -> usize
+    requires { ⌜ head .held ≤ head .capacity ⌝ }
+    ensures { λ r. ⌜ r ≡ expiredPlaces head ⌝ }
+{
+    if head.held < head.capacity { 0 } else { 1 }
+}
+
+// The position that expires with the next quote, or 0.
+fn expired_position(head: Head) -> u32
+    requires { ⌜ head .newest < lastPosition ⌝ }
+    ensures { λ r. ⌜ r ≡ expiring (head .newest) (head .capacity) ⌝ }
+{
+    let next = head.newest + 1;
+    if next < head.capacity {
+        return 0;
+    }
+    next - head.capacity
+}
+
+// The position of the row with this number, counted from 1; 0 stands for none.
+fn position_of(head: Head, number: usize) -> u32
+    requires { ⌜ head .held ≤ head .newest ⌝ }
+    requires { ⌜ number ≤ head .held ⌝ }
+    ensures { λ r. ⌜ r ≡ positionOf head number ⌝ }
+{
+    if number == 0 {
+        return 0;
+    }
+    head.newest - head.held + (number as u32)
+}
+
+// How many of the places that expire hold a live row.
+fn expired_live(by: usize, upper_ends: &[u32]) -> u32
+    requires { ⌜ by ≤ 1 ⌝ }
+    requires { ⌜ by ≤ length (now «upper_ends») ⌝ }
+    ensures { λ r. ⌜ r ≡ liveIn (now («upper_ends» .entry)) 0 by ⌝ }
+{
+    if by == 0 {
+        return 0;
+    }
+    if upper_ends[0] == 0 { 1 } else { 0 }
+}
+
+// What is found, from where the retired rows are listed, the number of the youngest row over the quote, and how many are retired.
+fn tell(head: Head, upper_ends: &[u32], at: usize, last: usize, retired: usize) -> Finding
+    requires { ⌜ Tellable head (now «upper_ends») last retired ⌝ }
+    ensures { λ r. ⌜ r ≡ told head (now («upper_ends» .entry)) at last retired ⌝ }
+{
+    let by = expired_places(head);
+    let gone = expired_position(head);
+    let lower = position_of(head, last);
+    let lost = expired_live(by, upper_ends) + (retired as u32);
+    Finding {
+        by,
+        gone,
+        at,
+        lower,
+        live: head.live - lost + 1,
+        held: head.held - (by as u32) + 1,
+    }
+}
+
+// Finds what a quote does to the rows of any book that is not torn, and lists the places of those that it retires.
+pub fn find(
+    head: Head,
+    quote: &[u32],
+    columns: &[u32],
+    upper_ends: &[u32],
+    places: &mut [u16],
+) -> Finding
+    requires { ⌜ Findable head (now quote) (now columns) (now «upper_ends») (now places) ⌝ }
+    ensures { λ r. ⌜ Finds head (now (quote .entry)) (now (columns .entry)) (now («upper_ends» .entry)) (now (places .exit)) r ⌝ }
+{
+    let d = head.dimensions as usize;
+    let held = head.held as usize;
+    let by = expired_places(head);
+    let found = find_any(
+        head.directions,
+        d,
+        columns,
+        upper_ends,
+        quote,
+        by,
+        held,
+        places,
+    );
+    tell(
+        head,
+        upper_ends,
+        found.at,
+        found.last,
+        places.len() - found.at,
+    )
+}
+
+// Finds the same on a book that calls left, where no row need be gone through beyond the youngest live one over the quote.
+pub fn find_reached(
+    head: Head,
+    quote: &[u32],
+    columns: &[u32],
+    upper_ends: &[u32],
+    places: &mut [u16],
+) -> Finding
+    requires { ⌜ Findable head (now quote) (now columns) (now «upper_ends») (now places) ⌝ }
+    requires { ⌜ Sound (heldRows head (now quote) (now columns) (now «upper_ends»)) (expiredPlaces head) (head .held) ⌝ }
+    ensures { λ r. ⌜ Finds head (now (quote .entry)) (now (columns .entry)) (now («upper_ends» .entry)) (now (places .exit)) r ⌝ }
+{
+    let d = head.dimensions as usize;
+    let held = head.held as usize;
+    let by = expired_places(head);
+    let found = find_sound(
+        head.directions,
+        d,
+        columns,
+        upper_ends,
+        quote,
+        by,
+        held,
+        places,
+    );
+    tell(
+        head,
+        upper_ends,
+        found.at,
+        found.last,
+        places.len() - found.at,
+    )
+}
+
+// How many places may hold a lower end that names the expired position, in a book that calls left.
+pub fn named_before(head: Head, upper_ends: &[u32]) -> usize
+    requires { ⌜ Placed head (now «upper_ends») ⌝ }
+    ensures { λ r. ⌜ r ≡ namedBefore head (now («upper_ends» .entry)) ⌝ }
+{
+    let gone = expired_position(head);
+    if gone == 0 {
+        return 0;
+    }
+    let upper = upper_ends[0];
+    if upper == 0 {
+        return head.held as usize;
+    }
+    (upper - gone) as usize
+}
+
+// Puts a row into a table of so many cells a row, behind those that are left; of its places only those below used may hold anything.
+pub fn settle(head: Head, width: usize, by: usize, row: &[u32], used: usize, cells: &mut [u32])
+    requires { ⌜ Ready head width by used (now cells) ⌝ }
+    requires { ⌜ length (now row) ≡ width ⌝ }
+    ensures { λ _. ⌜ now (cells .exit) ≡ rowsPut head width by (now (row .entry)) (now (cells .entry)) ⌝ }
+{
+    let held = head.held as usize;
+    let capacity = head.capacity as usize;
+    enter(
+        cells,
+        by * width,
+        held * width,
+        row,
+        used * width,
+        capacity * width,
+    );
+}
+
+// Settles the lower ends: those that name the expired position are among the first, so many as may, and the quote's is put behind.
+pub fn settle_lower_ends(
+    head: Head,
+    found: Finding,
+    named: usize,
+    used: usize,
+    lower_ends: &mut [u32],
+)
+    requires { ⌜ Ready head 1 (found .by) used (now «lower_ends») ⌝ }
+    requires { ⌜ Unnamed (found .gone) named (head .held) (now «lower_ends») ⌝ }
+    ensures { λ _. ⌜ now («lower_ends» .exit) ≡ lowersPut head (found .by) (found .gone) (found .lower) (now («lower_ends» .entry)) ⌝ }
+{
+    rename(lower_ends, found.gone, named);
+    settle(head, 1, found.by, &[found.lower], used, lower_ends);
+}
+
+// Settles the upper ends: those of the retired rows name the quote, and the quote has none.
+pub fn settle_upper_ends(head: Head, by: usize, places: &[u16], used: usize, upper_ends: &mut [u32])
+    requires { ⌜ Ready head 1 by used (now «upper_ends») ⌝ }
+    requires { ⌜ head .newest < lastPosition ⌝ }
+    requires { ⌜ Below (now places) (head .held) ⌝ }
+    ensures { λ _. ⌜ now («upper_ends» .exit) ≡ uppersPut head by (now (places .entry)) (now («upper_ends» .entry)) ⌝ }
+{
+    store_at(upper_ends, places, head.newest + 1);
+    settle(head, 1, by, &[0], used, upper_ends);
+}

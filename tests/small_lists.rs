@@ -1,0 +1,229 @@
+//! Small lists of calls that go through settings, n, pairs of n, counts of watches, lengths of tables and untorn books
+//! one by one, and bring the longest answer.
+
+use crate::call_lists::{List, Values, BAD_LINES};
+use crate::random::Random;
+
+/// A list with the settings given, after the lines that every list begins with.
+fn small_list(d: u32, memory: u32, directions: u32) -> List {
+    let mut list = List::new(Random::new(u64::from(d), u64::from(memory)));
+    (list.d, list.memory, list.directions, list.values) = (d, memory, directions, Values::Few(3));
+    list.open();
+    list
+}
+
+/// Past looks at every pair of n1 and n2 from 0 to N + 2.
+fn every_past(list: &mut List) {
+    let most = list.memory + 2;
+    for (n1, n2) in (0..=most).flat_map(|n1| (0..=most).map(move |n2| (n1, n2))) {
+        list.say(format!("past {n1} {n2}"));
+    }
+}
+
+/// After each of some quotes every n from 0 to N + 1 is looked at, watched, and its watch ended, and every past list
+/// looked at.
+fn every_window(d: u32, memory: u32, directions: u32) -> Vec<String> {
+    let mut list = small_list(d, memory, directions);
+    for _ in 0..memory + 3 {
+        for word in ["look", "watch", "end"] {
+            for n in 0..=memory + 1 {
+                list.say(format!("{word} {n}"));
+            }
+        }
+        every_past(&mut list);
+        list.say("audit".into());
+        list.say(format!("watch {memory}"));
+        list.tight_output();
+        list.say("show".into());
+        let quote = list.quote();
+        list.say(quote);
+    }
+    list.lines
+}
+
+/// Watches set up to a count and one more, a quote under them, and each ended, in an order that differs with the count.
+fn every_count(count: u32) -> Vec<String> {
+    let mut list = small_list(2, 12, 1);
+    for i in 0..count {
+        list.say(format!("watch {}", 1 + (5 * i + count) % 12));
+        list.say("quote 3 4".into());
+        list.tight_output();
+        list.say("show".into());
+    }
+    for i in 0..12 {
+        list.say(format!("end {}", 1 + (7 * i + count) % 12));
+        list.say("show".into());
+    }
+    list.lines
+}
+
+/// Each table in turn lent one cell too short, then just long enough, and every call under it.
+fn every_loan(d: u32, memory: u32) -> Vec<String> {
+    let mut list = small_list(d, memory, 0);
+    let zeros = |count: u32| " 0".repeat(count as usize);
+    list.say(format!("quote{}", zeros(d)));
+    for (name, asked) in [("columns", memory * d), ("positions", memory), ("lower", memory), ("upper", memory)] {
+        for length in [asked - 1, asked] {
+            list.say(format!("lend {name} {length}"));
+            for call in ["look 1", "past 1 1", "watch 1", "end 1", "audit"] {
+                list.say(call.into());
+            }
+            list.say(format!("quote{}", zeros(d)));
+            list.open();
+        }
+    }
+    list.say("show".into());
+    list.lines
+}
+
+/// Eight watches on 1,024 equal quotes, and a quote that beats them all, with an output one byte too short and in full;
+/// then the list before that quote, in as many cells as it has rows and in one less.
+fn longest_answer() -> Vec<String> {
+    let mut list = small_list(1, 1_024, 0);
+    for _ in 0..1_024 {
+        list.say("quote 5".into());
+    }
+    for n in 1_017..=1_024 {
+        list.say(format!("watch {n}"));
+    }
+    for call in ["quote 4", "past 2 1024"] {
+        let length = list.answer_length(call);
+        for less in [1, 0] {
+            list.say(format!("lend out {}", length - less));
+            list.say(call.into());
+        }
+    }
+    list.say("audit".into());
+    list.say("show".into());
+    list.lines
+}
+
+/// The marked audits of the paper: a sole row of the worst quote, of the next to the worst, and ends of two rows.
+fn marked_audits() -> Vec<String> {
+    let mut list = small_list(1, 2, 0);
+    for value in [u32::MAX, u32::MAX - 1] {
+        list.row(0, 2, 0, 0, &[value]);
+        list.head(2, 1, 1);
+        list.say("audit".into());
+    }
+    for (lower, upper) in [(0, 0), (1, 0), (2, 0), (0, 2), (1, 2)] {
+        list.row(0, 1, 0, upper, &[3]);
+        list.row(1, 2, lower, 0, &[5]);
+        for live in 0..=2 {
+            list.head(2, live, 2);
+            list.say("audit".into());
+        }
+        list.head(2, if upper == 0 { 2 } else { 1 }, 2);
+        for call in ["look 1", "look 2", "past 2 2", "past 1 2"] {
+            list.say(call.into());
+        }
+    }
+    list.lines
+}
+
+/// The ends that an untorn row can have where M is the newest position: lower and upper end.
+fn ends_of(position: u32, newest: u32) -> Vec<(u32, u32)> {
+    let uppers: Vec<u32> = std::iter::once(0).chain(position + 1..=newest).collect();
+    (0..position).flat_map(|lower| uppers.iter().map(move |&upper| (lower, upper))).collect()
+}
+
+/// The ends that the untorn rows of a window can have, in every way.
+fn every_ends(start: u32, newest: u32) -> Vec<Vec<(u32, u32)>> {
+    let mut books = vec![Vec::new()];
+    for ends in (start..=newest).map(|position| ends_of(position, newest)) {
+        let longer = |book: &Vec<_>| ends.iter().map(|&end| [&book[..], &[end]].concat()).collect::<Vec<_>>();
+        books = books.iter().flat_map(longer).collect();
+    }
+    books
+}
+
+/// An untorn book of one column with M and the ends of its rows given, each row either beating the next quote or beaten
+/// by it, under three watches; two quotes on it, with what they leave and every past list.
+fn untorn_book(newest: u32, ends: &[(u32, u32)], beating: u32) -> Vec<String> {
+    let mut list = small_list(1, 3, 0);
+    let start = newest + 1 - ends.len() as u32;
+    for (place, &(lower, upper)) in (0..).zip(ends) {
+        list.row(place, start + place, lower, upper, &[if beating >> place & 1 == 1 { 0 } else { 2 }]);
+    }
+    let live = ends.iter().filter(|&&(_, upper)| upper == 0).count() as u32;
+    list.head(newest, live, ends.len() as u32);
+    for n in 1..=3 {
+        list.say(format!("watch {n}"));
+    }
+    list.say("audit".into());
+    for _ in 0..2 {
+        list.say("quote 1".into());
+        list.say("show".into());
+        every_past(&mut list);
+    }
+    list.lines
+}
+
+/// Every untorn book of one column with N 3 and M from 2 to 4.
+fn untorn_books() -> Vec<Vec<String>> {
+    let mut lists = Vec::new();
+    for (start, newest) in [(1, 2), (1, 3), (2, 4)] {
+        for ends in every_ends(start, newest) {
+            lists.extend((0..1 << ends.len()).map(|beating| untorn_book(newest, &ends, beating)));
+        }
+    }
+    lists
+}
+
+/// A book that no tape leaves: the youngest row that beats the next quote is a retired one, the row at a place, and
+/// before it a live one or none beats it too; so many quotes on it that both age out.
+fn retired_over(memory: u32, newest: u32, place: u32, live_one: Option<u32>) -> Vec<String> {
+    let mut list = small_list(2, memory, 2);
+    let held = memory.min(newest);
+    for i in 0..held {
+        let position = newest + 1 - held + i;
+        let (upper, columns) = match i {
+            _ if i == place => (newest, [3, 7]),
+            _ if Some(i) == live_one => (0, [4, 6]),
+            _ => (0, [5, 4 + i % 2]),
+        };
+        list.row(i, position, 0, upper, &columns);
+    }
+    list.head(newest, held - 1, held);
+    list.say(format!("watch {memory}"));
+    for _ in 0..=memory {
+        list.say("quote 5 5".into());
+        list.say("show".into());
+        list.say(format!("look {memory}"));
+        list.say(format!("past 2 {memory}"));
+    }
+    list.lines
+}
+
+/// Books of that sort for small N, before and after the first row ages out.
+fn retired_overs() -> Vec<Vec<String>> {
+    let mut lists = Vec::new();
+    for memory in 2..=6 {
+        for newest in [memory - 1, memory, memory + 3] {
+            for place in 0..memory.min(newest) - 1 {
+                let live_ones = std::iter::once(None).chain((0..place).map(Some));
+                lists.extend(live_ones.map(|live_one| retired_over(memory, newest, place, live_one)));
+            }
+        }
+    }
+    lists
+}
+
+/// All small lists, and one of every sort of line that cannot be taken.
+pub fn small_lists() -> Vec<Vec<String>> {
+    let mut lists = Vec::new();
+    for d in 1..=6 {
+        for memory in 1..=5 {
+            lists.extend((0..1 << d).map(|directions| every_window(d, memory, directions)));
+            lists.push(every_loan(d, memory));
+        }
+    }
+    lists.push(every_loan(6, 1_024));
+    lists.extend((0..=9).map(every_count));
+    lists.push(BAD_LINES.iter().map(|line| line.to_string()).collect());
+    lists.push(longest_answer());
+    lists.push(marked_audits());
+    lists.extend(untorn_books());
+    lists.extend(retired_overs());
+    lists
+}
