@@ -1,11 +1,11 @@
 -- The room for the changes of a quote: whether they fit, and what is left where they do and where they do not.
 use mathlib.Core.Path.{_≡_, refl, sym, _∙_}
-use Prim.Native.Nat.{ℕ, _≤_}
+use Prim.Native.Nat.{ℕ, _+_, _≤_}
 use native.Mathlib.Omega.{arith}
 use mathlib.Core.Bool.{Bool, true, false}
 use mathlib.Core.List.{List, []}
 use lib.Dec.{ltb}
-use lib.ListN.{length}
+use lib.ListN.{length, length-append}
 use borrow.Author.Tests.{ltb-false, le-ltb}
 use Rattle.lists.specs.Lists.{laid}
 use Rattle.head.specs.declared.Head.{Head}
@@ -16,10 +16,19 @@ use Rattle.head.specs.Refusals.{number, numberOf}
 use Rattle.head.proofs.Numbers.{firstOf-holds, firstOf-fails}
 use Rattle.model.proofs.Replying.{refused-reply, refused-left, accepted-reply, accepted-left}
 use Rattle.judging.proofs.Answering.{begun}
-use Rattle.quoting.specs.Stages.{roomAnswer, Written}
+use Rattle.finding.specs.Found.{Rows}
+use Rattle.changes.specs.Watches.{allFrames}
+use Rattle.pair_changes.specs.Pairs.{pairFrames}
+use Rattle.writing.specs.Bytes.{changeBytes, roomAnswer, Written}
 
--- 57,400 bytes are room enough for no more than that
-pub room-enough : (room n : ℕ) → 57400 ≤ room → n ≤ 57400 → false ≡ ltb room n
+-- as many bytes as the watches' and the pair's
+pub bytes-length : (h : Head) (lower : ℕ) (lowers : List ℕ) (rows : Rows) (ws : List ℕ)
+    → length (changeBytes h lower lowers rows ws) ≡ length (allFrames h lowers rows lower ws) + length (pairFrames h lowers (rows .uppers))
+unfolding changeBytes
+bytes-length h lower lowers rows ws = length-append (allFrames h lowers rows lower ws) (pairFrames h lowers (rows .uppers))
+
+-- room for the most is enough for no more than that
+pub room-enough : (room n : ℕ) → 62520 ≤ room → n ≤ 62520 → false ≡ ltb room n
 room-enough room n h k = sym (le-ltb room n (omega arith))
 
 -- changes that fit are no longer than the room

@@ -1,39 +1,44 @@
--- What the stages of a quote ask and leave: what is written, and what is known of the rows.
+-- The bytes of a quote's changes: what is asked before they are counted and written, and what is left.
 use mathlib.Core.Path.{_≡_}
 use Prim.Native.Nat.{ℕ, _≤_, _<_}
 use mathlib.Core.Bool.{Bool, true, false}
-use mathlib.Core.List.{List, [], _∷_}
+use mathlib.Core.List.{List, [], _∷_, _++_}
 use lib.Dec.{ltb}
 use lib.ListN.{length}
 use Rattle.lists.specs.Lists.{laid}
+use Rattle.skyline.specs.Skyline.{windowStart}
 use Rattle.head.specs.declared.Head.{Head}
 use Rattle.head.specs.declared.Reply.{Reply}
 use Rattle.head.specs.declared.Refusal.the-variants.{ShortOutput}
 use Rattle.head.specs.Heads.{afterQuote}
 use Rattle.head.specs.Refusals.{number, firstOf, granted}
 use Rattle.head.specs.Replies.{outcome}
-use Rattle.model.specs.Rows.{Tables}
 use Rattle.model.specs.Book.{tornWatches, replyOf}
 use Rattle.finding.specs.Found.{Rows}
-use Rattle.settling.specs.Findings.{heldRows}
 use Rattle.changes.specs.Held.{LiveNamed}
 use Rattle.changes.specs.Watches.{heldIn, Full, Outdone, allFrames}
+use Rattle.pair_changes.specs.Pairs.{Sound, pairFrames, Paired}
 
--- the changes at a quote whose row has this lower end may be counted: the rows stand in their tables, and the changes are not too many
+-- the changes at a quote whose row has this lower end: those of the watches, and behind them those of the pair
+unfoldable pub changeBytes : Head → ℕ → List ℕ → Rows → List ℕ → List ℕ
+changeBytes h lower lowers rows ws = allFrames h lowers rows lower ws ++ pairFrames h lowers (rows .uppers)
+
+-- they may be counted: the rows stand in their tables, and the changes are not too many
 pub record Countable (h : Head) (lower : ℕ) (lowers : List ℕ) (rows : Rows) (ws : List ℕ) : Type 0 where
   pub untorn : tornWatches (h .capacity) ws ≡ false
   pub full : Full h lowers rows
-  pub most : length (allFrames h lowers rows lower ws) ≤ 57400
+  pub paired : Paired h lowers (rows .uppers)
+  pub most : length (changeBytes h lower lowers rows ws) ≤ 62520
 
--- and written, by the places of the rows that are retired; sound says that lower ends of live rows name live rows
-pub record Writable (h : Head) (sound : Bool) (retired lowers : List ℕ) (rows : Rows) : Type 0 where
+-- if sound, the rows' ends are as calls leave them: lower ends of live rows name live rows, and both ends fit one another
+pub record SoundIf (sound : Bool) (h : Head) (lowers : List ℕ) (rows : Rows) : Type 0 where
+  pub named : sound ≡ true → LiveNamed (heldIn h lowers rows)
+  pub ends : sound ≡ true → Sound (windowStart (h .newest) (h .capacity)) (h .held) lowers (rows .uppers)
+
+-- and written, by the places of the rows that are retired
+pub record Writable (h : Head) (retired lowers : List ℕ) (rows : Rows) : Type 0 where
   pub few : h .capacity < 65536
   pub outdone : Outdone h lowers rows retired
-  pub named : sound ≡ true → LiveNamed (heldIn h lowers rows)
-
--- if sound, lower ends of live rows of the book name live rows
-pub record SoundIf (sound : Bool) (h : Head) (x : List ℕ) (t : Tables) : Type 0 where
-  pub named : sound ≡ true → LiveNamed (heldIn h (t .lowerEnds) (heldRows h x (t .columns) (t .upperEnds)))
 
 -- the last test of a quote whose changes are these bytes, 0 if it is passed: 13
 abbrev pub roomAnswer : ℕ → List ℕ → ℕ
