@@ -54,16 +54,16 @@ use Rattle.watches.proofs.numbers.Symbol as numbers-def
 use Rattle.watches.proofs.numbers.Symbol.{name as #watches·numbers}
 use Rattle.watches.proofs.numbers.Met as numbers-thm
 use Rattle.model.specs.Promises.{tables as lent-tables, Quoted}
-use Rattle.book.proofs.Fronts.{quote-records}
-use Rattle.book.proofs.Machines.{headed, machines, spelled}
+use Rattle.shared_records.proofs.Fronts.{quote-records}
+use Rattle.shared_records.proofs.Machines.{headed, machines, spelled}
 use Rattle.lending.proofs.quote_lent as callee
 use Rattle.lending.proofs.quote_lent.Symbol as callee-def
 use Rattle.lending.proofs.quote_lent.Symbol.{name as #lending·quote-lent}
 use Rattle.lending.proofs.quote_lent.Met as callee-thm
-use Rattle.book.proofs.quote.Key.{name as #book·quote}
-use Rattle.book.proofs.quote as f
-use Rattle.book.proofs.quote.Statement as stated
-use Rattle.book.proofs.quote.Code as code
+use Rattle.shared_records.proofs.quote.Key.{name as #shared-records·quote}
+use Rattle.shared_records.proofs.quote as f
+use Rattle.shared_records.proofs.quote.Statement as stated
+use Rattle.shared_records.proofs.quote.Code as code
 
 -- what is had of each parameter at the end: of what is lent for good its last value, of the others nothing
 abbrev stayed : Stays (f.ended .signature .params) (f.ended .kept)
@@ -189,7 +189,7 @@ pub quote-spec : {M : Type 1} → stated.statement M
 unfolding code.routine tablesOf
 quote-spec 𝓤 H 𝓜 𝓖 𝓡 =
     entered 𝓤 H (tripleOf 𝓤 H (𝓖 .A) f.signature (f.spec 𝓤 H (𝓖 .A) (𝓜 .mem) (𝓡 .run)))
-    (tables 𝓤 H 𝓜 𝓡 code.env .C) (tables 𝓤 H 𝓜 𝓡 code.env .Λ) #book·quote code.function (code.unfolded 𝓤 H 𝓜 𝓡)
+    (tables 𝓤 H 𝓜 𝓡 code.env .C) (tables 𝓤 H 𝓜 𝓡 code.env .Λ) #shared-records·quote code.function (code.unfolded 𝓤 H 𝓜 𝓡)
     (quote-meets 𝓤 H (𝓖 .A) (givenOf 𝓤 H 𝓜 𝓖) (𝓜 .mem) (𝓡 .run) (tablesOf 𝓤 H 𝓜 (tables 𝓤 H 𝓜 𝓡 code.env))
     (cited 𝓤 H (Numbers 𝓤 H (𝓖 .A) (𝓜 .mem) (𝓡 .run)) 𝓜 𝓡 code.env #watches·numbers numbers-def.routine code.calls-watches·numbers (numbers-thm.met 𝓤 H 𝓜 𝓖 𝓡))
     (cited 𝓤 H (Callee 𝓤 H (𝓖 .A) (𝓜 .mem) (𝓡 .run)) 𝓜 𝓡 code.env #lending·quote-lent callee-def.routine code.calls-lending·quote-lent (callee-thm.met 𝓤 H 𝓜 𝓖 𝓡)))
