@@ -2,8 +2,8 @@
 use native.Mathlib.Omega.{arith}
 use lib.ListN.{length-take}
 use borrow.Author.Needs.{needs}
-use Rattle.player_print.proofs.flush.Statement.{statement}
-use Rattle.player_print.proofs.flush.Tie as tie
+use Rattle.player_output.proofs.flush.Statement.{statement}
+use Rattle.player_output.proofs.flush.Tie as tie
 
 slice-aggregate-put-out : tie.Need-slice-aggregate-put-out
 slice-aggregate-put-out c = simp length-take (omega arith)

@@ -3,8 +3,8 @@ use mathlib.Core.Path.{_≡_}
 use Prim.Native.Nat.{_-_}
 use lib.ListN.{length}
 use borrow.Author.Needs.{needs}
-use Rattle.player_print.proofs.put_word.Statement.{statement}
-use Rattle.player_print.proofs.put_word.Tie as tie
+use Rattle.player_output.proofs.put_word.Statement.{statement}
+use Rattle.player_output.proofs.put_word.Tie as tie
 
 abbrev Inv-loop : tie.InvT-loop
 Inv-loop word gathered₀ now₀ i₀ gathered now i = length gathered ≡ length gathered₀

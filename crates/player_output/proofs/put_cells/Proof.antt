@@ -1,16 +1,16 @@
--- `put_bytes` meets its contract: it goes through the bytes.
+-- `put_cells` meets its contract: it goes through the cells.
 use mathlib.Core.Path.{_≡_}
 use Prim.Native.Nat.{_-_}
 use lib.ListN.{length}
 use borrow.Author.Needs.{needs}
-use Rattle.player_print.proofs.put_bytes.Statement.{statement}
-use Rattle.player_print.proofs.put_bytes.Tie as tie
+use Rattle.player_output.proofs.put_cells.Statement.{statement}
+use Rattle.player_output.proofs.put_cells.Tie as tie
 
 abbrev Inv-loop : tie.InvT-loop
-Inv-loop bytes count gathered₀ now₀ i₀ gathered now i = length gathered ≡ length gathered₀
+Inv-loop letter cells count gathered₀ now₀ i₀ gathered now i = length gathered ≡ length gathered₀
 
 abbrev μ-loop : tie.MeasureT-loop
-μ-loop bytes count gathered₀ now₀ i₀ gathered now i = length bytes - i
+μ-loop letter cells count gathered₀ now₀ i₀ gathered now i = length cells - i
 
 put-byte-requires : tie.Need-put-byte-requires Inv-loop μ-loop
 put-byte-requires c κs = search needs
@@ -18,11 +18,11 @@ put-byte-requires c κs = search needs
 loop-holds : tie.Need-loop-holds Inv-loop μ-loop
 loop-holds c = search needs
 
-shared-slice-read-wide : tie.Need-shared-slice-read-wide Inv-loop μ-loop
-shared-slice-read-wide c = search needs
+mul-put-field : tie.Need-mul-put-field Inv-loop μ-loop
+mul-put-field c = search needs
 
-wide-requires : tie.Need-wide-requires Inv-loop μ-loop
-wide-requires c κs = search needs
+shared-slice-read-put-field : tie.Need-shared-slice-read-put-field Inv-loop μ-loop
+shared-slice-read-put-field c = search needs
 
 put-field-requires : tie.Need-put-field-requires Inv-loop μ-loop
 put-field-requires c κs = search needs
@@ -45,16 +45,16 @@ same-length c = search needs
 returns : tie.Need-returns Inv-loop μ-loop
 returns c = search needs
 
-pub put-bytes-spec : {M : Type 1} → statement M
-put-bytes-spec =
+pub put-cells-spec : {M : Type 1} → statement M
+put-cells-spec =
     tie.close
     (tie.spec
     Inv-loop
     μ-loop
     put-byte-requires
     loop-holds
-    shared-slice-read-wide
-    wide-requires
+    mul-put-field
+    shared-slice-read-put-field
     put-field-requires
     add-i
     loop-less
