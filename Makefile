@@ -12,8 +12,10 @@ SEED ?= 1
 TAPES ?= 20000
 LISTS ?= 20000
 RUNS ?= 9
-PLANTS := equal oldest window kept misprint upper
-CALL_PLANTS := renamed torn-first past-memory early live-lower overwritten retired-lower fourteen-first live-zeros upper-free
+PLANTS := equal oldest window kept misprint upper pair-first nine-first pair-end
+CALL_PLANTS := renamed torn-first past-memory early live-lower overwritten retired-lower fourteen-first live-zeros upper-free \
+  pair-first nine-first pair-end due-equal due-cells blind-look audit-pair
+RULE_PLANTS := upper-free pair-end due-equal
 SAMPLES := $(basename $(wildcard tapes/*.txt))
 RUSTC := rustc --edition 2021 -O -D warnings
 
@@ -41,19 +43,21 @@ random: build/plain_model $(PRINTER)
 random-calls: build/random_calls $(PLAYER)
 	@build/random_calls $(PLAYER) $(SEED) $(LISTS)
 
-# the audit's plain rules, as that model has them, against every tape of small settings
+# the audit's plain rules, lists and what is due, as that model has them, against every tape of small settings
 rules: build/random_calls
 	@build/random_calls --rules
 
 # a model with a bug planted must not agree with the printer, the player or the tapes
 plants: build/plain_model build/random_calls $(PRINTER) $(PLAYER)
 	@for plant in $(PLANTS); do \
-	  tests/planted.sh $$plant 'the prints differ' build/plain_model --plant $$plant $(PRINTER) $(SEED) 1000; \
+	  tests/planted.sh tapes-$$plant 'the prints differ' build/plain_model --plant $$plant $(PRINTER) $(SEED) 1000; \
 	done
 	@for plant in $(CALL_PLANTS); do \
-	  tests/planted.sh $$plant 'the answers differ' build/random_calls --plant $$plant $(PLAYER) $(SEED) 1000; \
+	  tests/planted.sh calls-$$plant 'the answers differ' build/random_calls --plant $$plant $(PLAYER) $(SEED) 1000; \
 	done
-	@tests/planted.sh upper-free-rules 'the rules differ' build/random_calls --plant upper-free --rules
+	@for plant in $(RULE_PLANTS); do \
+	  tests/planted.sh rules-$$plant 'the rules differ' build/random_calls --plant $$plant --rules; \
+	done
 
 # the yardstick of make bench against the plain model, without the judgement and with it
 yardstick: build/plain_model build/yardstick

@@ -1,5 +1,5 @@
-//! Measures printers of tapes, and what a user would pick instead, on the same tapes in one run, and prints one table; then what it costs
-//! to move the rows of full tables down at each quote, and nothing else, in another.
+//! Measures printers of tapes, and what a user would pick instead, on the same tapes in one run, and prints one table; then what a watched
+//! pair adds, and what it costs to move the rows of full tables down at each quote, and nothing else, in two others.
 //!
 //! usage: bench PRINTER [RUNS]     PRINTER is ours; the other programs stand in build/, and so do the tapes made here
 
@@ -28,12 +28,13 @@ const SHORT: usize = 512;
 /// The quotes that moves alone are timed on.
 const MOVES: usize = 200_000;
 
-/// A tape's shape, memory and number of quotes.
+/// A tape's shape, memory and number of quotes, and whether a pair is watched.
 #[derive(Clone, Copy)]
 struct Tape {
     shape: &'static str,
     memory: usize,
     quotes: usize,
+    paired: bool,
 }
 
 impl Tape {
@@ -44,7 +45,7 @@ impl Tape {
 
     /// The file that holds it.
     fn path(self) -> String {
-        format!("{FOLDER}/{}_{}_{}.tape", self.shape, self.memory, self.quotes)
+        format!("{FOLDER}/{}{}_{}_{}.tape", self.shape, if self.paired { "_pair" } else { "" }, self.memory, self.quotes)
     }
 
     /// Makes its file, and opens it.
@@ -52,7 +53,8 @@ impl Tape {
         if !std::path::Path::new(&self.path()).exists() {
             let file = File::create(self.path()).expect("a tape is made");
             let numbers = [self.quotes.to_string(), self.memory.to_string()];
-            let made = Command::new(MAKER).arg(self.shape).args(numbers).stdout(file).status();
+            let pair = self.paired.then_some("--pair");
+            let made = Command::new(MAKER).args(pair).arg(self.shape).args(numbers).stdout(file).status();
             assert!(made.expect("the maker of tapes runs").success());
         }
         File::open(self.path()).expect("a tape is opened")
@@ -246,6 +248,23 @@ impl Row {
     }
 }
 
+/// The table of what a watched pair adds to a quote's instructions, for the longest memory.
+fn print_pairs(ours: &str) {
+    println!();
+    println!("| a watched pair, instr | ours without | with | x | yardstick without | with | x |");
+    println!("|{}", "---|".repeat(7));
+    for shape in SHAPES {
+        let tape = Tape { shape, memory: MEMORIES[0], quotes: QUOTES, paired: true };
+        compare_prints(ours, tape);
+        let counts = [&[ours][..], YARDSTICK].map(|printer| {
+            let count = |paired| instructions_a_quote(printer, Tape { paired, ..tape });
+            let (without, with) = (count(false), count(true));
+            format!("{} | {}", without.map_or("-".to_string(), number), beside(with, without.unwrap_or(f64::NAN)))
+        });
+        println!("| {shape} | {} |", counts.join(" | "));
+    }
+}
+
 /// The table of moves alone.
 fn print_moves(runs: usize) {
     println!();
@@ -286,7 +305,7 @@ fn main() {
     let runs = arguments.next().map_or(9, |s| s.parse().expect("a number of runs"));
     let _ = std::fs::remove_dir_all(FOLDER);
     std::fs::create_dir_all(FOLDER).expect("a folder for the tapes is made");
-    let of_shape = |shape| MEMORIES.map(|memory| Tape { shape, memory, quotes: QUOTES });
+    let of_shape = |shape| MEMORIES.map(|memory| Tape { shape, memory, quotes: QUOTES, paired: false });
     let tapes: Vec<Tape> = SHAPES.into_iter().flat_map(of_shape).collect();
     for &tape in &tapes {
         compare_prints(&ours, tape);
@@ -303,6 +322,7 @@ fn main() {
         row.print();
         rows.push(row);
     }
+    print_pairs(&ours);
     print_moves(runs);
     notes(&rows, runs);
 }

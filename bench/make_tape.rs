@@ -1,6 +1,6 @@
-//! Makes a tape to measure with: an opening, eight watches, then quotes of one shape.
+//! Makes a tape to measure with: an opening, eight watches, with --pair a watched pair, then quotes of one shape.
 //!
-//! usage: make_tape uniform|frontier|drift|duplicates QUOTES [MEMORY [SEED]] > TAPE
+//! usage: make_tape [--pair] uniform|frontier|drift|duplicates QUOTES [MEMORY [SEED]] > TAPE
 
 #[path = "../tests/frames.rs"]
 mod frames;
@@ -12,6 +12,10 @@ use std::io::Write;
 
 /// The watched n for a memory of 1,024; for a shorter one they shrink with it.
 const WATCHED: [u32; 8] = [1_024, 900, 700, 500, 300, 100, 50, 10];
+/// The kind of a frame that sets the pair.
+const SETS_PAIR: u8 = 21;
+/// The pair, likewise.
+const PAIR: [u32; 2] = [100, 900];
 /// So many quotes after each other drift up, then as many down.
 const DRIFT: u32 = 2_000;
 
@@ -76,13 +80,20 @@ fn drift(r: &mut Random, step: u32) -> Vec<u32> {
 }
 
 /// The whole tape.
-fn tape_of(shape: Shape, quotes: u32, memory: u16, seed: u64) -> Vec<u8> {
+fn tape_of(shape: Shape, paired: bool, quotes: u32, memory: u16, seed: u64) -> Vec<u8> {
     let mut r = Random::new(seed, 0);
     let mut tape = Vec::new();
     let (d, directions) = shape.settings();
     frames::open(&mut tape, d, memory, directions);
+    let scaled = |n: u32| n * u32::from(memory) / WATCHED[0];
     for n in WATCHED {
-        frames::watch(&mut tape, (n * u32::from(memory) / WATCHED[0]).max(1) as u16);
+        frames::watch(&mut tape, scaled(n).max(1) as u16);
+    }
+    if paired {
+        tape.push(SETS_PAIR);
+        for n in PAIR {
+            tape.extend((scaled(n).max(2) as u16).to_le_bytes());
+        }
     }
     for step in 0..quotes {
         frames::quote(&mut tape, &shape.quote(&mut r, step));
@@ -91,10 +102,11 @@ fn tape_of(shape: Shape, quotes: u32, memory: u16, seed: u64) -> Vec<u8> {
 }
 
 fn main() {
-    let mut arguments = std::env::args().skip(1);
-    let shape = Shape::named(&arguments.next().expect("usage: make_tape SHAPE QUOTES [MEMORY [SEED]]"));
+    let mut arguments = std::env::args().skip(1).peekable();
+    let paired = arguments.next_if(|word| word == "--pair").is_some();
+    let shape = Shape::named(&arguments.next().expect("usage: make_tape [--pair] SHAPE QUOTES [MEMORY [SEED]]"));
     let quotes = arguments.next().expect("the number of quotes").parse().expect("a number of quotes");
     let memory = arguments.next().map_or(1_024, |s| s.parse().expect("a memory"));
     let seed = arguments.next().map_or(1, |s| s.parse().expect("a seed"));
-    std::io::stdout().write_all(&tape_of(shape, quotes, memory, seed)).expect("the tape is written");
+    std::io::stdout().write_all(&tape_of(shape, paired, quotes, memory, seed)).expect("the tape is written");
 }

@@ -2,7 +2,7 @@
 
 use std::io::{self, Write};
 
-/// The most bytes that one frame prints: a line of a quote and 1,025 changes of each of eight watches, 16 bytes each.
+/// The most bytes that one frame prints: a line of a quote, 1,025 changes of each of eight watches, and 1,024 of the pair.
 const LONGEST: usize = 256 << 10;
 /// So many bytes are gathered before they are written out.
 const PIECE: usize = 64 << 10;
@@ -71,6 +71,14 @@ impl Print {
         let end = second_at + second.length;
         line[end] = b'\n';
         self.at += end + 1;
+    }
+
+    /// A line of a sign, twice, and a field.
+    pub fn twice(&mut self, sign: u8, field: &Field) {
+        self.byte(sign);
+        self.byte(sign);
+        self.field(field);
+        self.byte(b'\n');
     }
 
     /// The line of a refusal.

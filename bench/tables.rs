@@ -108,6 +108,32 @@ fn block(cells: &[u32], from: usize) -> &[u32; BLOCK] {
     cells[from..from + BLOCK].try_into().unwrap()
 }
 
+/// The first block of 64 places from one on, before an end, that has a value: its place and the bits of those that have it, which may all
+/// stand behind the end.
+fn next_block(cells: &[u32], mut from: usize, end: usize, value: u32) -> Option<(usize, u64)> {
+    while from < end {
+        let bits = equal(block(cells, from), value);
+        if bits != 0 {
+            let within = u64::MAX >> BLOCK.saturating_sub(end - from);
+            return Some((from, bits & within));
+        }
+        from += BLOCK;
+    }
+    None
+}
+
+/// Calls back with each of some places of a table that has a value, rising.
+pub fn places_of(cells: &[u32], places: Range<usize>, value: u32, mut call: impl FnMut(usize)) {
+    let mut from = places.start;
+    while let Some((block, mut bits)) = next_block(cells, from, places.end, value) {
+        while bits != 0 {
+            call(block + bits.trailing_zeros() as usize);
+            bits &= bits - 1;
+        }
+        from = block + BLOCK;
+    }
+}
+
 /// The place of the highest bit of a number that is not 0.
 fn highest(bits: u64) -> usize {
     63 - bits.leading_zeros() as usize
@@ -227,46 +253,26 @@ impl Tables {
         unlike != 0 || signs >> 31 != 0 || below >> 31 != 1 || zeros != live
     }
 
-    /// The first block of 64 places from one on, before an end, that has a lower end: its place and the bits of those that have it, which
-    /// may all stand behind the end.
-    fn lower_ends_from(&self, mut from: usize, end: usize, lower_end: u32) -> Option<(usize, u64)> {
-        while from < end {
-            let bits = equal(block(&self.lower_ends, from), lower_end);
-            if bits != 0 {
-                let within = u64::MAX >> BLOCK.saturating_sub(end - from);
-                return Some((from, bits & within));
-            }
-            from += BLOCK;
-        }
-        None
-    }
-
     /// Calls back with the place of each live row of some that has a lower end, rising.
     pub fn with_lower_end(&self, rows: Range<usize>, lower_end: u32, mut call: impl FnMut(usize)) {
-        let mut from = rows.start;
-        while let Some((block, mut bits)) = self.lower_ends_from(from, rows.end, lower_end) {
-            while bits != 0 {
-                let place = block + bits.trailing_zeros() as usize;
-                bits &= bits - 1;
-                if self.upper_ends[place] == 0 {
-                    call(place);
-                }
+        places_of(&self.lower_ends, rows, lower_end, |place| {
+            if self.upper_ends[place] == 0 {
+                call(place);
             }
-            from = block + BLOCK;
-        }
+        });
     }
 
     /// The rows among which the lower ends stand that name the first position, from the block of the first one on; they stand before the
     /// upper end of the first position's row.
     pub fn named_first(&self, held: usize) -> Range<usize> {
         let end = if self.upper_ends[0] == 0 { held } else { held.min((self.upper_ends[0] - self.positions[0]) as usize) };
-        self.lower_ends_from(1, end, self.positions[0]).map_or(end, |(block, _)| block)..end
+        next_block(&self.lower_ends, 1, end, self.positions[0]).map_or(end, |(block, _)| block)..end
     }
 
     /// The first position leaves: lower ends that name it, among some rows, become 0, and all rows move down.
     pub fn expire(&mut self, d: usize, held: usize, named: Range<usize>) {
         let mut from = named.start;
-        while let Some((block, mut bits)) = self.lower_ends_from(from, named.end, self.positions[0]) {
+        while let Some((block, mut bits)) = next_block(&self.lower_ends, from, named.end, self.positions[0]) {
             while bits != 0 {
                 self.lower_ends[block + bits.trailing_zeros() as usize] = 0;
                 bits &= bits - 1;

@@ -9,7 +9,7 @@ mod tables;
 use print::{Field, Print};
 use std::io::{self, Read};
 use std::ops::Range;
-use tables::{Quote, Retired, Tables, CAPACITY};
+use tables::{places_of, Quote, Retired, Tables, CAPACITY};
 
 const LAST_POSITION: u32 = 16_777_215;
 const RECORDS: usize = 8;
@@ -33,7 +33,7 @@ struct New {
     named: Range<usize>,
 }
 
-/// The book: the head, the tables and the watches, n rising.
+/// The book: the head, the tables, the watches, n rising, and the watched pair.
 struct Book {
     judged: bool,
     opened: bool,
@@ -45,6 +45,7 @@ struct Book {
     live: u32,
     tables: Tables,
     watches: Vec<Watch>,
+    pair: Option<(u32, u32)>,
     retired: Retired,
 }
 
@@ -66,6 +67,7 @@ impl Book {
             live: 0,
             tables: Tables::new(),
             watches: Vec::with_capacity(RECORDS),
+            pair: None,
             retired: Retired::new(),
         }
     }
@@ -104,7 +106,8 @@ impl Book {
     fn torn(&self) -> bool {
         let rising = self.watches.windows(2).all(|pair| pair[0].n < pair[1].n);
         let within = self.watches.first().map_or(true, |w| w.n > 0) && self.watches.last().map_or(true, |w| w.n <= self.memory);
-        !(rising && within) || self.newest > LAST_POSITION || self.tables.torn(self.first(), self.newest, self.held(), self.live)
+        let paired = self.pair.map_or(true, |(n1, n2)| 2 <= n1 && n1 <= n2 && n2 <= self.memory);
+        !(rising && within && paired) || self.newest > LAST_POSITION || self.tables.torn(self.first(), self.newest, self.held(), self.live)
     }
 
     /// An opening.
@@ -158,6 +161,9 @@ impl Book {
         for watch in &self.watches {
             self.changes(watch, &new, print);
         }
+        if let Some((n1, n2)) = self.pair {
+            self.pair_changes(n1, n2, &new, print);
+        }
         if expires {
             self.tables.expire(self.d, held, new.named);
         }
@@ -190,6 +196,39 @@ impl Book {
         }
         if new.lower < after {
             print.pair(b'+', &watch.field, &new.field);
+        }
+    }
+
+    /// The changes of the pair: the row at the window's old start leaves, and rows whose upper end is its new end, which lie behind that
+    /// row's lower end; rows whose lower end is the old start join, which are there only if the row at it was listed, and the row at the
+    /// new end. Upper ends that name the new quote are above both ends.
+    fn pair_changes(&self, n1: u32, n2: u32, new: &New, print: &mut Print) {
+        let (tables, newest) = (&self.tables, self.newest);
+        let (a, b) = (window_start(newest, n2), (newest + 1).saturating_sub(n1));
+        let (start, end) = (window_start(newest + 1, n2), (newest + 2).saturating_sub(n1));
+        let place = |p: u32| (p - new.first) as usize;
+        let open = |place: usize, end: u32| tables.upper_ends[place] == 0 || tables.upper_ends[place] > end;
+        let left = start > a && a <= b && open(place(a), b);
+        if left {
+            print.twice(b'-', &Field::new(a));
+        }
+        if end > b {
+            let from = start.max(tables.lower_ends[place(end)] + 1);
+            places_of(&tables.upper_ends, place(from)..place(end), end, |place| {
+                if tables.lower_ends[place] < a {
+                    print.twice(b'-', &Field::new(new.first + place as u32));
+                }
+            });
+        }
+        if left {
+            places_of(&tables.lower_ends, place(start)..place(b + 1), a, |place| {
+                if open(place, end) {
+                    print.twice(b'+', &Field::new(new.first + place as u32));
+                }
+            });
+        }
+        if end > b && tables.lower_ends[place(end)] < start {
+            print.twice(b'+', &Field::new(end));
         }
     }
 
@@ -254,6 +293,29 @@ impl Book {
         self.watches.insert(at, Watch { n, field });
     }
 
+    /// The pair set, with its joins.
+    fn set_pair(&mut self, n1: u32, n2: u32, print: &mut Print) {
+        let refusal = self.unfit().or(if n1 < 2 || n2 > self.memory { Some(5) } else { None });
+        let refusal = refusal.or(if n1 > n2 { Some(14) } else { None });
+        if let Some(number) = refusal.or(self.pair.map(|_| 9)) {
+            return print.refuse(number);
+        }
+        print.line(b'B', &[n1, n2]);
+        for p in self.listed(window_start(self.newest, n2), (self.newest + 1).saturating_sub(n1)) {
+            print.twice(b'+', &Field::new(p));
+        }
+        self.pair = Some((n1, n2));
+    }
+
+    /// The pair ended.
+    fn end_pair(&mut self, print: &mut Print) {
+        match (self.unfit(), self.pair.take()) {
+            (Some(number), _) => print.refuse(number),
+            (None, None) => print.refuse(10),
+            (None, Some(_)) => print.line(b'E', &[]),
+        }
+    }
+
     /// The watch of n ended.
     fn end(&mut self, n: u32, print: &mut Print) {
         let found = self.watches.iter().position(|w| w.n == n);
@@ -273,7 +335,8 @@ fn body_length(kind: u8) -> Option<usize> {
     match kind {
         1..=6 => Some(4 * usize::from(kind)),
         16..=18 => Some(2),
-        23 | 48 => Some(4),
+        22 => Some(0),
+        21 | 23 | 36 | 37 | 48 => Some(4),
         32 | 33 => Some(6),
         _ => None,
     }
@@ -293,6 +356,8 @@ fn play(book: &mut Book, kind: u8, body: &[u8], print: &mut Print) {
         16 => book.look(number(0), print),
         17 => book.watch(number(0), print),
         18 => book.end(number(0), print),
+        21 => book.set_pair(number(0), number(2), print),
+        22 => book.end_pair(print),
         23 => book.past(number(0), number(2), print),
         48 => book.open(body[0], number(1) as u16, body[3], print),
         _ => print.refuse(7),

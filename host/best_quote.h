@@ -15,9 +15,13 @@
      16       2            look: the list of n
      17       2            watch n
      18       2            end the watch of n
-     23       4            past look: n1 (2), n2 (2)
+     21       4            watch the pair n1 (2), n2 (2)
+     22       0            end the watch of the pair
+     23       4            past look: the past list of n1 (2), n2 (2)
      32       6            change: n (2), position (4) leaves
      33       6            change: n (2), position (4) joins
+     36       4            change of the pair: position (4) leaves
+     37       4            change of the pair: position (4) joins
      48       4            open: d (1), N (2), directions (1)                                    */
 #ifndef BEST_QUOTE_H
 #define BEST_QUOTE_H

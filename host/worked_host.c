@@ -39,7 +39,8 @@ static size_t body_length(int kind) {
     if (1 <= kind && kind <= 6) return 4 * (size_t)kind;
     if (16 <= kind && kind <= 18) return 2;
     if (kind == 32 || kind == 33) return 6;
-    if (kind == 23 || kind == 48) return 4;
+    if (kind == 22) return 0;
+    if (kind == 21 || kind == 23 || kind == 36 || kind == 37 || kind == 48) return 4;
     return 255;
 }
 

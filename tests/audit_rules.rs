@@ -2,17 +2,8 @@
 //! looks against the definitions of rows and lists, by trying every tape of small settings.
 
 use crate::call_model::{Head, Model, Plant};
+use crate::definitions::{each_way, fields, Cells, Settings};
 use std::collections::HashSet;
-use std::ops::Range;
-
-/// The settings of a book, and the values that its columns take.
-#[derive(Clone, Copy)]
-struct Settings {
-    d: usize,
-    memory: usize,
-    directions: u32,
-    values: &'static [u32],
-}
 
 /// Which books are tried beside those that tapes leave.
 #[derive(Clone, Copy)]
@@ -25,10 +16,6 @@ enum Tried {
     OneOff,
 }
 
-/// The quotes of a tape, columns behind columns; or a book: live and held count, then the N places of columns,
-/// positions, lower ends and upper ends.
-type Cells = Vec<u32>;
-
 /// How many books were compared, how many of them tapes leave, and how many of these have a retired row.
 #[derive(Default)]
 struct Compared {
@@ -38,49 +25,11 @@ struct Compared {
 }
 
 impl Settings {
-    /// Whether the quote with one index beats the one with another.
-    fn beats(self, quotes: &[u32], i: usize, j: usize) -> bool {
-        let better = |i: usize, j: usize, column: usize| {
-            let (x, y) = (quotes[i * self.d + column], quotes[j * self.d + column]);
-            if self.directions >> column & 1 == 1 {
-                x > y
-            } else {
-                x < y
-            }
-        };
-        (0..self.d).all(|column| !better(j, i, column)) && (0..self.d).any(|column| better(i, j, column))
-    }
-
-    /// The positions of a range of quotes that no quote of that range beats.
-    fn unbeaten(self, quotes: &[u32], range: Range<usize>) -> Vec<u32> {
-        let beaten = |i: usize| range.clone().any(|j| self.beats(quotes, j, i));
-        range.clone().filter(|&i| !beaten(i)).map(|i| i as u32 + 1).collect()
-    }
-
-    /// What a tape leaves, by the definitions of rows and their ends, with zeros behind them.
-    fn left_by(self, quotes: &[u32]) -> Cells {
-        let newest = quotes.len() / self.d;
-        let window = newest.saturating_sub(self.memory)..newest;
-        let position = |index: Option<usize>| index.map_or(0, |i| i as u32 + 1);
-        let lower = |i: usize| position((window.start..i).rev().find(|&j| self.beats(quotes, j, i)));
-        let upper = |i: usize| position((i + 1..newest).find(|&j| self.beats(quotes, j, i)));
-        let filled = |cell: &dyn Fn(usize) -> u32| {
-            let mut cells: Cells = window.clone().map(cell).collect();
-            cells.resize(self.memory, 0);
-            cells
-        };
-        let mut columns = quotes[window.start * self.d..].to_vec();
-        columns.resize(self.memory * self.d, 0);
-        let live = window.clone().filter(|&i| upper(i) == 0).count() as u32;
-        let counts = vec![live, window.len() as u32];
-        [counts, columns, filled(&|i| i as u32 + 1), filled(&lower), filled(&upper)].concat()
-    }
-
     /// Puts a book of M quotes into a model.
     fn put(self, model: &mut Model, newest: u32, cells: &[u32]) {
         let (n, d) = (self.memory, self.d as u32);
-        let (live, held) = (cells[0], cells[1]);
-        model.head = Head { d, memory: n as u32, directions: self.directions, newest, live, held };
+        let (memory, directions, live, held) = (n as u32, self.directions, cells[0], cells[1]);
+        model.head = Head { d, memory, directions, newest, live, held, pair: (0, 0) };
         let (columns, ends) = cells[2..].split_at(n * self.d);
         model.columns[..columns.len()].copy_from_slice(columns);
         model.positions[..n].copy_from_slice(&ends[..n]);
@@ -102,11 +51,9 @@ impl Settings {
             model.play(&call, &mut print);
             print.lines().nth(1).unwrap_or("X") == format!("X{}", fields(list))
         };
-        let since = |n: usize| newest.saturating_sub(n);
-        let listed = (1..=n).all(|n| alike(format!("look {n}"), &self.unbeaten(quotes, since(n)..newest)));
-        let closed = |n1: usize, n2: usize| self.unbeaten(quotes, since(n2)..(newest + 1).saturating_sub(n1));
+        let listed = (1..=n).all(|n| alike(format!("look {n}"), &self.list(quotes, newest, n)));
         let mut pairs = (1..=n).flat_map(|n1| (n1..=n).map(move |n2| (n1, n2)));
-        let past = pairs.all(|(n1, n2)| alike(format!("past {n1} {n2}"), &closed(n1, n2)));
+        let past = pairs.all(|(n1, n2)| alike(format!("past {n1} {n2}"), &self.past_list(quotes, newest, n1, n2)));
         let counts = [model.head.live, model.head.held];
         let ends = [&model.positions[..n], &model.lower[..n], &model.upper[..n]].concat();
         let cells = [&counts[..], &model.columns[..n * self.d], &ends].concat();
@@ -149,19 +96,9 @@ impl Settings {
         }
     }
 
-    /// Every tape of M quotes.
-    fn tapes(self, newest: u32) -> Vec<Cells> {
-        let mut tapes = Vec::new();
-        each_way(&vec![self.values.to_vec(); newest as usize * self.d], |tape| {
-            tapes.push(tape.clone());
-            true
-        });
-        tapes
-    }
-
     /// Compares the audit with the tapes on books of M quotes; a message if they differ.
     fn compare(self, plant: Plant, newest: u32, tried: Tried, compared: &mut Compared) -> Result<(), String> {
-        let tapes = self.tapes(newest);
+        let tapes = self.tapes(newest as usize);
         if let Some(tape) = tapes.iter().find(|tape| !self.called_alike(plant, tape)) {
             return Err(format!("the calls of the tape {tape:?} leave another book or list than the definitions"));
         }
@@ -188,11 +125,6 @@ impl Settings {
     }
 }
 
-/// Numbers with a space before each.
-fn fields(numbers: &[u32]) -> String {
-    numbers.iter().map(|number| format!(" {number}")).collect()
-}
-
 /// Calls a function on every book that has another value in one cell of a book that a tape leaves, as long as it says
 /// to go on.
 fn each_one_off(choices: &[Vec<u32>], left: &HashSet<Cells>, mut go_on: impl FnMut(&Cells) -> bool) {
@@ -204,22 +136,6 @@ fn each_one_off(choices: &[Vec<u32>], left: &HashSet<Cells>, mut go_on: impl FnM
             if !go_on(&cells) {
                 return;
             }
-        }
-    }
-}
-
-/// Calls a function on every way of choosing one of each of some lists, as long as it says to go on.
-fn each_way(choices: &[Vec<u32>], mut go_on: impl FnMut(&Cells) -> bool) {
-    let mut chosen = vec![0; choices.len()];
-    let mut cells: Cells = choices.iter().map(|choice| choice[0]).collect();
-    while go_on(&cells) {
-        let Some(i) = (0..choices.len()).find(|&i| chosen[i] + 1 < choices[i].len()) else {
-            return;
-        };
-        chosen[..i].fill(0);
-        chosen[i] += 1;
-        for j in 0..=i {
-            cells[j] = choices[j][chosen[j]];
         }
     }
 }

@@ -25,7 +25,7 @@ const EDGES: [u32; 16] = [
 ];
 
 /// Lines that cannot be taken.
-pub const BAD_LINES: [&str; 23] = [
+pub const BAD_LINES: [&str; 29] = [
     "",
     "quoted 1",
     "open 1 2",
@@ -35,15 +35,21 @@ pub const BAD_LINES: [&str; 23] = [
     "past 1",
     "past 1 2 3",
     "past 1 x",
+    "pair 2",
+    "pair 2 3 4",
+    "pair x 3",
+    "unpair 1",
+    "due 1",
     "watch x",
     "end -1",
     "audit 1",
     "look 4294967296",
-    "head 1 2 0 0 0",
+    "head 1 2 0 0 0 0",
+    "head 1 2 0 0 0 0 0",
     "lend columns 6145",
     "lend upper 1025",
     "lend ends 1",
-    "lend out 57401",
+    "lend out 62521",
     "lend watches 8",
     "cell watches 8 1",
     "cell lower 1024 1",
@@ -101,7 +107,7 @@ impl List {
             List { r, model: Model::new(Plant::Nothing), lines: Vec::new(), d, memory, directions, values, steps: 0 };
         list.lend_all();
         list.say("open 6 1024 0".into());
-        list.say("head 0 0 0 0 0 0".into());
+        list.say("head 0 0 0 0 0 0 0 0".into());
         list
     }
 
@@ -149,11 +155,11 @@ impl List {
         }
     }
 
-    /// The line of a past look: mostly of two window sizes in order, alike at times, at times the wrong way round, both
-    /// above N, or one of them out of range.
-    fn past(&mut self) -> String {
+    /// Two window sizes: mostly in order, alike at times, at times the wrong way round, both above N, or one of them
+    /// out of range.
+    fn window_sizes(&mut self) -> (u32, u32) {
         let (one, other) = (self.window_size(), self.window_size());
-        let (n1, n2) = match self.r.below(10) {
+        match self.r.below(10) {
             0 => (one, one),
             1 => (one.max(other), one.min(other)),
             2 => (0, one),
@@ -161,8 +167,22 @@ impl List {
             4 => (self.memory + self.between(1, 3), self.memory + self.between(1, 3)),
             5 => (self.between(1, self.memory), self.memory),
             _ => (one.min(other), one.max(other)),
-        };
+        }
+    }
+
+    /// The line of a past look.
+    fn past(&mut self) -> String {
+        let (n1, n2) = self.window_sizes();
         format!("past {n1} {n2}")
+    }
+
+    /// The line of a pair set; while one stands it is mostly ended instead.
+    fn pair(&mut self) -> String {
+        if self.has_pair() && !self.once_in(3) {
+            return "unpair".into();
+        }
+        let (n1, n2) = self.window_sizes();
+        format!("pair {n1} {n2}")
     }
 
     /// The line of a quote, once in 30 with a column count of its own.
@@ -174,19 +194,22 @@ impl List {
 
     /// The line of some call that can have an output.
     fn writing_call(&mut self) -> String {
-        match self.r.below(5) {
+        match self.r.below(8) {
             0 => format!("look {}", self.window_size()),
             1 => format!("watch {}", self.window_size()),
             2 => self.past(),
+            3 => self.pair(),
+            4 => "due".into(),
             _ => self.quote(),
         }
     }
 
     /// The line of some call other than an opening.
     fn any_call(&mut self) -> String {
-        match self.r.below(8) {
+        match self.r.below(12) {
             0 => format!("end {}", self.window_size()),
             1 => "audit".into(),
+            2 => "unpair".into(),
             _ => self.writing_call(),
         }
     }
@@ -222,9 +245,21 @@ impl List {
         }
     }
 
-    /// The head with the list's settings, and these M, live and held counts.
+    /// The head with the list's settings, these M, live and held counts, and the pair that it has.
     pub fn head(&mut self, newest: u32, live: u32, held: u32) {
-        self.say(format!("head {} {} {} {newest} {live} {held}", self.d, self.memory, self.directions));
+        let (d, memory, directions, (n1, n2)) = (self.d, self.memory, self.directions, self.model.head.pair);
+        self.say(format!("head {d} {memory} {directions} {newest} {live} {held} {n1} {n2}"));
+    }
+
+    /// The head that it was, with another pair.
+    pub fn paired(&mut self, n1: u32, n2: u32) {
+        let Head { d, memory, directions, newest, live, held, .. } = self.model.head;
+        self.say(format!("head {d} {memory} {directions} {newest} {live} {held} {n1} {n2}"));
+    }
+
+    /// Whether a pair stands.
+    pub fn has_pair(&self) -> bool {
+        self.model.head.pair != (0, 0)
     }
 
     /// The head that it was, with as many live rows as held ones have an upper end of 0.
@@ -274,7 +309,7 @@ impl List {
         let mut print = String::new();
         trial.lent.out = OUTPUT;
         trial.play(call, &mut print);
-        print.split(' ').nth(2).map_or(0, |count| count.parse().unwrap_or(0))
+        print.lines().nth(1).map_or(0, |output| output.split(' ').count() - 1)
     }
 
     /// A call with an output that is one too short, just long enough, or one longer.
@@ -324,12 +359,12 @@ impl List {
     /// Shows tables and records, and sometimes some places past N too.
     fn show(&mut self) {
         self.say("show".into());
-        let Head { d, memory, directions, newest, live, held } = self.model.head;
+        let Head { d, memory, directions, newest, live, held, pair: (n1, n2) } = self.model.head;
         let more = self.between(1, 2);
         if self.once_in(2) && settings_hold(d, memory.saturating_add(more), 0) {
-            self.say(format!("head {d} {} 0 0 0 0", memory + more));
+            self.say(format!("head {d} {} 0 0 0 0 0 0", memory + more));
             self.say("show".into());
-            self.say(format!("head {d} {memory} {directions} {newest} {live} {held}"));
+            self.say(format!("head {d} {memory} {directions} {newest} {live} {held} {n1} {n2}"));
         }
     }
 
@@ -349,7 +384,11 @@ impl List {
                 let n = self.window_size();
                 self.say(format!("watch {n}"));
             }
-            17..=30 => {
+            17 | 18 => {
+                let pair = self.pair();
+                self.say(pair);
+            }
+            19..=32 => {
                 let call = self.any_call();
                 self.say(call);
             }
@@ -451,7 +490,18 @@ impl List {
         }
         self.head(newest, 0, newest + 1 - start);
         self.recount();
+        self.made_up_pair();
         self.made_up_watches();
+    }
+
+    /// A pair that can be set, where N is at least 2, twice in three times.
+    fn made_up_pair(&mut self) {
+        if self.memory < 2 || self.once_in(3) {
+            return;
+        }
+        let n1 = if self.once_in(2) { 2 } else { self.between(2, self.memory) };
+        let n2 = self.between(n1, self.memory);
+        self.paired(n1, n2);
     }
 
     /// Some watches, rising and followed by empties.
@@ -537,6 +587,23 @@ impl List {
         self.recount();
     }
 
+    /// Tears the pair: one that could not be set.
+    fn tear_pair(&mut self) {
+        let (n, memory) = (self.between(2, self.memory + 1), self.memory);
+        match self.r.below(7) {
+            0 => self.paired(0, n),
+            1 => self.paired(n, 0),
+            2 => self.paired(1, n.min(memory)),
+            3 => self.paired(n, n - 1),
+            4 => self.paired(2, memory + 1),
+            5 => self.paired(memory + 1, memory + 1),
+            _ => {
+                let (n1, n2) = (self.one_of(&EDGES), self.one_of(&EDGES));
+                self.paired(n1, n2);
+            }
+        }
+    }
+
     /// Tears the watches in one of the ways that the papers name.
     fn tear_watches(&mut self) {
         let i = self.between(0, 6);
@@ -568,31 +635,30 @@ impl List {
         } else {
             self.made_up_book();
         }
-        if self.once_in(3) {
-            self.tear_watches();
-        } else {
-            self.tear_rows();
+        match self.r.below(4) {
+            0 => self.tear_watches(),
+            1 => self.tear_pair(),
+            _ => self.tear_rows(),
         }
         for word in ["look", "watch", "end"] {
             let n = self.window_size();
             self.say(format!("{word} {n}"));
         }
-        let past = self.past();
-        self.say(past);
-        let quote = self.quote();
-        self.say(quote);
-        self.say("audit".into());
+        let (past, (n1, n2), quote) = (self.past(), self.window_sizes(), self.quote());
+        for call in [past, format!("pair {n1} {n2}"), "unpair".into(), "due".into(), quote, "audit".into()] {
+            self.say(call);
+        }
         self.short_loan();
         if self.memory < 100 {
             self.show();
         }
     }
 
-    /// Heads of any values over any tables, and every call under each.
+    /// Heads of any values over any tables, and calls under each.
     fn any_heads(&mut self) {
         self.litter();
         for _ in 0..1 + self.r.below(6) {
-            let line = (0..6).fold("head".into(), |line: String, _| format!("{line} {}", self.one_of(&EDGES)));
+            let line = (0..8).fold("head".into(), |line: String, _| format!("{line} {}", self.one_of(&EDGES)));
             self.say(line);
             for _ in 0..1 + self.r.below(4) {
                 let call = self.any_call();

@@ -5,13 +5,15 @@ use std::fmt::Write as _;
 
 pub const COLUMN_CELLS: usize = 6_144;
 pub const PLACES: usize = 1_024;
-pub const OUTPUT: usize = 57_400;
+pub const OUTPUT: usize = 62_520;
 pub const RECORDS: usize = 8;
 pub const MOST_COLUMNS: u32 = 6;
 pub const LARGEST_MEMORY: u32 = 1_024;
 pub const LAST_POSITION: u32 = 16_777_215;
 const LEAVES: u8 = 32;
 const JOINS: u8 = 33;
+const PAIR_LEAVES: u8 = 36;
+const PAIR_JOINS: u8 = 37;
 
 /// A wrong reading of the rules that can be planted in the model, to show that a comparison with it fails.
 #[derive(Clone, Copy, PartialEq)]
@@ -38,9 +40,23 @@ pub enum Plant {
     LiveZeros,
     /// The audit does not ask whether upper ends are right.
     UpperFree,
+    /// The changes of the pair stand before those of the plain watches.
+    PairFirst,
+    /// A second pair is refused with 9 before 5 and 14 are tried.
+    NineFirst,
+    /// The pair's list after a quote ends where the one before it did.
+    PairEnd,
+    /// A row at the end of the pair's list is due too.
+    DueEqual,
+    /// The count of due rows is that of the cells written.
+    DueCells,
+    /// A look takes a head with a torn pair.
+    BlindLook,
+    /// The audit says no of a torn pair.
+    AuditPair,
 }
 
-/// The head of a book.
+/// The head of a book; the pair is n1 and n2, 0 and 0 when it is unset.
 #[derive(Clone, Copy, Default, PartialEq)]
 pub struct Head {
     pub d: u32,
@@ -49,6 +65,7 @@ pub struct Head {
     pub newest: u32,
     pub live: u32,
     pub held: u32,
+    pub pair: (u32, u32),
 }
 
 /// How much of each buffer is lent to the calls.
@@ -106,15 +123,37 @@ fn listed_past(rows: &[Row], a: u32, b: u32) -> Vec<u32> {
     rows.iter().filter(on).map(|row| row.position).collect()
 }
 
-/// The frames of the changes of n from one list to another: the leaves, then the joins.
-fn changes(n: u32, before: &[u32], after: &[u32]) -> Vec<u32> {
-    let frame = |kind: u8, position: &u32| {
-        let [low, high, ..] = n.to_le_bytes();
-        [&[kind, low, high][..], &position.to_le_bytes()[..]].concat()
-    };
-    let leaves = before.iter().filter(|p| after.binary_search(p).is_err()).flat_map(|p| frame(LEAVES, p));
-    let joins = after.iter().filter(|p| before.binary_search(p).is_err()).flat_map(|p| frame(JOINS, p));
-    leaves.chain(joins).map(u32::from).collect()
+/// The frames of the changes from one list to another: the leaves, then the joins, each position behind the bytes given
+/// for them.
+fn changes(leaves: &[u8], joins: &[u8], before: &[u32], after: &[u32]) -> Vec<u32> {
+    let frame = |first: &[u8], position: &u32| [first, &position.to_le_bytes()].concat();
+    let left = before.iter().filter(|p| after.binary_search(p).is_err()).flat_map(|p| frame(leaves, p));
+    let joined = after.iter().filter(|p| before.binary_search(p).is_err()).flat_map(|p| frame(joins, p));
+    left.chain(joined).map(u32::from).collect()
+}
+
+/// The frames of the changes from one list of n to another.
+fn plain_changes(n: u32, before: &[u32], after: &[u32]) -> Vec<u32> {
+    let [low, high, ..] = n.to_le_bytes();
+    changes(&[LEAVES, low, high], &[JOINS, low, high], before, after)
+}
+
+/// The frames of the changes from one list of the pair to another.
+fn pair_changes(before: &[u32], after: &[u32]) -> Vec<u32> {
+    changes(&[PAIR_LEAVES], &[PAIR_JOINS], before, after)
+}
+
+/// The past list of n1 and n2 where M is the newest position; empty if its end, M - n1 + 1, is below 1.
+fn past_list(rows: &[Row], newest: u32, n1: u32, n2: u32) -> Vec<u32> {
+    listed_past(rows, start_of(newest, n2), (newest + 1).saturating_sub(n1))
+}
+
+/// The list of a pair where M is the newest position; nothing where none stands.
+fn pair_list(rows: &[Row], newest: u32, pair: (u32, u32)) -> Vec<u32> {
+    match pair {
+        (0, 0) => Vec::new(),
+        (n1, n2) => past_list(rows, newest, n1, n2),
+    }
 }
 
 impl Model {
@@ -197,6 +236,12 @@ impl Model {
         !(rising && inside && ends && fill && below && above && counted)
     }
 
+    /// Whether the pair could not be set: it is not unset, and n1 is below 2 or above n2, or n2 above N.
+    fn torn_pair(&self) -> bool {
+        let (n1, n2) = self.head.pair;
+        (n1, n2) != (0, 0) && (n1 < 2 || n1 > n2 || n2 > self.head.memory)
+    }
+
     /// Whether the watches are not rising, not ending in empties, or above N.
     fn torn_watches(&self) -> bool {
         let standing = self.standing();
@@ -213,11 +258,16 @@ impl Model {
 
     /// The refusals that a call on the book begins with: 3, 11, 12; a look is lent no watches.
     fn judged(&self, watches_too: bool) -> Result<(), u32> {
+        self.judged_with(self.torn_pair() || watches_too && self.torn_watches())
+    }
+
+    /// The same where it is known whether pair or watches are torn.
+    fn judged_with(&self, torn: bool) -> Result<(), u32> {
         let Head { d, memory, directions, .. } = self.head;
         if !settings_hold(d, memory, directions) {
             return Err(3);
         }
-        let torn = self.torn_rows() || watches_too && self.torn_watches();
+        let torn = torn || self.torn_rows();
         match (self.short(d, memory), torn) {
             (true, true) if self.plant == Plant::TornFirst => Err(12),
             (true, _) => Err(11),
@@ -251,7 +301,7 @@ impl Model {
         if self.short(d, memory) {
             return Err(11);
         }
-        self.head = Head { d, memory, directions, newest: 0, live: 0, held: 0 };
+        self.head = Head { d, memory, directions, ..Head::default() };
         self.store(&[]);
         self.watches = [0; RECORDS];
         Ok(Vec::new())
@@ -317,7 +367,22 @@ impl Model {
         rows
     }
 
-    /// A quote: 3, 11, 12, 4, 6, 13; else its row and the changes of each watch.
+    /// The changes that a quote brings: those of each watch, n rising, then those of the pair.
+    fn changes_to(&self, after: &[Row]) -> Vec<u32> {
+        let (before, newest, pair) = (self.rows(), self.head.newest + 1, self.head.pair);
+        let list = |n: u32| listed(&before, self.start(n));
+        let change = |n: u32| plain_changes(n, &list(n), &listed(after, start_of(newest, n)));
+        let plain: Vec<u32> = self.standing().into_iter().flat_map(change).collect();
+        let early = u32::from(self.plant == Plant::PairEnd && pair != (0, 0));
+        let pair_after = pair_list(after, newest, (pair.0 + early, pair.1));
+        let pairs = pair_changes(&pair_list(&before, self.head.newest, pair), &pair_after);
+        if self.plant == Plant::PairFirst {
+            return [pairs, plain].concat();
+        }
+        [plain, pairs].concat()
+    }
+
+    /// A quote: 3, 11, 12, 4, 6, 13; else its row and the changes of each watch and of the pair.
     fn quote(&mut self, quote: &[u32]) -> Result<Vec<u32>, u32> {
         self.judged(true)?;
         if quote.len() != self.head.d as usize {
@@ -326,11 +391,10 @@ impl Model {
         if self.head.newest == LAST_POSITION {
             return Err(6);
         }
-        let (before, after, newest) = (self.rows(), self.rows_after(quote), self.head.newest + 1);
+        let after = self.rows_after(quote);
+        let answer = self.fitting(self.changes_to(&after))?;
         let live = after.iter().filter(|row| row.upper == 0).count() as u32;
-        let change = |n: u32| changes(n, &listed(&before, self.start(n)), &listed(&after, start_of(newest, n)));
-        let answer = self.fitting(self.standing().into_iter().flat_map(change).collect())?;
-        self.head = Head { newest, live, held: after.len() as u32, ..self.head };
+        self.head = Head { newest: self.head.newest + 1, live, held: after.len() as u32, ..self.head };
         self.store(&after);
         if self.plant == Plant::PastMemory && self.positions.len() > self.head.memory as usize {
             self.positions[self.head.memory as usize] = 0;
@@ -340,7 +404,7 @@ impl Model {
 
     /// A look: 3, 11, 12, 5, 13; else the list of n.
     fn look(&self, n: u32) -> Result<Vec<u32>, u32> {
-        self.judged(false)?;
+        self.judged_with(self.plant != Plant::BlindLook && self.torn_pair())?;
         self.in_memory(n)?;
         self.fitting(listed(&self.rows(), self.start(n)))
     }
@@ -355,8 +419,55 @@ impl Model {
         if n1 > n2 {
             return Err(14);
         }
-        let b = (self.head.newest + 1).saturating_sub(n1);
-        self.fitting(listed_past(&self.rows(), self.start(n2), b))
+        self.fitting(past_list(&self.rows(), self.head.newest, n1, n2))
+    }
+
+    /// The pair set: 3, 11, 12, 5, 14, 9, 13; else the head has it, and the joins of its list are the answer.
+    fn pair(&mut self, n1: u32, n2: u32) -> Result<Vec<u32>, u32> {
+        self.judged(true)?;
+        let stands = self.head.pair != (0, 0);
+        if stands && self.plant == Plant::NineFirst {
+            return Err(9);
+        }
+        if n1 < 2 || n2 > self.head.memory {
+            return Err(5);
+        }
+        if n1 > n2 {
+            return Err(14);
+        }
+        if stands {
+            return Err(9);
+        }
+        let answer = self.fitting(pair_changes(&[], &past_list(&self.rows(), self.head.newest, n1, n2)))?;
+        self.head.pair = (n1, n2);
+        Ok(answer)
+    }
+
+    /// The pair ended: 3, 11, 12, 10; else the head has none.
+    fn unpair(&mut self) -> Result<Vec<u32>, u32> {
+        self.judged(true)?;
+        if self.head.pair == (0, 0) {
+            return Err(10);
+        }
+        self.head.pair = (0, 0);
+        Ok(Vec::new())
+    }
+
+    /// Whether a held row is due to a pair: its position exceeds M - n1 + 1 and its lower end is below the start of the
+    /// window of n2.
+    fn is_due(&self, row: &Row, n1: u32, n2: u32) -> bool {
+        let (place, end) = (row.position + n1, self.head.newest + 1);
+        let behind = place > end || self.plant == Plant::DueEqual && place == end;
+        behind && row.lower < self.start(n2)
+    }
+
+    /// What is due: 3, 11, 12, 13; else for each due row its position and position - M + n1 - 1, nothing with no pair.
+    fn due(&self) -> Result<Vec<u32>, u32> {
+        self.judged(false)?;
+        let (n1, n2) = self.head.pair;
+        let rows = self.rows();
+        let due = rows.iter().filter(|row| n1 != 0 && self.is_due(row, n1, n2));
+        self.fitting(due.flat_map(|row| [row.position, row.position + n1 - 1 - self.head.newest]).collect())
     }
 
     /// A watch: 3, 11, 12, 5, 8, 9, 13; else n is added, and its joins are the answer.
@@ -370,7 +481,7 @@ impl Model {
         if standing.len() == RECORDS {
             return Err(9);
         }
-        let answer = self.fitting(changes(n, &[], &listed(&self.rows(), self.start(n))))?;
+        let answer = self.fitting(plain_changes(n, &[], &listed(&self.rows(), self.start(n))))?;
         standing.push(n);
         standing.sort_unstable();
         self.set_watches(&standing);
@@ -406,7 +517,7 @@ impl Model {
         if self.short(d, memory) {
             return Err(11);
         }
-        if self.torn_rows() {
+        if self.torn_rows() || self.plant == Plant::AuditPair && self.torn_pair() {
             return Ok(false);
         }
         let rows = self.rows();
@@ -425,15 +536,16 @@ impl Model {
         columns && behind(&self.positions) && behind(&self.lower) && behind(&self.upper)
     }
 
-    /// The line of a call's answer, with the head handed back, and the line of its output.
-    fn answer(&self, answer: Result<Vec<u32>, u32>, head: Head, print: &mut String) {
+    /// The line of a call's answer, with the head handed back, and the line of its output; each of the things counted
+    /// takes so many bytes or cells.
+    fn answer(&self, answer: Result<Vec<u32>, u32>, each: usize, head: Head, print: &mut String) {
         let (number, output) = match answer {
             Ok(output) => (0, output),
             Err(number) => (number, Vec::new()),
         };
-        let Head { d, memory, directions, newest, live, held } = head;
-        let count = output.len();
-        writeln!(print, "A {number} {count} {d} {memory} {directions} {newest} {live} {held}").unwrap();
+        let Head { d, memory, directions, newest, live, held, pair: (n1, n2) } = head;
+        let count = output.len() / each;
+        writeln!(print, "A {number} {count} {d} {memory} {directions} {newest} {live} {held} {n1} {n2}").unwrap();
         if !output.is_empty() {
             line_of("X", &output, print);
         }
@@ -490,13 +602,17 @@ impl Model {
             ("quote", columns) => self.quote(columns),
             ("look", &[n]) => self.look(n),
             ("past", &[n1, n2]) => self.past(n1, n2),
+            ("pair", &[n1, n2]) => self.pair(n1, n2),
+            ("unpair", &[]) => self.unpair(),
+            ("due", &[]) => self.due(),
             ("watch", &[n]) => self.watch(n),
             ("end", &[n]) => self.end(n),
             _ => return None,
         };
         let refused_opening = word == "open" && answer.is_err();
         let head = if refused_opening { Head::default() } else { self.head };
-        self.answer(answer, head, print);
+        let each = if word == "due" && self.plant != Plant::DueCells { 2 } else { 1 };
+        self.answer(answer, each, head, print);
         Some(())
     }
 
@@ -522,8 +638,8 @@ impl Model {
         match (words[0], &numbers(&words[1..])?[..]) {
             ("audit", &[]) => self.verdict(print),
             ("show", &[]) => self.show(print),
-            ("head", &[d, memory, directions, newest, live, held]) => {
-                self.head = Head { d, memory, directions, newest, live, held }
+            ("head", &[d, memory, directions, newest, live, held, n1, n2]) => {
+                self.head = Head { d, memory, directions, newest, live, held, pair: (n1, n2) }
             }
             (word, numbers) => return self.call(word, numbers, print),
         }

@@ -24,9 +24,16 @@ pub enum Plant {
     Misprint,
     /// A past list follows lower ends alone: younger quotes that beat a row do not count.
     Upper,
+    /// The changes of the pair stand before those of the plain watches.
+    PairFirst,
+    /// A second pair is refused with 9 before 5 and 14 are tried.
+    NineFirst,
+    /// The pair's list after a quote ends where the one before it did.
+    PairEnd,
 }
 
-/// What the model holds: the settings, every quote accepted since they were taken, and the watched n, rising.
+/// What the model holds: the settings, every quote accepted since they were taken, the watched n, rising, and the watched pair of n1
+/// and n2.
 struct Model {
     plant: Plant,
     opened: bool,
@@ -35,12 +42,13 @@ struct Model {
     directions: u8,
     quotes: Vec<[u32; 6]>,
     watched: Vec<u16>,
+    pair: Option<(u16, u16)>,
 }
 
 impl Model {
     /// A model before any opening.
     fn new(plant: Plant) -> Model {
-        Model { plant, opened: false, d: 0, memory: 0, directions: 0, quotes: Vec::new(), watched: Vec::new() }
+        Model { plant, opened: false, d: 0, memory: 0, directions: 0, quotes: Vec::new(), watched: Vec::new(), pair: None }
     }
 
     /// Whether value x is better than value y in column i.
@@ -145,13 +153,23 @@ impl Model {
             return refuse(6, print);
         }
         let before: Vec<_> = self.watched.iter().map(|&n| self.list(n.into())).collect();
+        let pair_before = self.pair_list(0);
         let mut quote = [0; 6];
         quote[..self.d].copy_from_slice(columns);
         self.quotes.push(quote);
         writeln!(print, "Q {} {}", self.quotes.len(), self.rows().len()).unwrap();
+        let (mut plain, mut pairs) = (String::new(), String::new());
         for (&n, before) in self.watched.iter().zip(&before) {
-            changes(n, before, &self.list(n.into()), print);
+            plain_changes(n, before, &self.list(n.into()), &mut plain);
         }
+        let early = usize::from(self.plant == Plant::PairEnd);
+        changes("--", "++", &pair_before, &self.pair_list(early), &mut pairs);
+        *print += &if self.plant == Plant::PairFirst { pairs + &plain } else { plain + &pairs };
+    }
+
+    /// The past list of the watched pair, or the one that ends so many positions earlier; nothing where no pair stands.
+    fn pair_list(&self, early: usize) -> Vec<usize> {
+        self.pair.map_or(Vec::new(), |(n1, n2)| self.past_list(usize::from(n1) + early, n2.into()))
     }
 
     /// The refusal of a call on n that holds whatever the call is.
@@ -176,16 +194,20 @@ impl Model {
         print.push('\n');
     }
 
+    /// The refusal of a call on n1 and n2 that holds whatever the call is, where n1 has to be at least some number.
+    fn pair_refusal(&self, n1: u16, n2: u16, least: u16) -> Option<u8> {
+        match (n1, n2) {
+            _ if !self.opened => Some(7),
+            _ if n1 < least || usize::from(n2) > self.memory => Some(5),
+            _ if n1 > n2 => Some(14),
+            _ => None,
+        }
+    }
+
     /// A look at the past list of n1 and n2.
     fn past(&self, n1: u16, n2: u16, print: &mut String) {
-        if !self.opened {
-            return refuse(7, print);
-        }
-        if n1 == 0 || usize::from(n2) > self.memory {
-            return refuse(5, print);
-        }
-        if n1 > n2 {
-            return refuse(14, print);
+        if let Some(number) = self.pair_refusal(n1, n2, 1) {
+            return refuse(number, print);
         }
         write!(print, "P {n1} {n2}").unwrap();
         for p in self.past_list(n1.into(), n2.into()) {
@@ -206,7 +228,7 @@ impl Model {
             return refuse(9, print);
         }
         writeln!(print, "W {n}").unwrap();
-        changes(n, &[], &self.list(n.into()), print);
+        plain_changes(n, &[], &self.list(n.into()), print);
         self.watched.push(n);
         self.watched.sort_unstable();
     }
@@ -223,9 +245,37 @@ impl Model {
         writeln!(print, "U {n}").unwrap();
     }
 
+    /// A watch of the pair of n1 and n2 set, with its joins.
+    fn set_pair(&mut self, n1: u16, n2: u16, print: &mut String) {
+        if self.plant == Plant::NineFirst && self.pair.is_some() {
+            return refuse(9, print);
+        }
+        if let Some(number) = self.pair_refusal(n1, n2, 2) {
+            return refuse(number, print);
+        }
+        if self.pair.is_some() {
+            return refuse(9, print);
+        }
+        self.pair = Some((n1, n2));
+        writeln!(print, "B {n1} {n2}").unwrap();
+        changes("--", "++", &[], &self.pair_list(0), print);
+    }
+
+    /// The watch of the pair ended.
+    fn end_pair(&mut self, print: &mut String) {
+        if !self.opened {
+            return refuse(7, print);
+        }
+        if self.pair.take().is_none() {
+            return refuse(10, print);
+        }
+        print.push_str("E\n");
+    }
+
     /// One whole frame.
     fn play(&mut self, kind: u8, body: &[u8], print: &mut String) {
         let n = || u16::from_le_bytes([body[0], body[1]]);
+        let n2 = || u16::from_le_bytes([body[2], body[3]]);
         match kind {
             1..=6 => {
                 let cells = body.chunks(4).map(|c| u32::from_le_bytes([c[0], c[1], c[2], c[3]]));
@@ -234,21 +284,28 @@ impl Model {
             16 => self.look(n(), print),
             17 => self.watch(n(), print),
             18 => self.end(n(), print),
-            23 => self.past(n(), u16::from_le_bytes([body[2], body[3]]), print),
+            21 => self.set_pair(n(), n2(), print),
+            22 => self.end_pair(print),
+            23 => self.past(n(), n2(), print),
             48 => self.open(body[0], u16::from_le_bytes([body[1], body[2]]), body[3], print),
             _ => refuse(7, print),
         }
     }
 }
 
-/// The changes from one list of n to another: the leaves, then the joins.
-fn changes(n: u16, before: &[usize], after: &[usize], print: &mut String) {
+/// The changes from one list to another: the leaves, then the joins, each position behind the words given for them.
+fn changes(leaves: &str, joins: &str, before: &[usize], after: &[usize], print: &mut String) {
     for p in before.iter().filter(|&p| after.binary_search(p).is_err()) {
-        writeln!(print, "- {n} {p}").unwrap();
+        writeln!(print, "{leaves} {p}").unwrap();
     }
     for p in after.iter().filter(|&p| before.binary_search(p).is_err()) {
-        writeln!(print, "+ {n} {p}").unwrap();
+        writeln!(print, "{joins} {p}").unwrap();
     }
+}
+
+/// The changes from one list of n to another.
+fn plain_changes(n: u16, before: &[usize], after: &[usize], print: &mut String) {
+    changes(&format!("- {n}"), &format!("+ {n}"), before, after, print);
 }
 
 /// The line of a refusal.
@@ -261,7 +318,8 @@ fn body_length(kind: u8) -> Option<usize> {
     match kind {
         1..=6 => Some(4 * usize::from(kind)),
         16..=18 => Some(2),
-        23 | 48 => Some(4),
+        22 => Some(0),
+        21 | 23 | 36 | 37 | 48 => Some(4),
         32 | 33 => Some(6),
         _ => None,
     }

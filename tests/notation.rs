@@ -34,6 +34,8 @@ fn frame_of(line: &str) -> Option<Vec<u8>> {
         }
         ("W", 2) => frames::watch(&mut frame, n(1)?),
         ("P", 3) => frame = [&[23], &n(1)?.to_le_bytes()[..], &n(2)?.to_le_bytes()[..]].concat(),
+        ("B", 3) => frame = [&[21], &n(1)?.to_le_bytes()[..], &n(2)?.to_le_bytes()[..]].concat(),
+        ("E", 1) => frame.push(22),
         ("L", 2) => frame = [&[16], &n(1)?.to_le_bytes()[..]].concat(),
         ("U", 2) => frame = [&[18], &n(1)?.to_le_bytes()[..]].concat(),
         _ => return None,
@@ -70,8 +72,9 @@ fn any_number(r: &mut Random) -> u64 {
 
 /// A line that may say a frame.
 fn any_line(r: &mut Random) -> Vec<u8> {
-    let sorts = [("O", 3), ("Q", 1 + r.below(6)), ("L", 1), ("P", 2), ("W", 1), ("U", 1), ("Q", r.below(9)), ("P", r.below(4)), ("R", 1)];
-    let (letter, count) = sorts[r.below(9) as usize];
+    let right = [("O", 3), ("Q", 1 + r.below(6)), ("L", 1), ("P", 2), ("W", 1), ("U", 1), ("B", 2), ("E", 0)];
+    let any = [("O", r.below(5)), ("Q", r.below(9)), ("P", r.below(4)), ("B", r.below(4)), ("E", r.below(2)), ("R", 1)];
+    let (letter, count) = if r.below(3) == 0 { any[r.below(6) as usize] } else { right[r.below(8) as usize] };
     let mut line = letter.to_string();
     for _ in 0..count {
         line += &format!(" {}", any_number(r));

@@ -1,7 +1,7 @@
 //! Plays random and damaged tapes through the tape printer and through a plain model of the format, and compares what they print,
 //! byte for byte.
 //!
-//! usage: plain_model [--plant equal|oldest|window|kept|misprint|upper] PRINTER [SEED [TAPES]]
+//! usage: plain_model [--plant NAME] PRINTER [SEED [TAPES]]
 //!                                       compare the printer, a command with its arguments, with the model, or with a model that has a bug
 //!                                       planted, on random tapes
 //!        plain_model --print < TAPE     print a tape by the model alone
@@ -18,10 +18,22 @@ use std::sync::atomic::{AtomicBool, AtomicUsize, Ordering};
 use std::time::Instant;
 
 const THREADS: usize = 2;
-/// The letters of lines.
-const LETTERS: &str = "OQLWU-+RP";
+/// The words that lines begin with.
+const WORDS: [&str; 13] = ["O", "Q", "L", "P", "W", "U", "B", "E", "-", "+", "--", "++", "R"];
 /// The refusals that a tape of some quotes can bring; 6 asks for 16,777,215 of them.
 const REFUSALS: [usize; 10] = [1, 2, 3, 4, 5, 7, 8, 9, 10, 14];
+/// The planted bugs by name.
+const PLANTS: [(&str, Plant); 9] = [
+    ("equal", Plant::Equal),
+    ("oldest", Plant::Oldest),
+    ("window", Plant::Window),
+    ("kept", Plant::Kept),
+    ("misprint", Plant::Misprint),
+    ("upper", Plant::Upper),
+    ("pair-first", Plant::PairFirst),
+    ("nine-first", Plant::NineFirst),
+    ("pair-end", Plant::PairEnd),
+];
 
 /// What is compared: the printer and the model with a planted bug or none, on the tapes of a seed; the label names failing tapes.
 struct Comparison {
@@ -31,12 +43,12 @@ struct Comparison {
     label: String,
 }
 
-/// How many tapes were printed alike and how many not, and how often each letter and each refusal stood in the model's print.
+/// How many tapes were printed alike and how many not, and how often each word and each refusal stood in the model's print.
 #[derive(Default)]
 struct Tally {
     alike: usize,
     unlike: usize,
-    letters: [usize; LETTERS.len()],
+    words: [usize; WORDS.len()],
     refusals: [usize; 15],
 }
 
@@ -44,9 +56,8 @@ impl Tally {
     /// Counts the lines of a print.
     fn count(&mut self, print: &str) {
         for line in print.lines() {
-            if let Some(letter) = LETTERS.find(&line[..1]) {
-                self.letters[letter] += 1;
-            }
+            let said = line.split(' ').next().unwrap();
+            self.words[WORDS.iter().position(|&word| word == said).expect("a known word")] += 1;
             if let Some(number) = line.strip_prefix("R ") {
                 self.refusals[number.parse::<usize>().unwrap()] += 1;
             }
@@ -57,7 +68,7 @@ impl Tally {
     fn add(&mut self, other: &Tally) {
         self.alike += other.alike;
         self.unlike += other.unlike;
-        for (sum, more) in self.letters.iter_mut().zip(other.letters) {
+        for (sum, more) in self.words.iter_mut().zip(other.words) {
             *sum += more;
         }
         for (sum, more) in self.refusals.iter_mut().zip(other.refusals) {
@@ -65,15 +76,15 @@ impl Tally {
         }
     }
 
-    /// Says how often each letter and each refusal came, and whether every one did.
+    /// Says how often each word and each refusal came, and whether every one did.
     fn covers(&self) -> bool {
         let refusals: Vec<_> = REFUSALS.iter().map(|&number| (number, self.refusals[number])).collect();
-        let said: Vec<_> = LETTERS.chars().zip(self.letters).map(|(letter, times)| format!("{letter} {times}")).collect();
+        let said: Vec<_> = WORDS.iter().zip(self.words).map(|(word, times)| format!("{word} {times}")).collect();
         let refused: Vec<_> = refusals.iter().map(|(number, times)| format!("R {number} {times}")).collect();
         println!("plain_model: lines printed: {}; of them {}", said.join(", "), refused.join(", "));
-        let covered = self.letters.iter().all(|&times| times > 0) && refusals.iter().all(|&(_, times)| times > 0);
+        let covered = self.words.iter().all(|&times| times > 0) && refusals.iter().all(|&(_, times)| times > 0);
         if !covered {
-            eprintln!("plain_model: a letter or a refusal never came: more tapes are needed");
+            eprintln!("plain_model: a word or a refusal never came: more tapes are needed");
         }
         covered
     }
@@ -150,21 +161,14 @@ fn compare_all(comparison: &Comparison, tapes: usize) -> bool {
 
 /// The planted bug with a name.
 fn plant_named(name: &str) -> Plant {
-    match name {
-        "equal" => Plant::Equal,
-        "oldest" => Plant::Oldest,
-        "window" => Plant::Window,
-        "kept" => Plant::Kept,
-        "misprint" => Plant::Misprint,
-        "upper" => Plant::Upper,
-        _ => panic!("no planted bug has the name {name}"),
-    }
+    PLANTS.iter().find(|plant| plant.0 == name).unwrap_or_else(|| panic!("no planted bug has the name {name}")).1
 }
 
-/// Panics if the model does not print the worked tape of past lists as it is worked out by hand.
-fn check_example() {
-    let (tape, print) = random_tapes::past_example();
-    assert_eq!(print_of(&tape, Plant::Nothing), print, "the model prints the worked tape otherwise");
+/// Panics if the model does not print the worked tapes as they are worked out by hand.
+fn check_examples() {
+    for (tape, print) in [random_tapes::past_example(), random_tapes::pair_example(), random_tapes::pair_refusals()] {
+        assert_eq!(print_of(&tape, Plant::Nothing), print, "the model prints a worked tape otherwise");
+    }
 }
 
 /// Prints the tape on standard input by the model.
@@ -179,7 +183,7 @@ fn main() {
     if arguments.next_if_eq("--print").is_some() {
         return print_by_model();
     }
-    check_example();
+    check_examples();
     let name = arguments.next_if_eq("--plant").map(|_| arguments.next().expect("the name of a planted bug"));
     let printer = arguments.next().expect("usage: plain_model [--plant NAME] PRINTER [SEED [TAPES]]");
     let seed: u64 = arguments.next().map_or(1, |s| s.parse().expect("a seed"));

@@ -4,13 +4,15 @@
 //! usage: random_calls [--plant NAME] PLAYER [SEED [LISTS]]
 //!            compare the player with the model, or with a model that has a bug planted, on random lists
 //!        random_calls [--plant NAME] --rules
-//!            compare the model's audit with every tape of small settings
+//!            compare the model's audit, lists and due rows with every tape of small settings
 //!        random_calls --play < CALLS
 //!            play a list by the model alone
 
 mod audit_rules;
 mod call_lists;
 mod call_model;
+mod definitions;
+mod due_rules;
 mod piped;
 mod random;
 mod small_lists;
@@ -26,8 +28,8 @@ const THREADS: usize = 2;
 const BATCH: usize = 100;
 /// How many lines before a difference are shown; the whole list is saved.
 const SHOWN: usize = 20;
-/// The planted bugs by name; the last is one of the audit's rules.
-const PLANTS: [(&str, Plant); 10] = [
+/// The planted bugs by name.
+const PLANTS: [(&str, Plant); 17] = [
     ("renamed", Plant::Renamed),
     ("torn-first", Plant::TornFirst),
     ("past-memory", Plant::PastMemory),
@@ -38,15 +40,25 @@ const PLANTS: [(&str, Plant); 10] = [
     ("fourteen-first", Plant::FourteenFirst),
     ("live-zeros", Plant::LiveZeros),
     ("upper-free", Plant::UpperFree),
+    ("pair-first", Plant::PairFirst),
+    ("nine-first", Plant::NineFirst),
+    ("pair-end", Plant::PairEnd),
+    ("due-equal", Plant::DueEqual),
+    ("due-cells", Plant::DueCells),
+    ("blind-look", Plant::BlindLook),
+    ("audit-pair", Plant::AuditPair),
 ];
 /// The answers that each call can give and that have to come.
-const ANSWERS: [(&str, &[&str]); 7] = [
+const ANSWERS: [(&str, &[&str]); 10] = [
     ("open", &["0", "3", "11"]),
     ("quote", &["0", "3", "11", "12", "4", "6", "13"]),
     ("look", &["0", "3", "11", "12", "5", "13"]),
     ("past", &["0", "3", "11", "12", "5", "14", "13"]),
     ("watch", &["0", "3", "11", "12", "5", "8", "9", "13"]),
     ("end", &["0", "3", "11", "12", "5", "10"]),
+    ("pair", &["0", "3", "11", "12", "5", "14", "9", "13"]),
+    ("unpair", &["0", "3", "11", "12", "10"]),
+    ("due", &["0", "3", "11", "12", "13"]),
     ("audit", &["yes", "no", "3", "11"]),
 ];
 
@@ -198,6 +210,15 @@ fn compare_all(comparison: &Comparison, seed: u64, lists: usize) -> bool {
     total.unlike == 0 && total.covers()
 }
 
+/// Panics if the model does not print the worked lists as they are worked out by hand.
+fn check_examples() {
+    for (lines, print) in small_lists::examples() {
+        let (mut model, mut got) = (Model::new(Plant::Nothing), String::new());
+        lines.iter().for_each(|line| model.play(line, &mut got));
+        assert_eq!(got, print, "the model plays a worked list otherwise");
+    }
+}
+
 /// Plays the list on standard input by the model.
 fn play_by_model() {
     let mut calls = String::new();
@@ -220,8 +241,9 @@ fn main() {
     let name = arguments.next_if_eq("--plant").map(|_| arguments.next().expect("the name of a planted bug"));
     let plant = name.iter().map(|name| plant_named(name)).next().unwrap_or(Plant::Nothing);
     let start = Instant::now();
+    check_examples();
     let right = if arguments.next_if_eq("--rules").is_some() {
-        audit_rules::hold(plant)
+        audit_rules::hold(plant) && due_rules::hold(plant)
     } else {
         let player = arguments.next().expect("usage: random_calls [--plant NAME] PLAYER [SEED [LISTS]]");
         let seed: u64 = arguments.next().map_or(1, |s| s.parse().expect("a seed"));

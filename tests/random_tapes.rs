@@ -82,18 +82,32 @@ impl Style {
         }
     }
 
-    /// A look at a past list: mostly of two window sizes in order, alike at times, at times the wrong way round or out of range.
-    fn past_look(&self, r: &mut Random, tape: &mut Vec<u8>) {
+    /// Two window sizes: mostly in order, alike at times, at times the wrong way round or out of range.
+    fn window_sizes(&self, r: &mut Random) -> (u16, u16) {
         let (one, other) = (self.window_size(r), self.window_size(r));
-        let (n1, n2) = match r.below(10) {
+        match r.below(10) {
             0 => (one, one),
             1 => (one.max(other), one.min(other)),
             2 => (0, one),
             3 => (one, [0, self.memory, self.memory + 1][r.below(3) as usize]),
             4 | 5 => (1 + r.below(self.memory.into()) as u16, self.memory),
             _ => (one.min(other), one.max(other)),
-        };
+        }
+    }
+
+    /// A look at a past list.
+    fn past_look(&self, r: &mut Random, tape: &mut Vec<u8>) {
+        let (n1, n2) = self.window_sizes(r);
         past(tape, n1, n2);
+    }
+
+    /// The pair watched, or its watch ended.
+    fn pair(&self, r: &mut Random, tape: &mut Vec<u8>) {
+        if r.below(4) == 0 {
+            return tape.push(22);
+        }
+        let (n1, n2) = self.window_sizes(r);
+        set_pair(tape, n1, n2);
     }
 
     /// A quote, once in 40 with a column count of its own.
@@ -126,6 +140,7 @@ impl Style {
             4 if r.below(3) == 0 => any_opening(r, tape),
             5 if r.below(3) == 0 => change(r, tape),
             6..=8 => self.past_look(r, tape),
+            9 | 10 => self.pair(r, tape),
             24.. if r.below(3) == 0 => end(tape, self.window_size(r)),
             24.. => frames::watch(tape, self.window_size(r)),
             _ => self.quote(r, step, tape),
@@ -169,6 +184,13 @@ fn past(tape: &mut Vec<u8>, n1: u16, n2: u16) {
     tape.extend(n2.to_le_bytes());
 }
 
+/// The watch of the pair of n1 and n2.
+fn set_pair(tape: &mut Vec<u8>, n1: u16, n2: u16) {
+    tape.push(21);
+    tape.extend(n1.to_le_bytes());
+    tape.extend(n2.to_le_bytes());
+}
+
 /// The end of the watch of n.
 fn end(tape: &mut Vec<u8>, n: u16) {
     tape.push(18);
@@ -177,7 +199,10 @@ fn end(tape: &mut Vec<u8>, n: u16) {
 
 /// A change frame, which no played tape may hold.
 fn change(r: &mut Random, tape: &mut Vec<u8>) {
-    tape.extend([32 + r.below(2) as u8, 1, 0, 1, 0, 0, 0]);
+    match r.below(2) {
+        0 => tape.extend([32 + r.below(2) as u8, 1, 0, 1, 0, 0, 0]),
+        _ => tape.extend([36 + r.below(2) as u8, 1, 0, 0, 0]),
+    }
 }
 
 /// An opening with each setting at or around an edge of its range.
@@ -244,8 +269,9 @@ fn random_bodies(r: &mut Random, index: u64) -> Vec<u8> {
     let mut tape = Vec::new();
     style.open(&mut tape);
     for _ in 0..r.below(30) {
-        let kinds = [(style.d, 4 * style.d), (16, 2), (17, 2), (18, 2), (32, 6), (33, 6), (48, 4), (23, 4)];
-        let (kind, length) = kinds[r.below(8) as usize];
+        let looks = [(16, 2), (17, 2), (18, 2), (21, 4), (22, 0), (23, 4)];
+        let others = [(style.d, 4 * style.d), (32, 6), (33, 6), (36, 4), (37, 4), (48, 4)];
+        let (kind, length) = [looks, others][r.below(2) as usize][r.below(6) as usize];
         tape.push(kind);
         tape.extend((0..length).map(|_| (r.next() as u8) >> r.below(9).min(7)).collect::<Vec<_>>());
     }
@@ -296,6 +322,9 @@ fn tape_of_every_kind(r: &mut Random, d: u8) -> Vec<u8> {
     style.steps(r, 0, 12, &mut tape);
     change(r, &mut tape);
     end(&mut tape, 2);
+    set_pair(&mut tape, 2, 3);
+    style.quote(r, 0, &mut tape);
+    tape.push(22);
     style.past_look(r, &mut tape);
     tape
 }
@@ -326,10 +355,36 @@ pub fn past_example() -> (Vec<u8>, &'static str) {
     (tape, print)
 }
 
-/// The worked tape of past lists, tapes cut at every byte, for every column count, and every kind byte before bodies of several lengths,
-/// alone and behind an opening.
+/// The worked tape of a watched pair, and its print.
+pub fn pair_example() -> (Vec<u8>, &'static str) {
+    let mut tape = Vec::new();
+    frames::open(&mut tape, 2, 6, 0);
+    set_pair(&mut tape, 3, 5);
+    for quote in [[3, 3], [4, 4], [1, 5], [2, 2], [9, 9], [1, 1], [5, 5]] {
+        frames::quote(&mut tape, &quote);
+    }
+    let print = "O 2 6 0\nB 3 5\nQ 1 1\nQ 2 2\nQ 3 3\n++ 1\nQ 4 2\nQ 5 3\n++ 3\nQ 6 1\n-- 1\n++ 4\nQ 7 2\n";
+    (tape, print)
+}
+
+/// A tape that brings each refusal of a pair and of its end, and its print.
+pub fn pair_refusals() -> (Vec<u8>, &'static str) {
+    let mut tape = vec![22];
+    set_pair(&mut tape, 2, 3);
+    frames::open(&mut tape, 1, 4, 0);
+    tape.push(22);
+    for (n1, n2) in [(0, 2), (1, 2), (2, 5), (5, 4), (3, 2), (2, 0), (4, 4), (4, 4), (2, 3), (3, 2), (1, 2), (6, 5)] {
+        set_pair(&mut tape, n1, n2);
+    }
+    tape.extend([17, 4, 0, 22, 22, 36, 0, 0, 0, 0, 37, 1, 0, 0, 0]);
+    let print = "R 7\nR 7\nO 1 4 0\nR 10\nR 5\nR 5\nR 5\nR 14\nR 14\nR 14\nB 4 4\nR 9\nR 9\nR 14\nR 5\nR 5\nW 4\nE\nR 10\nR 7\nR 7\n";
+    (tape, print)
+}
+
+/// The worked tapes, tapes cut at every byte, for every column count, and every kind byte before bodies of several lengths, alone and
+/// behind an opening.
 pub fn edge_tapes(seed: u64) -> Vec<Vec<u8>> {
-    let mut tapes = vec![Vec::new(), past_example().0];
+    let mut tapes = vec![Vec::new(), past_example().0, pair_example().0, pair_refusals().0];
     for d in 1..=6 {
         let whole = tape_of_every_kind(&mut Random::new(seed, d), d as u8);
         tapes.extend((0..=whole.len()).map(|keep| whole[..keep].to_vec()));

@@ -1,7 +1,8 @@
 //! Small lists of calls that go through settings, n, pairs of n, counts of watches, lengths of tables and untorn books
-//! one by one, and bring the longest answer.
+//! one by one, and bring the longest answers; and two that are worked out by hand.
 
 use crate::call_lists::{List, Values, BAD_LINES};
+use crate::call_model::OUTPUT;
 use crate::random::Random;
 
 /// A list with the settings given, after the lines that every list begins with.
@@ -20,8 +21,23 @@ fn every_past(list: &mut List) {
     }
 }
 
-/// After each of some quotes every n from 0 to N + 1 is looked at, watched, and its watch ended, and every past list
-/// looked at.
+/// Every pair from 0 to N + 2 set, alone and while another stands, what is due to it, and its end.
+fn every_pair(list: &mut List) {
+    let most = list.memory + 2;
+    for (n1, n2) in (0..=most).flat_map(|n1| (0..=most).map(move |n2| (n1, n2))) {
+        list.say(format!("pair {n1} {n2}"));
+        if list.has_pair() {
+            list.say("due".into());
+            list.say(format!("pair {n2} {n1}"));
+            list.say("unpair".into());
+        }
+    }
+    list.say("unpair".into());
+    list.say("due".into());
+}
+
+/// After each of some quotes every n from 0 to N + 1 is looked at, watched, and its watch ended, every past list looked
+/// at, and every pair set and ended.
 fn every_window(d: u32, memory: u32, directions: u32) -> Vec<String> {
     let mut list = small_list(d, memory, directions);
     for _ in 0..memory + 3 {
@@ -31,6 +47,7 @@ fn every_window(d: u32, memory: u32, directions: u32) -> Vec<String> {
             }
         }
         every_past(&mut list);
+        every_pair(&mut list);
         list.say("audit".into());
         list.say(format!("watch {memory}"));
         list.tight_output();
@@ -65,7 +82,7 @@ fn every_loan(d: u32, memory: u32) -> Vec<String> {
     for (name, asked) in [("columns", memory * d), ("positions", memory), ("lower", memory), ("upper", memory)] {
         for length in [asked - 1, asked] {
             list.say(format!("lend {name} {length}"));
-            for call in ["look 1", "past 1 1", "watch 1", "end 1", "audit"] {
+            for call in ["look 1", "past 1 1", "watch 1", "end 1", "pair 2 2", "due", "unpair", "audit"] {
                 list.say(call.into());
             }
             list.say(format!("quote{}", zeros(d)));
@@ -76,26 +93,85 @@ fn every_loan(d: u32, memory: u32) -> Vec<String> {
     list.lines
 }
 
-/// Eight watches on 1,024 equal quotes, and a quote that beats them all, with an output one byte too short and in full;
-/// then the list before that quote, in as many cells as it has rows and in one less.
-fn longest_answer() -> Vec<String> {
+/// A pair that stands for many quotes, with one plain watch of the same n; what is due and the pair's list after each.
+fn watched_pair(d: u32, memory: u32, n1: u32, n2: u32) -> Vec<String> {
+    let mut list = small_list(d, memory, 1);
+    list.say(format!("pair {n1} {n2}"));
+    for step in 0..2 * memory + 3 {
+        if step == memory {
+            list.say(format!("watch {n2}"));
+        }
+        let quote = list.quote();
+        list.say(quote);
+        list.say("due".into());
+        list.say(format!("past {n1} {n2}"));
+        list.say("audit".into());
+    }
+    list.say("show".into());
+    list.say("unpair".into());
+    list.tight_output();
+    list.open();
+    list.say("due".into());
+    list.lines
+}
+
+/// Every pair of a small N so watched.
+fn watched_pairs() -> Vec<Vec<String>> {
+    let mut lists = Vec::new();
+    for (d, memory) in [1, 2, 3].into_iter().flat_map(|d| (2..=6).map(move |memory| (d, memory))) {
+        let pairs = (2..=memory).flat_map(|n1| (n1..=memory).map(move |n2| (n1, n2)));
+        lists.extend(pairs.map(|(n1, n2)| watched_pair(d, memory, n1, n2)));
+    }
+    lists
+}
+
+/// Every pair up to N + 2 in the head, and every call under it: those that could not be set are torn.
+fn any_pairs(memory: u32) -> Vec<String> {
+    let mut list = small_list(1, memory, 0);
+    for value in 0..memory + 1 {
+        list.say(format!("quote {value}"));
+    }
+    let most = memory + 2;
+    for (n1, n2) in (0..=most).flat_map(|n1| (0..=most).map(move |n2| (n1, n2))) {
+        for call in ["look 1", "past 1 1", "watch 1", "end 1", "pair 2 2", "unpair", "due", "quote 1", "audit"] {
+            list.paired(n1, n2);
+            list.say(call.into());
+        }
+    }
+    list.open();
+    list.lines
+}
+
+/// 1,024 equal quotes, of which all but the oldest are due; then eight watches and another pair, a quote that beats
+/// them all and one more, and the list before it; each call first with an output one byte or cell too short.
+fn longest_answers() -> Vec<String> {
     let mut list = small_list(1, 1_024, 0);
     for _ in 0..1_024 {
         list.say("quote 5".into());
     }
+    list.say("pair 1024 1024".into());
+    say_tightly(&mut list, "due");
+    list.say("unpair".into());
+    list.say("pair 2 1024".into());
     for n in 1_017..=1_024 {
         list.say(format!("watch {n}"));
     }
-    for call in ["quote 4", "past 2 1024"] {
-        let length = list.answer_length(call);
-        for less in [1, 0] {
-            list.say(format!("lend out {}", length - less));
-            list.say(call.into());
-        }
+    for call in ["quote 4", "quote 4", "due", "past 2 1024"] {
+        say_tightly(&mut list, call);
     }
     list.say("audit".into());
     list.say("show".into());
     list.lines
+}
+
+/// A call with an output one too short for its answer, and with one that is just long enough.
+fn say_tightly(list: &mut List, call: &str) {
+    let length = list.answer_length(call);
+    for less in [1, 0] {
+        list.say(format!("lend out {}", length - less));
+        list.say(call.into());
+    }
+    list.say(format!("lend out {OUTPUT}"));
 }
 
 /// The marked audits of the paper: a sole row of the worst quote, of the next to the worst, and ends of two rows.
@@ -138,8 +214,9 @@ fn every_ends(start: u32, newest: u32) -> Vec<Vec<(u32, u32)>> {
 }
 
 /// An untorn book of one column with M and the ends of its rows given, each row either beating the next quote or beaten
-/// by it, under three watches; two quotes on it, with what they leave and every past list.
-fn untorn_book(newest: u32, ends: &[(u32, u32)], beating: u32) -> Vec<String> {
+/// by it, under three watches and a pair or none; two quotes on it, with what they leave, what is due, and every past
+/// list.
+fn untorn_book(newest: u32, ends: &[(u32, u32)], beating: u32, pair: (u32, u32)) -> Vec<String> {
     let mut list = small_list(1, 3, 0);
     let start = newest + 1 - ends.len() as u32;
     for (place, &(lower, upper)) in (0..).zip(ends) {
@@ -147,24 +224,26 @@ fn untorn_book(newest: u32, ends: &[(u32, u32)], beating: u32) -> Vec<String> {
     }
     let live = ends.iter().filter(|&&(_, upper)| upper == 0).count() as u32;
     list.head(newest, live, ends.len() as u32);
-    for n in 1..=3 {
-        list.say(format!("watch {n}"));
+    list.paired(pair.0, pair.1);
+    for call in ["watch 1", "watch 2", "watch 3", "audit", "due"] {
+        list.say(call.into());
     }
-    list.say("audit".into());
     for _ in 0..2 {
-        list.say("quote 1".into());
-        list.say("show".into());
-        every_past(&mut list);
+        for call in ["quote 1", "show", "due", "past 1 1", "past 1 2", "past 1 3", "past 2 2", "past 2 3", "past 3 3"] {
+            list.say(call.into());
+        }
     }
     list.lines
 }
 
-/// Every untorn book of one column with N 3 and M from 2 to 4.
+/// Every untorn book of one column with N 3 and M from 2 to 4, the pairs of N in turn.
 fn untorn_books() -> Vec<Vec<String>> {
     let mut lists = Vec::new();
+    let mut pairs = [(2, 3), (2, 2), (3, 3), (2, 3), (0, 0)].into_iter().cycle();
     for (start, newest) in [(1, 2), (1, 3), (2, 4)] {
         for ends in every_ends(start, newest) {
-            lists.extend((0..1 << ends.len()).map(|beating| untorn_book(newest, &ends, beating)));
+            let books = (0..1 << ends.len()).zip(pairs.by_ref());
+            lists.extend(books.map(|(beating, pair)| untorn_book(newest, &ends, beating, pair)));
         }
     }
     lists
@@ -186,9 +265,11 @@ fn retired_over(memory: u32, newest: u32, place: u32, live_one: Option<u32>) -> 
     }
     list.head(newest, held - 1, held);
     list.say(format!("watch {memory}"));
+    list.say(format!("pair 2 {memory}"));
     for _ in 0..=memory {
         list.say("quote 5 5".into());
         list.say("show".into());
+        list.say("due".into());
         list.say(format!("look {memory}"));
         list.say(format!("past 2 {memory}"));
     }
@@ -209,6 +290,45 @@ fn retired_overs() -> Vec<Vec<String>> {
     lists
 }
 
+/// The paper's tape of past lists as calls, and what is seen of the book that it leaves.
+fn past_example() -> (Vec<String>, String) {
+    let mut lines = vec!["open 2 5 0".to_string()];
+    lines.extend(["5 5", "3 8", "4 4", "7 2", "4 4", "6 6", "2 9", "4 3"].map(|columns| format!("quote {columns}")));
+    lines.extend(["show", "audit", "past 2 5"].map(String::from));
+    let counts = ["1 1 1", "2 2 2", "3 2 3", "4 3 4", "5 4 5", "6 5 5", "7 5 5", "8 3 5"];
+    let quotes: String = counts.iter().map(|counts| format!("A 0 0 2 5 0 {counts} 0 0\n")).collect();
+    let tables = "C 7 2 4 4 6 6 2 9 4 3\nP 4 5 6 7 8\nE 0 0 5 0 0\nU 0 8 8 0 0\nW 0 0 0 0 0 0 0 0\nV yes\n";
+    (lines, format!("A 0 0 2 5 0 0 0 0 0 0\n{quotes}{tables}A 0 3 2 5 0 8 3 5 0 0\nX 4 5 7\n"))
+}
+
+/// A pair of 3 and 5 on a book of six: what each quote writes, and what is due before the first and after each.
+fn due_example() -> (Vec<String>, String) {
+    let mut lines: Vec<String> = ["open 2 6 0", "pair 3 5", "due"].map(String::from).to_vec();
+    for columns in ["3 3", "4 4", "1 5", "2 2", "9 9", "1 1", "5 5"] {
+        lines.push(format!("quote {columns}"));
+        if columns == "2 2" {
+            lines.extend(["lend out 3", "due", "lend out 4"].map(String::from));
+        }
+        lines.extend(["due", "lend out 62520"].map(String::from));
+    }
+    lines.extend(["unpair", "due", "unpair"].map(String::from));
+    let print = "A 0 0 2 6 0 0 0 0 0 0\nA 0 0 2 6 0 0 0 0 3 5\nA 0 0 2 6 0 0 0 0 3 5\n\
+                 A 0 0 2 6 0 1 1 1 3 5\nA 0 1 2 6 0 1 1 1 3 5\nX 1 2\n\
+                 A 0 0 2 6 0 2 2 2 3 5\nA 0 1 2 6 0 2 2 2 3 5\nX 1 1\n\
+                 A 0 5 2 6 0 3 3 3 3 5\nX 37 1 0 0 0\nA 0 1 2 6 0 3 3 3 3 5\nX 3 2\n\
+                 A 0 0 2 6 0 4 2 4 3 5\nA 13 0 2 6 0 4 2 4 3 5\nA 0 2 2 6 0 4 2 4 3 5\nX 3 1 4 2\n\
+                 A 0 5 2 6 0 5 3 5 3 5\nX 37 3 0 0 0\nA 0 1 2 6 0 5 3 5 3 5\nX 4 1\n\
+                 A 0 10 2 6 0 6 1 6 3 5\nX 36 1 0 0 0 37 4 0 0 0\nA 0 1 2 6 0 6 1 6 3 5\nX 6 2\n\
+                 A 0 0 2 6 0 7 2 6 3 5\nA 0 1 2 6 0 7 2 6 3 5\nX 6 1\n\
+                 A 0 0 2 6 0 7 2 6 0 0\nA 0 0 2 6 0 7 2 6 0 0\nA 10 0 2 6 0 7 2 6 0 0\n";
+    (lines, print.into())
+}
+
+/// The lists that are worked out by hand, with their prints.
+pub fn examples() -> Vec<(Vec<String>, String)> {
+    vec![past_example(), due_example()]
+}
+
 /// All small lists, and one of every sort of line that cannot be taken.
 pub fn small_lists() -> Vec<Vec<String>> {
     let mut lists = Vec::new();
@@ -221,8 +341,11 @@ pub fn small_lists() -> Vec<Vec<String>> {
     lists.push(every_loan(6, 1_024));
     lists.extend((0..=9).map(every_count));
     lists.push(BAD_LINES.iter().map(|line| line.to_string()).collect());
-    lists.push(longest_answer());
+    lists.push(longest_answers());
     lists.push(marked_audits());
+    lists.extend(examples().into_iter().map(|(lines, _)| lines));
+    lists.extend((1..=4).map(any_pairs));
+    lists.extend(watched_pairs());
     lists.extend(untorn_books());
     lists.extend(retired_overs());
     lists

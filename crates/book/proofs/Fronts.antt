@@ -10,36 +10,19 @@ use lib.Seq.{take-all, take-take, take-nil}
 use borrow.Author.Tests.{ltb-false}
 use Rattle.lists.specs.Lists.{insert, without, laid, padded}
 use Rattle.lists.proofs.Booleans.{none-right}
-use Rattle.head.specs.declared.Answer.the-variants.{Accepted}
 use Rattle.head.specs.declared.Head.{Head}
-use Rattle.head.specs.declared.Reply.{Reply}
 use Rattle.head.specs.declared.Watch.{Watch}
 use Rattle.head.specs.Refusals.{granted}
 use Rattle.head.specs.Replies.{outcome}
 use Rattle.head.proofs.Numbers.{zero-passed}
 use Rattle.model.specs.Rows.{Tables}
-use Rattle.model.specs.Book.{shortTables, shortLoan, standing, tornWatches, watchfulAnswer, replyOf, openAnswer, openReply, openTables, openWatches, quoteRows, quoteHead, quoteBytes, quoteAnswer, quoteReply, quoteTables, quoteOut, watchBytes, watchAnswer, watchReply, watchWatches, watchOut, endAnswer, endReply, endWatches}
+use Rattle.model.specs.Book.{shortTables, shortLoan, standing, watchfulAnswer, replyOf, openAnswer, openReply, openTables, openWatches, watchBytes, watchAnswer, watchReply, watchWatches, watchOut, endAnswer, endReply, endWatches}
 use Rattle.watches.specs.Records.{watched, firstEight, stored, Vacant}
-use Rattle.model.specs.Promises.{Opened, Quoted, Watched, Ended}
+use Rattle.model.specs.Promises.{Opened, Watched, Ended}
 use Rattle.watching.proofs.Watches.{watch-free}
 use Rattle.lending.specs.declared.Judgement.{Judgement}
 use Rattle.lending.specs.Lent.{Judged, OpenJudged, WatchJudged}
-
--- as many numbers as there are records, of eight that are read off them
-pub lent-front : (ws : List ℕ) → take (length ws) (firstEight ws) ≡ take 8 ws
-unfolding firstEight
-lent-front ws = go 8 ws (replicate 8 0)
-  where
-    go : (n : ℕ) (xs ys : List ℕ) → take (length xs) (take n (xs ++ ys)) ≡ take n xs
-    go zero xs ys = take-nil (length xs)
-    go (suc n) [] ys = refl
-    go (suc n) (x ∷ xs) ys = ap (λ (l : List ℕ). x ∷ l) (go n xs ys)
-
--- a list is too short exactly if its front is
-few-in : (n : ℕ) (ws : List ℕ) → ltb (length (take n ws)) n ≡ ltb (length ws) n
-few-in zero ws = sym (leb·suc-zero (length ws))
-few-in (suc n) [] = refl
-few-in (suc n) (w ∷ ws) = leb·suc-suc (suc (length (take n ws))) n ∙ few-in n ws ∙ sym (leb·suc-suc (suc (length ws)) n)
+use Rattle.shared_records.proofs.Fronts.{standing-front, short-front, watchful-front, front}
 
 -- a test of a reply that came out so
 accepted-is : (n : ℕ) {b : Bool} → b ≡ granted n true false → T b → n ≡ 0
@@ -63,41 +46,17 @@ unfolding watchfulAnswer
 eight-lent h t ws more e = eight-of t ws (h .dimensions) (h .capacity) (zero-passed _ _ _ (zero-passed _ _ _ e .1) .0)
 
 module _ (ws : List ℕ) where
-  torn-front : (N : ℕ) → tornWatches N (take 8 ws) ≡ tornWatches N ws
-  unfolding tornWatches
-  torn-front N = rw (take-take 8 8 ws (omega arith))
-
-  standing-front : standing (take 8 ws) ≡ standing ws
-  unfolding standing
-  standing-front = rw (take-take 8 8 ws (omega arith))
-
-  short-front : (t : Tables) (d N : ℕ) → shortLoan t (take 8 ws) d N ≡ shortLoan t ws d N
-  unfolding shortLoan
-  short-front t d N = rw (few-in 8 ws)
-
-  watchful-front : (h : Head) (t : Tables) (more : List (Bool × ℕ)) → watchfulAnswer h t (take 8 ws) more ≡ watchfulAnswer h t ws more
-  unfolding watchfulAnswer
-  watchful-front h t more = rw (short-front t (h .dimensions) (h .capacity), torn-front (h .capacity))
-
   end-front : (h : Head) (n : ℕ) (t : Tables) → endAnswer h n t (take 8 ws) ≡ endAnswer h n t ws
   unfolding endAnswer
-  end-front h n t = rw (standing-front, watchful-front h t)
+  end-front h n t = rw (standing-front ws, watchful-front ws h t)
 
   watch-front : (h : Head) (n : ℕ) (t : Tables) (room : ℕ) → watchAnswer h n t (take 8 ws) room ≡ watchAnswer h n t ws room
   unfolding watchAnswer watchBytes
-  watch-front h n t room = rw (standing-front, watchful-front h t)
-
-  quote-front : (h : Head) (x : List ℕ) (t : Tables) (room : ℕ) → quoteAnswer h x t (take 8 ws) room ≡ quoteAnswer h x t ws room
-  unfolding quoteAnswer quoteBytes quoteHead quoteRows
-  quote-front h x t room = rw (standing-front, watchful-front h t)
-
-  bytes-front : (h : Head) (x : List ℕ) (t : Tables) → quoteBytes h x t (take 8 ws) ≡ quoteBytes h x t ws
-  unfolding quoteBytes quoteHead quoteRows
-  bytes-front h x t = rw standing-front
+  watch-front h n t room = rw (standing-front ws, watchful-front ws h t)
 
   open-front : (d N directions : ℕ) (t : Tables) → openAnswer d N directions t (take 8 ws) ≡ openAnswer d N directions t ws
   unfolding openAnswer
-  open-front d N directions t = rw (short-front t d N)
+  open-front d N directions t = rw (short-front ws t d N)
 
   -- empties over eight records
   cleared : 8 ≤ length ws → stored (replicate 8 0) ws ≡ padded 8 [] ws
@@ -109,10 +68,6 @@ module _ (ys : List Watch) where
   abbrev ws : List ℕ
   ws = watched ys
 
-  front : {ns : List ℕ} → ns ≡ firstEight ws → take (length ys) ns ≡ take 8 ws
-  unfolding watched
-  front e = rw (e, ← length-map ys Watch.n) (lent-front (map Watch.n ys))
-
   as-many : 8 ≤ length ws → 8 ≤ length ys
   unfolding watched
   as-many h = rw (← length-map ys Watch.n) h
@@ -120,11 +75,11 @@ module _ (ys : List Watch) where
   module _ (h : Head) (n : ℕ) (t : Tables) {ns : List ℕ} (e : ns ≡ firstEight ws) (j : Judgement) (f : Judged (endReply h n t (take (length ys) ns)) j) where
     end-reply : outcome (j .reply) ≡ endReply h n t ws
     unfolding endReply
-    end-reply = f .reply ∙ rw (front e, end-front ws h n t)
+    end-reply = f .reply ∙ rw (front ys e, end-front ws h n t)
 
     end-accepts : j .accepted ≡ granted (endAnswer h n t ws) true false
     unfolding endReply replyOf
-    end-accepts = f .accepted ∙ rw (front e, end-front ws h n t)
+    end-accepts = f .accepted ∙ rw (front ys e, end-front ws h n t)
 
     -- a refused end leaves the records
     pub end-left : T (not (j .accepted)) → Ended h n t ws (j .reply) ws
@@ -143,15 +98,15 @@ module _ (ys : List Watch) where
   module _ (h : Head) (n : ℕ) (t : Tables) {ns : List ℕ} (e : ns ≡ firstEight ws) {before after : List ℕ} (j : Judgement) (f : WatchJudged h n t (take (length ys) ns) before j after) where
     watch-reply : outcome (j .reply) ≡ watchReply h n t ws (length before)
     unfolding watchReply watchBytes
-    watch-reply = f .judged .reply ∙ rw (front e, watch-front ws h n t)
+    watch-reply = f .judged .reply ∙ rw (front ys e, watch-front ws h n t)
 
     watch-accepts : j .accepted ≡ granted (watchAnswer h n t ws (length before)) true false
     unfolding watchReply replyOf
-    watch-accepts = f .judged .accepted ∙ rw (front e, watch-front ws h n t)
+    watch-accepts = f .judged .accepted ∙ rw (front ys e, watch-front ws h n t)
 
     watch-out : after ≡ watchOut h n t ws before
     unfolding watchOut watchBytes
-    watch-out = f .out ∙ rw (front e, watch-front ws h n t)
+    watch-out = f .out ∙ rw (front ys e, watch-front ws h n t)
 
     -- a refused watch leaves the records
     pub watch-left : T (not (j .accepted)) → Watched h n t ws before (j .reply) ws after
@@ -166,7 +121,7 @@ module _ (ys : List Watch) where
       pub watch-asks : (8 ≤ length ys) × Vacant ws
       unfolding watchAnswer
       watch-asks =
-          let free = watch-free h n t ws {a = Accepted} (sym watch-is) refl in
+          let free = watch-free h n t ws (length before) watch-is in
           (as-many (eight-lent h t ws _ watch-is), record { capacity = h .capacity; untorn = free .untorn; free = free .free })
 
       pub watch-inserted : (last : List ℕ) → last ≡ padded 8 (insert n (standing ws)) ws → Watched h n t ws before (j .reply) last after
@@ -176,15 +131,15 @@ module _ (ys : List Watch) where
   module _ (d N directions : ℕ) (t : Tables) {ns : List ℕ} (e : ns ≡ firstEight ws) {t' : Tables} (j : Judgement) (f : OpenJudged d N directions t (take (length ys) ns) j t') where
     open-reply : outcome (j .reply) ≡ openReply d N directions t ws
     unfolding openReply
-    open-reply = f .judged .reply ∙ rw (front e, open-front ws d N directions t)
+    open-reply = f .judged .reply ∙ rw (front ys e, open-front ws d N directions t)
 
     open-accepts : j .accepted ≡ granted (openAnswer d N directions t ws) true false
     unfolding openReply replyOf
-    open-accepts = f .judged .accepted ∙ rw (front e, open-front ws d N directions t)
+    open-accepts = f .judged .accepted ∙ rw (front ys e, open-front ws d N directions t)
 
     open-tables : t' ≡ openTables d N directions t ws
     unfolding openTables
-    open-tables = f .lent ∙ rw (front e, open-front ws d N directions t)
+    open-tables = f .lent ∙ rw (front ys e, open-front ws d N directions t)
 
     -- a refused opening leaves the records
     pub open-left : T (not (j .accepted)) → Opened d N directions t ws (j .reply) t' ws
@@ -198,13 +153,3 @@ module _ (ys : List Watch) where
         let a = accepted-is (openAnswer d N directions t ws) open-accepts on in
         let long = zero-passed _ _ _ (zero-passed _ _ _ a .1) .0 in
         record { reply = open-reply; lent = open-tables; watches = m ∙ cleared ws (eight-of t ws d N long) ∙ rw a }
-
-  -- a quote on as many numbers as records are lent is one on the records
-  pub quote-records : (h : Head) (x : List ℕ) (t : Tables) {ns : List ℕ} → ns ≡ firstEight ws → {before : List ℕ} {r : Reply} {t' : Tables} {after : List ℕ} → Quoted h x t (take (length ys) ns) before r t' after → Quoted h x t ws before r t' after
-  unfolding quoteReply quoteTables quoteOut quoteHead quoteRows
-  quote-records h x t e m =
-      record {
-        reply = m .reply ∙ rw (front e, quote-front ws h x t, bytes-front ws h x t);
-        lent = m .lent ∙ rw (front e, quote-front ws h x t);
-        out = m .out ∙ rw (front e, quote-front ws h x t, bytes-front ws h x t);
-      }

@@ -1,6 +1,5 @@
 -- The laws of the crate.
 pub mod Fronts
-pub mod Machines
 pub mod Deciding
 pub mod Calling
 pub mod Records

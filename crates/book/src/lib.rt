@@ -1,15 +1,18 @@
-// The public calls on a book: opening, quote, look, past look, watch and end, with the watches in a lent list of records.
+// The public calls on a book, with the watches in a lent list of records: opening, watch and end here, the others handed on.
 ghost use Rattle.watches.specs.Records.{watched};
-ghost use Rattle.model.specs.Promises.{tables, Opened, Quoted, Watched, Ended};
+ghost use Rattle.model.specs.Promises.{tables, Opened, Watched, Ended};
 use head::Head;
 use head::Reply;
 use head::Watch;
 use lending::end_lent;
 use lending::open_lent;
-use lending::quote_lent;
 use lending::watch_lent;
+pub use looking::due;
 pub use looking::look;
 pub use looking::past;
+pub use shared_records::pair;
+pub use shared_records::quote;
+pub use shared_records::unpair;
 pub use watches::find_record;
 use watches::insert_record;
 use watches::numbers;
@@ -50,38 +53,6 @@ pub fn open(
         store(&mut *watches, [0; 8]);
     }
     judged.reply
-}
-
-// Takes a quote: writes the changes of every watch, puts the quote's row into the tables, and hands back the next head
-// and how many bytes were written.
-pub fn quote(
-    head: Head,
-    quote: &[u32],
-    columns: &mut [u32],
-    positions: &mut [u32],
-    lower_ends: &mut [u32],
-    upper_ends: &mut [u32],
-    watches: &[Watch],
-    out: &mut [u8],
-) -> Reply
-    ensures { λ r. ⌜ Quoted head (now (quote .entry))
-        (tables (now (columns .entry)) (now (positions .entry)) (now («lower_ends» .entry)) (now («upper_ends» .entry)))
-        (watched (now (watches .entry))) (now (out .entry)) r
-        (tables (now (columns .exit)) (now (positions .exit)) (now («lower_ends» .exit)) (now («upper_ends» .exit))) (now (out .exit)) ⌝ }
-{
-    let before = numbers(watches);
-    let lent = watches.len();
-    quote_lent(
-        head,
-        quote,
-        columns,
-        positions,
-        lower_ends,
-        upper_ends,
-        before,
-        lent,
-        out,
-    )
 }
 
 // Sets a watch of n and writes a join for each position of its list; hands back how many bytes.

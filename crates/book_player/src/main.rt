@@ -3,18 +3,21 @@
 use player_desk::Desk;
 use player_input::Stand;
 use player_input::next_line;
-use player_print::Print;
-use player_print::flush;
+use player_output::Print;
+use player_output::flush;
 use player_print::print_line;
 use player_turns::play;
+use sizes::CHANGE_BYTES;
+use sizes::COLUMN_CELLS;
+use sizes::PLACES;
 
 fn main() {
-    let mut columns = [0u32; 6144];
-    let mut positions = [0u32; 1024];
-    let mut lower_ends = [0u32; 1024];
-    let mut upper_ends = [0u32; 1024];
-    let mut out = [0u8; 57400];
-    let mut cells = [0u32; 57400];
+    let mut columns = [0u32; COLUMN_CELLS];
+    let mut positions = [0u32; PLACES];
+    let mut lower_ends = [0u32; PLACES];
+    let mut upper_ends = [0u32; PLACES];
+    let mut out = [0u8; CHANGE_BYTES];
+    let mut cells = [0u32; CHANGE_BYTES];
     let mut text = [0u8; 65536];
     let mut lines = [0u8; 65536];
     let mut desk = Desk::first();

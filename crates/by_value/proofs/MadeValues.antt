@@ -11,7 +11,7 @@ use Rattle.head.specs.declared.Reply.{Reply}
 use Rattle.head.specs.declared.Watch.{Watch}
 use Rattle.head.proofs.Reply as R
 use Rattle.head.proofs.Watch as T
-use Rattle.book.proofs.Machines.{machines}
+use Rattle.shared_records.proofs.Machines.{machines}
 use Rattle.by_value.specs.declared.Made.{Made}
 use Rattle.by_value.proofs.Made as Md
 use Rattle.by_value.proofs.LocalRecords.{recorded}

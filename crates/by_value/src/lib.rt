@@ -3,7 +3,7 @@
 ghost use mathlib.Core.Path.{_≡_};
 ghost use Rattle.lists.specs.Lists.{contains};
 ghost use Rattle.model.specs.Book.{standing};
-ghost use Rattle.model.specs.Promises.{tables, Opened, Quoted, Watched, Ended};
+ghost use Rattle.model.specs.Promises.{tables, Opened, Quoted, Watched, Ended, Paired, Unpaired};
 ghost use Rattle.watches.specs.Records.{watched};
 ghost use Rattle.frames.specs.Moved.{Moved};
 use frames::Place;
@@ -74,7 +74,7 @@ pub fn quote(
         (tables (now (columns .exit)) (now (positions .exit)) (now («lower_ends» .exit)) (now («upper_ends» .exit))) (now (out .exit)) ⌝ }
 {
     let held = records;
-    book::quote(
+    shared_records::quote(
         head,
         quoted,
         columns,
@@ -161,4 +161,51 @@ pub fn read(tape: &[u8], place: Place) -> Found
     let mut held = place;
     let read = frames::read_next(tape, &mut held);
     Found { read, place: held }
+}
+
+// Sets the watch of a pair.
+pub fn pair(
+    head: Head,
+    n1: u32,
+    n2: u32,
+    columns: &[u32],
+    positions: &[u32],
+    lower_ends: &[u32],
+    upper_ends: &[u32],
+    records: [Watch; 8],
+    out: &mut [u8],
+) -> Reply
+    ensures { λ r. ⌜ Paired head n1 n2
+        (tables (now (columns .entry)) (now (positions .entry)) (now («lower_ends» .entry)) (now («upper_ends» .entry)))
+        (watched records) (now (out .entry)) r (now (out .exit)) ⌝ }
+{
+    let held = records;
+    shared_records::pair(
+        head,
+        n1,
+        n2,
+        columns,
+        positions,
+        lower_ends,
+        upper_ends,
+        &held,
+        out,
+    )
+}
+
+// Ends the watch of the pair.
+pub fn unpair(
+    head: Head,
+    columns: &[u32],
+    positions: &[u32],
+    lower_ends: &[u32],
+    upper_ends: &[u32],
+    records: [Watch; 8],
+) -> Reply
+    ensures { λ r. ⌜ Unpaired head
+        (tables (now (columns .entry)) (now (positions .entry)) (now («lower_ends» .entry)) (now («upper_ends» .entry)))
+        (watched records) r ⌝ }
+{
+    let held = records;
+    shared_records::unpair(head, columns, positions, lower_ends, upper_ends, &held)
 }

@@ -21,7 +21,7 @@ use Rattle.head.specs.Heads.{afterQuote, lastPosition}
 use Rattle.frames.specs.declared.Message.{Message}
 use Rattle.model.specs.Rows.{Row, Tables, rowAt, rowsIn, listed, expiring, overOlder, lowerEndAmong, rowsAfter}
 use Rattle.model.specs.Changes.{changesBy, changes, allChanges, frames}
-use Rattle.model.specs.Book.{tornWatches, bookRows, standing, listOf, quoteRows, quoteHead, quoteBytes}
+use Rattle.model.specs.Book.{tornWatches, bookRows, standing, listOf, quoteRows, quoteHead}
 use Rattle.model.proofs.Torn.{Whole, upperAstray, upper-place}
 use Rattle.model.proofs.Listing.{list-after}
 use Rattle.finding.specs.Found.{live, Rows, rows, over}
@@ -172,7 +172,8 @@ module _ (h : Head) (t : Tables) (x : List ℕ) (lower : ℕ) (whole : Whole h (
             (ap (λ (r : List ℕ). frames C ++ r) e ∙ sym (frames-append C (messages (filter (ltb 0) ws))))
         go (no l) e = rw (le-ltb 0 n (omega arith), watch-none h (t .lowerEnds) lent lower n (omega arith)) e
 
-  -- the frames of the first eight records are the bytes that the model's quote writes
-  pub quote-frames : (ws : List ℕ) → tornWatches (h .capacity) ws ≡ false → allFrames h (t .lowerEnds) lent lower (take 8 ws) ≡ quoteBytes h x t ws
-  unfolding quoteBytes standing
+  -- the frames of the first eight records are those of the model's changes of every watch
+  pub quote-frames : (ws : List ℕ) → tornWatches (h .capacity) ws ≡ false
+      → allFrames h (t .lowerEnds) lent lower (take 8 ws) ≡ frames (allChanges (standing ws) (listOf h rs) (listOf (quoteHead h x t ws) (quoteRows h x t ws)))
+  unfolding standing
   quote-frames ws e = records-frames ws (take 8 ws) (watches-below (h .capacity) ws e)

@@ -17,7 +17,7 @@ use head::Head;
 use listing::start_of;
 
 // How the window of n moves at a quote.
-fn shift_of(head: Head, n: u32) -> Shift
+pub fn shift_of(head: Head, n: u32) -> Shift
     requires { ⌜ head .newest < lastPosition ⌝ }
     ensures { λ r. ⌜ r ≡ shiftOf (head .newest) n ⌝ }
 {

@@ -8,6 +8,12 @@ use judged_reads::find;
 use judged_reads::look;
 use judged_reads::past;
 use judged_reads::watch;
+use lending::end_lent;
+use lending::open_lent;
+use lending::pair_lent;
+use lending::quote_lent;
+use lending::unpair_lent;
+use lending::watch_lent;
 
 // Refusals of calls that only read the tables, 5, 8, 10, 11, 12, 13, 14, and the watch of 2 ended.
 pub fn refusals(
@@ -141,4 +147,98 @@ pub fn limits() {
         records,
         &mut out,
     ));
+}
+
+// Refusals of a watch and its end on a watch list of seven records: 11 of each.
+fn short_watches(
+    head: Head,
+    columns: &[u32],
+    positions: &[u32],
+    lower_ends: &[u32],
+    upper_ends: &[u32],
+) {
+    let mut out = [0u8; 14];
+    let watched = watch_lent(
+        head,
+        1,
+        columns,
+        positions,
+        lower_ends,
+        upper_ends,
+        [0; 8],
+        7,
+        &mut out,
+    );
+    print_answer(watched.reply);
+    let ended = end_lent(
+        head,
+        1,
+        columns,
+        positions,
+        lower_ends,
+        upper_ends,
+        [0; 8],
+        7,
+    );
+    print_answer(ended.reply);
+}
+
+// Refusals of a pair and its end on a watch list of seven records: 11 of each.
+fn short_pairs(
+    head: Head,
+    columns: &[u32],
+    positions: &[u32],
+    lower_ends: &[u32],
+    upper_ends: &[u32],
+) {
+    let mut out = [0u8; 10];
+    print_answer(pair_lent(
+        head,
+        2,
+        2,
+        columns,
+        positions,
+        lower_ends,
+        upper_ends,
+        [0; 8],
+        7,
+        &mut out,
+    ));
+    print_answer(unpair_lent(head, columns, positions, lower_ends, upper_ends, [0; 8], 7));
+}
+
+// Refusals of an opening and a quote on a watch list of seven records, and of the calls that read the tables: 11 of each.
+pub fn short_lists() {
+    let mut columns = [0u32; 2];
+    let mut positions = [0u32; 2];
+    let mut lower_ends = [0u32; 2];
+    let mut upper_ends = [0u32; 2];
+    let mut out = [0u8; 14];
+    let opened = open_lent(
+        1,
+        2,
+        0,
+        &mut columns,
+        &mut positions,
+        &mut lower_ends,
+        &mut upper_ends,
+        [0; 8],
+        7,
+    );
+    print_answer(opened.reply);
+    let head = Head::fresh(1, 2, 0);
+    let one = [1];
+    print_answer(quote_lent(
+        head,
+        &one,
+        &mut columns,
+        &mut positions,
+        &mut lower_ends,
+        &mut upper_ends,
+        [0; 8],
+        7,
+        &mut out,
+    ));
+    short_watches(head, &columns, &positions, &lower_ends, &upper_ends);
+    short_pairs(head, &columns, &positions, &lower_ends, &upper_ends);
 }

@@ -8,12 +8,12 @@ use borrow.Author.Tests.{lt-ltb, le-ltb, eq-eqb, ne-eqb}
 use Rattle.head.specs.declared.Refusal.the-variants.{UnknownKind, CutFrame}
 use Rattle.octets.specs.Bytes.{number2, number4}
 use Rattle.frames.specs.declared.Shape.{Shape}
-use Rattle.frames.specs.declared.Shape.the-variants.{Columns, Size, SizePosition, SizePair, Settings, Unknown}
+use Rattle.frames.specs.declared.Shape.the-variants as Shape
 use Rattle.frames.specs.declared.Message.{Message}
-use Rattle.frames.specs.declared.Message.the-variants.{Quote, Sized, Change, Pair, Open, End, Refused}
-use Rattle.frames.specs.Kinds.{shapeOf, codeOf, bodyLength}
+use Rattle.frames.specs.declared.Message.the-variants.{Quote, Sized, Change, Pair, Bare, Position, Open, End, Refused}
+use Rattle.frames.specs.Kinds.{shapeOf, bodyLength}
 use Rattle.frames.specs.Frames.{messageBy, messageAt, columnsAt, told, saying, reading, stays, readAt}
-use Rattle.frames.proofs.Shapes.{Known, quote-shape}
+use Rattle.frames.proofs.Shapes.{KnownShape, Known, quote-shape}
 
 module _ (tape : List ℕ) (place : ℕ) where
   pub beyond : length tape < place → stays (saying (Refused CutFrame)) place ≡ readAt tape place
@@ -59,13 +59,15 @@ pub message-told : (tape : List ℕ) (body kind : ℕ) → Known kind → saying
 unfolding messageAt messageBy saying
 message-told tape body kind known = go (shapeOf kind) known
   where
-    go : (shape : Shape) → codeOf shape < 5 → saying (messageBy shape tape body kind) ≡ told (messageBy shape tape body kind)
-    go Columns l = refl
-    go Size l = refl
-    go SizePosition l = refl
-    go SizePair l = refl
-    go Settings l = refl
-    go Unknown l = absurd (omega arith)
+    go : (shape : Shape) → KnownShape shape → saying (messageBy shape tape body kind) ≡ told (messageBy shape tape body kind)
+    go Shape.Columns l = refl
+    go Shape.Size l = refl
+    go Shape.SizePosition l = refl
+    go Shape.SizePair l = refl
+    go Shape.Bare l = refl
+    go Shape.Position l = refl
+    go Shape.Settings l = refl
+    go Shape.Unknown l = absurd (omega arith)
 
 -- a quote says itself
 pub quote-told : (tape : List ℕ) (body kind : ℕ) → 1 ≤ kind → kind ≤ 6 → saying (Quote kind) ≡ told (messageAt tape body kind)
@@ -74,26 +76,34 @@ quote-told tape body kind some few = rw (quote-shape kind some few)
 
 -- the message of each shape
 module _ (tape : List ℕ) (body kind : ℕ) where
-  pub quote-message : shapeOf kind ≡ Columns → Quote kind ≡ messageAt tape body kind
+  pub quote-message : shapeOf kind ≡ Shape.Columns → Quote kind ≡ messageAt tape body kind
   unfolding messageAt messageBy
   quote-message e = rw e
 
-  pub size-message : shapeOf kind ≡ Size → {n : ℕ} → n ≡ number2 tape body → Sized kind n ≡ messageAt tape body kind
+  pub size-message : shapeOf kind ≡ Shape.Size → {n : ℕ} → n ≡ number2 tape body → Sized kind n ≡ messageAt tape body kind
   unfolding messageAt messageBy
   size-message e a = rw (e, a)
 
-  pub change-message : shapeOf kind ≡ SizePosition → {n p : ℕ} → n ≡ number2 tape body → p ≡ number4 tape (body + 2) → Change kind n p ≡ messageAt tape body kind
+  pub change-message : shapeOf kind ≡ Shape.SizePosition → {n p : ℕ} → n ≡ number2 tape body → p ≡ number4 tape (body + 2) → Change kind n p ≡ messageAt tape body kind
   unfolding messageAt messageBy
   change-message e a b = rw (e, a, b)
 
-  pub pair-message : shapeOf kind ≡ SizePair → {n1 n2 : ℕ} → n1 ≡ number2 tape body → n2 ≡ number2 tape (body + 2) → Pair kind n1 n2 ≡ messageAt tape body kind
+  pub pair-message : shapeOf kind ≡ Shape.SizePair → {n1 n2 : ℕ} → n1 ≡ number2 tape body → n2 ≡ number2 tape (body + 2) → Pair kind n1 n2 ≡ messageAt tape body kind
   unfolding messageAt messageBy
   pair-message e a b = rw (e, a, b)
 
-  pub open-message : shapeOf kind ≡ Settings → {N : ℕ} → N ≡ number2 tape (body + 1) → Open (getD tape body 0) N (getD tape (body + 3) 0) ≡ messageAt tape body kind
+  pub bare-message : shapeOf kind ≡ Shape.Bare → Bare kind ≡ messageAt tape body kind
+  unfolding messageAt messageBy
+  bare-message e = rw e
+
+  pub position-message : shapeOf kind ≡ Shape.Position → {p : ℕ} → p ≡ number4 tape body → Position kind p ≡ messageAt tape body kind
+  unfolding messageAt messageBy
+  position-message e a = rw (e, a)
+
+  pub open-message : shapeOf kind ≡ Shape.Settings → {N : ℕ} → N ≡ number2 tape (body + 1) → Open (getD tape body 0) N (getD tape (body + 3) 0) ≡ messageAt tape body kind
   unfolding messageAt messageBy
   open-message e a = rw (e, a)
 
-  pub unknown-message : shapeOf kind ≡ Unknown → Refused UnknownKind ≡ messageAt tape body kind
+  pub unknown-message : shapeOf kind ≡ Shape.Unknown → Refused UnknownKind ≡ messageAt tape body kind
   unfolding messageAt messageBy
   unknown-message e = rw e

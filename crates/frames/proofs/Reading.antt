@@ -17,7 +17,7 @@ use Rattle.lists.proofs.Runs.{run-append}
 use Rattle.lists.proofs.Cells.{map-run, map-one}
 use Rattle.octets.specs.Bytes.{number2, number4}
 use Rattle.frames.specs.declared.Shape.{Shape}
-use Rattle.frames.specs.declared.Shape.the-variants.{Columns, Size, SizePosition, SizePair, Settings, Unknown}
+use Rattle.frames.specs.declared.Shape.the-variants.{Columns, Size, SizePosition, SizePair, Bare, Position, Settings, Unknown}
 use Rattle.frames.specs.declared.Read.{Read}
 use Rattle.frames.specs.Kinds.{within, shapeOf, bodyLength}
 use Rattle.frames.specs.Frames.{messageBy, messageAt, columnsAt, told, ended, refused, saying, Reading, reading, stays, readAt, toldFirst, messagesFrom}
@@ -53,6 +53,8 @@ message-drop tape at kind = go (shapeOf kind)
     go Size = simp (getD-drop, add-zero, add-assoc)
     go SizePosition = simp (getD-drop, add-zero, add-assoc)
     go SizePair = simp (getD-drop, add-zero, add-assoc)
+    go Bare = refl
+    go Position = simp (getD-drop, add-zero, add-assoc)
     go Settings = simp (getD-drop, add-zero, add-assoc)
     go Unknown = refl
 

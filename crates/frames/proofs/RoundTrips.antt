@@ -17,13 +17,13 @@ use Rattle.octets.specs.Bytes.{bytes2, bytes4, number2, number4}
 use Rattle.octets.proofs.Numbers.{two-bytes, four-bytes, bytes2-again, bytes4-again}
 use Rattle.octets.proofs.Cells.{length-cells, cell-again, cells-again}
 use Rattle.frames.specs.declared.Shape.{Shape}
-use Rattle.frames.specs.declared.Shape.the-variants.{Columns, Size, SizePosition, SizePair, Settings, Unknown}
+use Rattle.frames.specs.declared.Shape.the-variants as Shape
 use Rattle.frames.specs.declared.Message.{Message}
-use Rattle.frames.specs.declared.Message.the-variants.{Quote, Sized, Change, Pair, Open, End, Refused}
-use Rattle.frames.specs.Kinds.{leaveKind, joinKind, openKind, kinds, shapeIn, shapeOf, codeOf, hasShape, lengthOf, bodyLength}
+use Rattle.frames.specs.declared.Message.the-variants.{Quote, Sized, Change, Pair, Bare, Position, Open, End, Refused}
+use Rattle.frames.specs.Kinds.{leaveKind, joinKind, pairLeaveKind, pairJoinKind, openKind, kinds, shapeIn, shapeOf, codeOf, hasShape, lengthOf, bodyLength}
 use Rattle.frames.specs.Frames.{framed, frame, messageBy, messageAt, columnsAt, Saying, told, ended, refused, Reading, stays, readAt}
 use Rattle.frames.specs.Messages.{columnCount, columnsOf, Typed, Writable, Exact}
-use Rattle.frames.proofs.Shapes.{Known, quote-kinds, open-kind, open-shape, no-quote, shape-told, shape-tells, body-by, quote-body, known-body}
+use Rattle.frames.proofs.Shapes.{KnownShape, Known, quote-kinds, open-kind, open-shape, no-quote, shape-told, shape-tells, body-by, quote-body, known-body}
 use Rattle.frames.proofs.Reading.{message-drop, columns-drop, quote-columns, Found, beyond, at-end, unknown, cut, whole, found}
 use Rattle.frames.proofs.WriteCases.{column-range}
 
@@ -35,6 +35,11 @@ six-writable m cs h t l f = record { has-frame = h; typed = t; enough = omega (a
 pub change-length : (k n p : ℕ) → length (frame (Change k n p) []) ≡ 7
 unfolding frame bytes2 bytes4
 change-length k n p = refl
+
+-- that of a position has five
+pub position-length : (k p : ℕ) → length (frame (Position k p) []) ≡ 5
+unfolding frame bytes4
+position-length k p = refl
 
 -- ---- a frame that is written reads as its message
 
@@ -67,7 +72,7 @@ read-body before after body kind known size message columns =
 
 -- a kind that has a shape is known, its message is by that shape, and a kind other than a quote's has no columns
 module _ (shape : Shape) (kind : ℕ) (f : hasShape shape kind ≡ true) where
-  shape-known : codeOf shape < 5 → Known kind
+  shape-known : KnownShape shape → Known kind
   shape-known l = rw (shape-told shape kind f) l
 
   message-by : (tape : List ℕ) (body : ℕ) → messageAt tape body kind ≡ messageBy shape tape body kind
@@ -99,43 +104,53 @@ pub read-after-write : (before after : List ℕ) (m : Message) (cs : List ℕ) �
 unfolding frame framed bytes2 bytes4 number2 number4 messageBy lengthOf
 read-after-write before after (Quote k) cs w =
     let shape = w .has-frame in
-    let r = quote-kinds k (shape-told Columns k shape) in
+    let r = quote-kinds k (shape-told Shape.Columns k shape) in
     read-body
     before
     after
     (flat (map bytes4 (take k cs)))
     k
-    (shape-known Columns k shape (omega arith))
+    (shape-known Shape.Columns k shape (omega arith))
     (omega (arith, quote-body k (r .0) (r .1), length-cells (take k cs), length-take-le k cs (w .enough)))
-    (message-by Columns k shape (flat (map bytes4 (take k cs)) ++ after) 0)
+    (message-by Shape.Columns k shape (flat (map bytes4 (take k cs)) ++ after) 0)
     (quote-again k cs after (r .0) (r .1) (w .enough) (w .fits))
 read-after-write before after (Sized k n) cs w =
     let shape = w .has-frame in
-    read-body before after (bytes2 n) k (shape-known Size k shape (omega arith)) (body-by Size k (shape-told Size k shape))
-    (message-by Size k shape (bytes2 n ++ after) 0 ∙ ap (Sized k) (two-bytes n (w .typed .1)))
-    (no-columns-by Size k shape (bytes2 n ++ after) 0 (omega arith))
+    read-body before after (bytes2 n) k (shape-known Shape.Size k shape (omega arith)) (body-by Shape.Size k (shape-told Shape.Size k shape))
+    (message-by Shape.Size k shape (bytes2 n ++ after) 0 ∙ ap (Sized k) (two-bytes n (w .typed .1)))
+    (no-columns-by Shape.Size k shape (bytes2 n ++ after) 0 (omega arith))
 read-after-write before after (Change k n p) cs w =
     let shape = w .has-frame in
     let body : List ℕ = bytes2 n ++ bytes4 p in
-    read-body before after body k (shape-known SizePosition k shape (omega arith)) (body-by SizePosition k (shape-told SizePosition k shape))
-    (message-by SizePosition k shape (body ++ after) 0 ∙ ap₂ (Change k) (two-bytes n (w .typed .1)) (four-bytes p (w .typed .2)))
-    (no-columns-by SizePosition k shape (body ++ after) 0 (omega arith))
+    read-body before after body k (shape-known Shape.SizePosition k shape (omega arith)) (body-by Shape.SizePosition k (shape-told Shape.SizePosition k shape))
+    (message-by Shape.SizePosition k shape (body ++ after) 0 ∙ ap₂ (Change k) (two-bytes n (w .typed .1)) (four-bytes p (w .typed .2)))
+    (no-columns-by Shape.SizePosition k shape (body ++ after) 0 (omega arith))
 read-after-write before after (Pair k n1 n2) cs w =
     let shape = w .has-frame in
     let body : List ℕ = bytes2 n1 ++ bytes2 n2 in
-    read-body before after body k (shape-known SizePair k shape (omega arith)) (body-by SizePair k (shape-told SizePair k shape))
-    (message-by SizePair k shape (body ++ after) 0 ∙ ap₂ (Pair k) (two-bytes n1 (w .typed .1)) (two-bytes n2 (w .typed .2)))
-    (no-columns-by SizePair k shape (body ++ after) 0 (omega arith))
+    read-body before after body k (shape-known Shape.SizePair k shape (omega arith)) (body-by Shape.SizePair k (shape-told Shape.SizePair k shape))
+    (message-by Shape.SizePair k shape (body ++ after) 0 ∙ ap₂ (Pair k) (two-bytes n1 (w .typed .1)) (two-bytes n2 (w .typed .2)))
+    (no-columns-by Shape.SizePair k shape (body ++ after) 0 (omega arith))
+read-after-write before after (Bare k) cs w =
+    let shape = w .has-frame in
+    read-body before after [] k (shape-known Shape.Bare k shape (omega arith)) (body-by Shape.Bare k (shape-told Shape.Bare k shape))
+    (message-by Shape.Bare k shape after 0)
+    (no-columns-by Shape.Bare k shape after 0 (omega arith))
+read-after-write before after (Position k p) cs w =
+    let shape = w .has-frame in
+    read-body before after (bytes4 p) k (shape-known Shape.Position k shape (omega arith)) (body-by Shape.Position k (shape-told Shape.Position k shape))
+    (message-by Shape.Position k shape (bytes4 p ++ after) 0 ∙ ap (Position k) (four-bytes p (w .typed .1)))
+    (no-columns-by Shape.Position k shape (bytes4 p ++ after) 0 (omega arith))
 read-after-write before after (Open d N directions) cs w =
     let body : List ℕ = d ∷ (bytes2 N ++ (directions ∷ [])) in
-    read-body before after body openKind (shape-known Settings openKind open-shape (omega arith)) (body-by Settings openKind (shape-told Settings openKind open-shape))
-    (message-by Settings openKind open-shape (body ++ after) 0 ∙ ap (λ (n : ℕ). Open d n directions) (two-bytes N (w .typed .1)))
-    (no-columns-by Settings openKind open-shape (body ++ after) 0 (omega arith))
+    read-body before after body openKind (shape-known Shape.Settings openKind open-shape (omega arith)) (body-by Shape.Settings openKind (shape-told Shape.Settings openKind open-shape))
+    (message-by Shape.Settings openKind open-shape (body ++ after) 0 ∙ ap (λ (n : ℕ). Open d n directions) (two-bytes N (w .typed .1)))
+    (no-columns-by Shape.Settings openKind open-shape (body ++ after) 0 (omega arith))
 read-after-write before after End cs w = absurd (clash false (w .has-frame) refl)
 read-after-write before after (Refused k) cs w = absurd (clash false (w .has-frame) refl)
 
 -- changes are written without columns
-pub change-writable : (k n p : ℕ) → hasShape SizePosition k ≡ true → k < 256 → n < 65536 → p < 4294967296 → Writable (Change k n p) []
+pub change-writable : (k n p : ℕ) → hasShape Shape.SizePosition k ≡ true → k < 256 → n < 65536 → p < 4294967296 → Writable (Change k n p) []
 unfolding framed
 change-writable k n p f t u v = record { has-frame = f; typed = (t, u, v); enough = omega arith; fits = λ i h. absurd (omega arith) }
 
@@ -147,6 +162,20 @@ module _ (n p : ℕ) (u : n < 65536) (v : p < 4294967296) where
   pub join-writable : Writable (Change joinKind n p) []
   unfolding hasShape shapeOf shapeIn kinds
   join-writable = change-writable joinKind n p refl (omega arith) u v
+
+-- so are those of the pair
+position-writable : (k p : ℕ) → hasShape Shape.Position k ≡ true → k < 256 → p < 4294967296 → Writable (Position k p) []
+unfolding framed
+position-writable k p f t v = record { has-frame = f; typed = (t, v); enough = omega arith; fits = λ i h. absurd (omega arith) }
+
+module _ (p : ℕ) (v : p < 4294967296) where
+  pub pair-leave-writable : Writable (Position pairLeaveKind p) []
+  unfolding hasShape shapeOf shapeIn kinds
+  pair-leave-writable = position-writable pairLeaveKind p refl (omega arith) v
+
+  pub pair-join-writable : Writable (Position pairJoinKind p) []
+  unfolding hasShape shapeOf shapeIn kinds
+  pair-join-writable = position-writable pairJoinKind p refl (omega arith) v
 
 -- ---- two messages with one frame
 
@@ -185,13 +214,15 @@ pub kind-framed : (tape : List ℕ) (body kind : ℕ) → Known kind → framed 
 unfolding messageAt messageBy framed
 kind-framed tape body kind known = go (shapeOf kind) refl known
   where
-    go : (shape : Shape) → shapeOf kind ≡ shape → codeOf shape < 5 → framed (messageBy shape tape body kind) ≡ true
-    go Columns e l = shape-tells Columns kind e
-    go Size e l = shape-tells Size kind e
-    go SizePosition e l = shape-tells SizePosition kind e
-    go SizePair e l = shape-tells SizePair kind e
-    go Settings e l = refl
-    go Unknown e l = absurd (omega arith)
+    go : (shape : Shape) → shapeOf kind ≡ shape → KnownShape shape → framed (messageBy shape tape body kind) ≡ true
+    go Shape.Columns e l = shape-tells Shape.Columns kind e
+    go Shape.Size e l = shape-tells Shape.Size kind e
+    go Shape.SizePosition e l = shape-tells Shape.SizePosition kind e
+    go Shape.SizePair e l = shape-tells Shape.SizePair kind e
+    go Shape.Bare e l = shape-tells Shape.Bare kind e
+    go Shape.Position e l = shape-tells Shape.Position kind e
+    go Shape.Settings e l = refl
+    go Shape.Unknown e l = absurd (omega arith)
 
 -- the bodies of a kind, written again
 module _ (l : List ℕ) (bytes : (i : ℕ) → getD l i 0 < 256) where
@@ -202,6 +233,10 @@ module _ (l : List ℕ) (bytes : (i : ℕ) → getD l i 0 < 256) where
   six-again : 6 ≤ length l → bytes2 (number2 l 0) ++ bytes4 (number4 l 2) ≡ take 6 l
   unfolding run
   six-again h = ap₂ {C = List ℕ} (λ (x y : List ℕ). x ++ y) (bytes2-again l 0 bytes) (bytes4-again l 2 bytes) ∙ cells-part 0 l 0 6 h
+
+  four-again : 4 ≤ length l → bytes4 (number4 l 0) ≡ take 4 l
+  unfolding run
+  four-again h = bytes4-again l 0 bytes ∙ cells-part 0 l 0 4 h
 
   pair-again : 4 ≤ length l → bytes2 (number2 l 0) ++ bytes2 (number2 l 2) ≡ take 4 l
   unfolding run
@@ -220,14 +255,16 @@ module _ (l : List ℕ) (bytes : (i : ℕ) → getD l i 0 < 256) where
   unfolding frame messageAt messageBy bodyLength lengthOf
   body-again kind known h = go (shapeOf kind) refl known h
     where
-      go : (shape : Shape) → shapeOf kind ≡ shape → codeOf shape < 5 → lengthOf shape kind ≤ length l
+      go : (shape : Shape) → shapeOf kind ≡ shape → KnownShape shape → lengthOf shape kind ≤ length l
           → frame (messageBy shape l 0 kind) (columnsAt l 0 kind) ≡ kind ∷ take (lengthOf shape kind) l
-      go Columns e c h = let r = quote-kinds kind e in ap (λ (r : List ℕ). kind ∷ r) (quote-written kind (r .0) (r .1) h)
-      go Size e c h = ap (λ (r : List ℕ). kind ∷ r) (two-again h)
-      go SizePosition e c h = ap (λ (r : List ℕ). kind ∷ r) (six-again h)
-      go SizePair e c h = ap (λ (r : List ℕ). kind ∷ r) (pair-again h)
-      go Settings e c h = rw (open-kind kind e) (ap (λ (r : List ℕ). openKind ∷ r) (open-again h))
-      go Unknown e c h = absurd (omega arith)
+      go Shape.Columns e c h = let r = quote-kinds kind e in ap (λ (r : List ℕ). kind ∷ r) (quote-written kind (r .0) (r .1) h)
+      go Shape.Size e c h = ap (λ (r : List ℕ). kind ∷ r) (two-again h)
+      go Shape.SizePosition e c h = ap (λ (r : List ℕ). kind ∷ r) (six-again h)
+      go Shape.SizePair e c h = ap (λ (r : List ℕ). kind ∷ r) (pair-again h)
+      go Shape.Bare e c h = refl
+      go Shape.Position e c h = ap (λ (r : List ℕ). kind ∷ r) (four-again h)
+      go Shape.Settings e c h = rw (open-kind kind e) (ap (λ (r : List ℕ). openKind ∷ r) (open-again h))
+      go Shape.Unknown e c h = absurd (omega arith)
 
 -- what was read at a place is a frame of the tape, and the same bytes when written again
 pub record Rewritten (tape : List ℕ) (place : ℕ) (m : Message) (read : Reading) : Type 0 where

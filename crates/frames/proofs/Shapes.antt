@@ -12,7 +12,7 @@ use Rattle.lists.specs.Lists.{run}
 use Rattle.lists.proofs.Booleans.{either, clash, refute, and-left, and-right}
 use Rattle.lists.proofs.Runs.{getD-run}
 use Rattle.frames.specs.declared.Shape.{Shape}
-use Rattle.frames.specs.declared.Shape.the-variants.{Columns, Size, SizePosition, SizePair, Settings, Unknown}
+use Rattle.frames.specs.declared.Shape.the-variants.{Columns, Size, SizePosition, SizePair, Bare, Position, Settings, Unknown}
 use Rattle.frames.specs.Kinds.{within, openKind, kinds, shapeIn, shapeOf, codeOf, hasShape, lengthOf, bodyLength}
 
 -- ---- kinds in a row
@@ -28,13 +28,17 @@ in-row shape low n e kind h l =
 
 -- ---- the kinds of a shape
 
+-- a shape that frames have
+abbrev pub KnownShape : Shape → Type 0
+KnownShape shape = codeOf shape < codeOf Unknown
+
 -- every kind of a table that has this shape passes a test
 unfoldable pub allPass : Shape → (ℕ → Bool) → List (ℕ × Shape) → Bool
 allPass shape test [] = true
 allPass shape test (k ∷ ks) = (not (eqb (codeOf (k .1)) (codeOf shape)) || test (k .0)) && allPass shape test ks
 
 -- so a kind to which the table gives this shape passes it
-passes : (shape : Shape) (test : ℕ → Bool) (ks : List (ℕ × Shape)) (kind : ℕ) → codeOf shape < 5 → allPass shape test ks ≡ true → shapeIn ks kind ≡ shape → test kind ≡ true
+passes : (shape : Shape) (test : ℕ → Bool) (ks : List (ℕ × Shape)) (kind : ℕ) → KnownShape shape → allPass shape test ks ≡ true → shapeIn ks kind ≡ shape → test kind ≡ true
 unfolding allPass shapeIn
 passes shape test [] kind known all e = absurd (omega (arith, ap codeOf e))
 passes shape test (k ∷ ks) kind known all e = go (either (eqb kind (k .0))) (passes shape test ks kind known)
@@ -81,14 +85,14 @@ unfolding shapeOf kinds allPass
 open-kind kind e = go (either (within 1 6 kind))
   where
     go : (within 1 6 kind ≡ true) ⊎ (within 1 6 kind ≡ false) → kind ≡ openKind
-    go (inl t) = let z : _≡_ {A = ℕ} 0 4 = ap codeOf (rw t at e) in absurd (omega arith)
+    go (inl t) = absurd (omega (arith, ap codeOf (rw t at e)))
     go (inr t) = eqb-true kind openKind (passes Settings (λ k. eqb k openKind) kinds kind (omega arith) refl (rw t at e))
 
 -- ---- shapes by their codes
 
 -- the shape with a code
 shapeCoded : ℕ → Shape
-shapeCoded code = cond (eqb code 0) Columns (cond (eqb code 1) Size (cond (eqb code 2) SizePosition (cond (eqb code 3) SizePair (cond (eqb code 4) Settings Unknown))))
+shapeCoded code = cond (eqb code 0) Columns (cond (eqb code 1) Size (cond (eqb code 2) SizePosition (cond (eqb code 3) SizePair (cond (eqb code 4) Bare (cond (eqb code 5) Position (cond (eqb code 6) Settings Unknown))))))
 
 code-back : (shape : Shape) → shapeCoded (codeOf shape) ≡ shape
 unfolding shapeCoded
@@ -96,6 +100,8 @@ code-back Columns = refl
 code-back Size = refl
 code-back SizePosition = refl
 code-back SizePair = refl
+code-back Bare = refl
+code-back Position = refl
 code-back Settings = refl
 code-back Unknown = refl
 
@@ -112,7 +118,7 @@ shape-tells shape kind e = eq-eqb (codeOf (shapeOf kind)) (codeOf shape) (ap cod
 
 -- a kind that has frames
 abbrev pub Known : ℕ → Type 0
-Known kind = codeOf (shapeOf kind) < 5
+Known kind = KnownShape (shapeOf kind)
 
 -- the body length of a kind by its shape
 pub body-by : (shape : Shape) (kind : ℕ) → shapeOf kind ≡ shape → bodyLength kind ≡ lengthOf shape kind
@@ -138,6 +144,10 @@ module _ (kind : ℕ) where
   unfolding lengthOf
   pair-body = body-by SizePair kind
 
+  pub position-body : shapeOf kind ≡ Position → bodyLength kind ≡ 4
+  unfolding lengthOf
+  position-body = body-by Position kind
+
   pub open-body : shapeOf kind ≡ Settings → bodyLength kind ≡ 4
   unfolding lengthOf
   open-body = body-by Settings kind
@@ -147,11 +157,13 @@ pub kind-known : (kind : ℕ) → (bodyLength kind ≡ 255 → ⊥) → Known ki
 unfolding bodyLength lengthOf
 kind-known kind h = go (shapeOf kind) h
   where
-    go : (shape : Shape) → (lengthOf shape kind ≡ 255 → ⊥) → codeOf shape < 5
+    go : (shape : Shape) → (lengthOf shape kind ≡ 255 → ⊥) → KnownShape shape
     go Columns h = omega arith
     go Size h = omega arith
     go SizePosition h = omega arith
     go SizePair h = omega arith
+    go Bare h = omega arith
+    go Position h = omega arith
     go Settings h = omega arith
     go Unknown h = absurd (h refl)
 
@@ -160,11 +172,13 @@ pub known-body : (kind : ℕ) → Known kind → bodyLength kind ≤ 24
 unfolding bodyLength lengthOf
 known-body kind known = go (shapeOf kind) refl known
   where
-    go : (shape : Shape) → shapeOf kind ≡ shape → codeOf shape < 5 → lengthOf shape kind ≤ 24
+    go : (shape : Shape) → shapeOf kind ≡ shape → KnownShape shape → lengthOf shape kind ≤ 24
     go Columns e l = let r = quote-kinds kind e in omega (arith, r .1)
     go Size e l = omega arith
     go SizePosition e l = omega arith
     go SizePair e l = omega arith
+    go Bare e l = omega arith
+    go Position e l = omega arith
     go Settings e l = omega arith
     go Unknown e l = absurd (omega arith)
 

@@ -15,9 +15,9 @@ use Rattle.head.specs.Refusals.{firstOf, granted}
 use Rattle.octets.specs.Bytes.{bytes2, bytes4}
 use Rattle.octets.proofs.Cells.{length-cells}
 use Rattle.frames.specs.declared.Shape.{Shape}
-use Rattle.frames.specs.declared.Shape.the-variants.{Columns, Size, SizePosition, SizePair}
+use Rattle.frames.specs.declared.Shape.the-variants as Shape
 use Rattle.frames.specs.declared.Message.{Message}
-use Rattle.frames.specs.declared.Message.the-variants.{Quote, Sized, Change, Pair, Open, End, Refused as NotRead}
+use Rattle.frames.specs.declared.Message.the-variants.{Quote, Sized, Change, Pair, Bare, Position, Open, End, Refused as NotRead}
 use Rattle.frames.specs.Kinds.{kinds, shapeIn, shapeOf, hasShape, lengthOf, bodyLength}
 use Rattle.frames.specs.Frames.{framed, frame}
 use Rattle.frames.specs.Writing.{kindOf, frameLength, writeAnswer, Wrote}
@@ -27,10 +27,12 @@ use Rattle.frames.proofs.Shapes.{quote-kinds, shape-told, body-by}
 -- a message that has a frame has at most six columns
 pub column-range : (m : Message) → framed m ≡ true → columnCount m ≤ 6
 unfolding framed
-column-range (Quote k) f = quote-kinds k (shape-told Columns k f) .1
+column-range (Quote k) f = quote-kinds k (shape-told Shape.Columns k f) .1
 column-range (Sized k n) f = zero-le
 column-range (Change k n p) f = zero-le
 column-range (Pair k n1 n2) f = zero-le
+column-range (Bare k) f = zero-le
+column-range (Position k p) f = zero-le
 column-range (Open d N directions) f = zero-le
 column-range End f = zero-le
 column-range (NotRead r) f = zero-le
@@ -44,10 +46,12 @@ sized shape kind f = sym (body-by shape kind (shape-told shape kind f))
 -- a message with a frame has as many bytes behind its kind as that kind's body
 pub frame-size : (m : Message) (cs : List ℕ) → framed m ≡ true → columnCount m ≤ length cs → length (frame m cs) ≡ suc (bodyLength (kindOf m))
 unfolding framed frame bytes2 bytes4 lengthOf bodyLength shapeOf shapeIn kinds
-frame-size (Quote k) cs f e = ap suc (length-cells (take k cs) ∙ ap (λ (n : ℕ). 4 * n) (length-take-le k cs e) ∙ sized Columns k f)
-frame-size (Sized k n) cs f e = ap suc (sized Size k f)
-frame-size (Change k n p) cs f e = ap suc (sized SizePosition k f)
-frame-size (Pair k n1 n2) cs f e = ap suc (sized SizePair k f)
+frame-size (Quote k) cs f e = ap suc (length-cells (take k cs) ∙ ap (λ (n : ℕ). 4 * n) (length-take-le k cs e) ∙ sized Shape.Columns k f)
+frame-size (Sized k n) cs f e = ap suc (sized Shape.Size k f)
+frame-size (Change k n p) cs f e = ap suc (sized Shape.SizePosition k f)
+frame-size (Pair k n1 n2) cs f e = ap suc (sized Shape.SizePair k f)
+frame-size (Bare k) cs f e = ap suc (sized Shape.Bare k f)
+frame-size (Position k p) cs f e = ap suc (sized Shape.Position k f)
 frame-size (Open d N directions) cs f e = refl
 frame-size End cs f e = absurd (clash false f refl)
 frame-size (NotRead r) cs f e = absurd (clash false f refl)
@@ -79,27 +83,36 @@ module _ (m : Message) (room : ℕ) (f : framed m ≡ true) (h : frameLength m �
   pub quote-fits : (k : ℕ) → m ≡ Quote k → (k ≤ 6) × (1 + 4 * k ≤ room)
   unfolding framed lengthOf
   quote-fits k e =
-      let t : hasShape Columns k ≡ true = rw e at f in
+      let t : hasShape Shape.Columns k ≡ true = rw e at f in
       let size : suc (bodyLength k) ≤ room = rw e at body-fits in
-      (quote-kinds k (shape-told Columns k t) .1, omega (arith, sized Columns k t))
+      (quote-kinds k (shape-told Shape.Columns k t) .1, omega (arith, sized Shape.Columns k t))
 
   pub size-fits : (k n : ℕ) → m ≡ Sized k n → 3 ≤ room
   unfolding framed lengthOf
   size-fits k n e =
       let size : suc (bodyLength k) ≤ room = rw e at body-fits in
-      omega (arith, sized Size k (rw e at f))
+      omega (arith, sized Shape.Size k (rw e at f))
 
   pub change-fits : (k n p : ℕ) → m ≡ Change k n p → 7 ≤ room
   unfolding framed lengthOf
   change-fits k n p e =
       let size : suc (bodyLength k) ≤ room = rw e at body-fits in
-      omega (arith, sized SizePosition k (rw e at f))
+      omega (arith, sized Shape.SizePosition k (rw e at f))
 
   pub pair-fits : (k n1 n2 : ℕ) → m ≡ Pair k n1 n2 → 5 ≤ room
   unfolding framed lengthOf
   pair-fits k n1 n2 e =
       let size : suc (bodyLength k) ≤ room = rw e at body-fits in
-      omega (arith, sized SizePair k (rw e at f))
+      omega (arith, sized Shape.SizePair k (rw e at f))
+
+  pub bare-fits : 1 ≤ room
+  bare-fits = omega (arith, body-fits)
+
+  pub position-fits : (k p : ℕ) → m ≡ Position k p → 5 ≤ room
+  unfolding framed lengthOf
+  position-fits k p e =
+      let size : suc (bodyLength k) ≤ room = rw e at body-fits in
+      omega (arith, sized Shape.Position k (rw e at f))
 
   pub open-fits : (d N directions : ℕ) → m ≡ Open d N directions → 5 ≤ room
   unfolding bodyLength lengthOf shapeOf shapeIn kinds

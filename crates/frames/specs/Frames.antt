@@ -9,18 +9,20 @@ use Rattle.head.specs.declared.Refusal.the-variants.{UnknownKind, CutFrame}
 use Rattle.head.specs.Refusals.{number}
 use Rattle.octets.specs.Bytes.{bytes2, bytes4, number2, number4}
 use Rattle.frames.specs.declared.Shape.{Shape}
-use Rattle.frames.specs.declared.Shape.the-variants.{Columns, Size, SizePosition, SizePair, Settings, Unknown}
+use Rattle.frames.specs.declared.Shape.the-variants as Shape
 use Rattle.frames.specs.declared.Message.{Message}
-use Rattle.frames.specs.declared.Message.the-variants.{Quote, Sized, Change, Pair, Open, End, Refused}
+use Rattle.frames.specs.declared.Message.the-variants.{Quote, Sized, Change, Pair, Bare, Position, Open, End, Refused}
 use Rattle.frames.specs.declared.Read.{Read}
 use Rattle.frames.specs.Kinds.{within, openKind, shapeOf, hasShape, bodyLength}
 
 -- the message is one that has a frame: its kind is known and has the message's shape
 unfoldable pub framed : Message → Bool
-framed (Quote k) = hasShape Columns k
-framed (Sized k n) = hasShape Size k
-framed (Change k n p) = hasShape SizePosition k
-framed (Pair k n1 n2) = hasShape SizePair k
+framed (Quote k) = hasShape Shape.Columns k
+framed (Sized k n) = hasShape Shape.Size k
+framed (Change k n p) = hasShape Shape.SizePosition k
+framed (Pair k n1 n2) = hasShape Shape.SizePair k
+framed (Bare k) = hasShape Shape.Bare k
+framed (Position k p) = hasShape Shape.Position k
 framed (Open d N directions) = true
 framed End = false
 framed (Refused k) = false
@@ -31,18 +33,22 @@ frame (Quote k) columns = k ∷ flat (map bytes4 (take k columns))
 frame (Sized k n) columns = k ∷ bytes2 n
 frame (Change k n p) columns = k ∷ (bytes2 n ++ bytes4 p)
 frame (Pair k n1 n2) columns = k ∷ (bytes2 n1 ++ bytes2 n2)
+frame (Bare k) columns = k ∷ []
+frame (Position k p) columns = k ∷ bytes4 p
 frame (Open d N directions) columns = openKind ∷ d ∷ (bytes2 N ++ (directions ∷ []))
 frame End columns = []
 frame (Refused k) columns = []
 
 -- the message of a kind by its shape, its body from a place on
 unfoldable pub messageBy : Shape → List ℕ → ℕ → ℕ → Message
-messageBy Columns tape body kind = Quote kind
-messageBy Size tape body kind = Sized kind (number2 tape body)
-messageBy SizePosition tape body kind = Change kind (number2 tape body) (number4 tape (body + 2))
-messageBy SizePair tape body kind = Pair kind (number2 tape body) (number2 tape (body + 2))
-messageBy Settings tape body kind = Open (getD tape body 0) (number2 tape (body + 1)) (getD tape (body + 3) 0)
-messageBy Unknown tape body kind = Refused UnknownKind
+messageBy Shape.Columns tape body kind = Quote kind
+messageBy Shape.Size tape body kind = Sized kind (number2 tape body)
+messageBy Shape.SizePosition tape body kind = Change kind (number2 tape body) (number4 tape (body + 2))
+messageBy Shape.SizePair tape body kind = Pair kind (number2 tape body) (number2 tape (body + 2))
+messageBy Shape.Bare tape body kind = Bare kind
+messageBy Shape.Position tape body kind = Position kind (number4 tape body)
+messageBy Shape.Settings tape body kind = Open (getD tape body 0) (number2 tape (body + 1)) (getD tape (body + 3) 0)
+messageBy Shape.Unknown tape body kind = Refused UnknownKind
 
 -- the message of a kind, its body from a place on
 unfoldable pub messageAt : List ℕ → ℕ → ℕ → Message
@@ -64,6 +70,8 @@ saying (Quote k) = told (Quote k)
 saying (Sized k n) = told (Sized k n)
 saying (Change k n p) = told (Change k n p)
 saying (Pair k n1 n2) = told (Pair k n1 n2)
+saying (Bare k) = told (Bare k)
+saying (Position k p) = told (Position k p)
 saying (Open d N directions) = told (Open d N directions)
 saying End = ended
 saying (Refused k) = refused (number k)

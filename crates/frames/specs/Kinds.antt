@@ -4,7 +4,7 @@ use mathlib.Core.Bool.{Bool, _&&_, cond}
 use mathlib.Core.List.{List, [], _∷_}
 use lib.Dec.{leb, eqb}
 use Rattle.frames.specs.declared.Shape.{Shape}
-use Rattle.frames.specs.declared.Shape.the-variants.{Columns, Size, SizePosition, SizePair, Settings, Unknown}
+use Rattle.frames.specs.declared.Shape.the-variants.{Columns, Size, SizePosition, SizePair, Bare, Position, Settings, Unknown}
 
 -- a number from a to b
 abbrev pub within : ℕ → ℕ → ℕ → Bool
@@ -22,6 +22,14 @@ watchKind = 17
 abbrev pub unwatchKind : ℕ
 unwatchKind = 18
 
+-- the pair of n1 and n2 is set
+abbrev pub pairKind : ℕ
+pairKind = 21
+
+-- the pair is ended
+abbrev pub unpairKind : ℕ
+unpairKind = 22
+
 -- a look at the past list of n1 and n2
 abbrev pub pastKind : ℕ
 pastKind = 23
@@ -34,6 +42,14 @@ leaveKind = 32
 abbrev pub joinKind : ℕ
 joinKind = 33
 
+-- a position leaves the past list of the pair
+abbrev pub pairLeaveKind : ℕ
+pairLeaveKind = 36
+
+-- a position joins the past list of the pair
+abbrev pub pairJoinKind : ℕ
+pairJoinKind = 37
+
 -- a book is opened
 abbrev pub openKind : ℕ
 openKind = 48
@@ -44,9 +60,13 @@ kinds =
     (lookKind, Size)
     ∷ (watchKind, Size)
     ∷ (unwatchKind, Size)
+    ∷ (pairKind, SizePair)
+    ∷ (unpairKind, Bare)
     ∷ (pastKind, SizePair)
     ∷ (leaveKind, SizePosition)
     ∷ (joinKind, SizePosition)
+    ∷ (pairLeaveKind, Position)
+    ∷ (pairJoinKind, Position)
     ∷ (openKind, Settings)
     ∷ []
 
@@ -65,8 +85,10 @@ codeOf Columns = 0
 codeOf Size = 1
 codeOf SizePosition = 2
 codeOf SizePair = 3
-codeOf Settings = 4
-codeOf Unknown = 5
+codeOf Bare = 4
+codeOf Position = 5
+codeOf Settings = 6
+codeOf Unknown = 7
 
 -- a kind has this shape
 unfoldable pub hasShape : Shape → ℕ → Bool
@@ -78,6 +100,8 @@ lengthOf Columns kind = 4 * kind
 lengthOf Size kind = 2
 lengthOf SizePosition kind = 6
 lengthOf SizePair kind = 4
+lengthOf Bare kind = 0
+lengthOf Position kind = 4
 lengthOf Settings kind = 4
 lengthOf Unknown kind = 255
 

@@ -11,7 +11,7 @@ use Rattle.head.specs.Refusals.{number, numberOf, firstOf, granted}
 use Rattle.frames.specs.Kinds.{openKind, bodyLength}
 use Rattle.frames.specs.Frames.{framed, frame}
 use Rattle.frames.specs.declared.Message.{Message}
-use Rattle.frames.specs.declared.Message.the-variants.{Quote, Sized, Change, Pair, Open, End, Refused}
+use Rattle.frames.specs.declared.Message.the-variants.{Quote, Sized, Change, Pair, Bare, Position, Open, End, Refused}
 use Rattle.frames.specs.declared.Written.{Written}
 
 -- the kind of a message; 0 for one that is no frame's
@@ -20,6 +20,8 @@ kindOf (Quote k) = k
 kindOf (Sized k n) = k
 kindOf (Change k n p) = k
 kindOf (Pair k n1 n2) = k
+kindOf (Bare k) = k
+kindOf (Position k p) = k
 kindOf (Open d N directions) = openKind
 kindOf End = 0
 kindOf (Refused k) = 0

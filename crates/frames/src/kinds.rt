@@ -9,11 +9,19 @@ pub const WATCH: u8 = 17;
 
 pub const UNWATCH: u8 = 18;
 
+pub const PAIR: u8 = 21;
+
+pub const UNPAIR: u8 = 22;
+
 pub const PAST: u8 = 23;
 
 pub const LEAVE: u8 = 32;
 
 pub const JOIN: u8 = 33;
+
+pub const PAIR_LEAVE: u8 = 36;
+
+pub const PAIR_JOIN: u8 = 37;
 
 pub const OPEN: u8 = 48;
 
@@ -24,8 +32,10 @@ pub fn shape_of(kind: u8) -> Shape
     match kind {
         1..=6 => Shape::Columns,
         LOOK | WATCH | UNWATCH => Shape::Size,
-        PAST => Shape::SizePair,
+        PAIR | PAST => Shape::SizePair,
+        UNPAIR => Shape::Bare,
         LEAVE | JOIN => Shape::SizePosition,
+        PAIR_LEAVE | PAIR_JOIN => Shape::Position,
         OPEN => Shape::Settings,
         _ => Shape::Unknown,
     }
@@ -40,8 +50,10 @@ fn code_of(shape: Shape) -> u8
         Shape::Size => 1,
         Shape::SizePosition => 2,
         Shape::SizePair => 3,
-        Shape::Settings => 4,
-        Shape::Unknown => 5,
+        Shape::Bare => 4,
+        Shape::Position => 5,
+        Shape::Settings => 6,
+        Shape::Unknown => 7,
     }
 }
 

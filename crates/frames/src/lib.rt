@@ -11,7 +11,11 @@ pub use kinds::JOIN;
 pub use kinds::LEAVE;
 pub use kinds::LOOK;
 pub use kinds::OPEN;
+pub use kinds::PAIR;
+pub use kinds::PAIR_JOIN;
+pub use kinds::PAIR_LEAVE;
 pub use kinds::PAST;
+pub use kinds::UNPAIR;
 pub use kinds::UNWATCH;
 pub use kinds::WATCH;
 pub use lengths::body_length;
@@ -19,12 +23,15 @@ pub use places::read_next;
 pub use reader::read_at;
 pub use writer::write;
 
-// What stands in the body of a frame: columns; n; n and a position; n1 and n2; the settings of an opening; or the kind is unknown.
+// What stands in the body of a frame: columns; n; n and a position; n1 and n2; nothing; a position; the settings of an opening; or the kind
+// is unknown.
 pub enum Shape {
     Columns,
     Size,
     SizePosition,
     SizePair,
+    Bare,
+    Position,
     Settings,
     Unknown,
 }
@@ -39,6 +46,10 @@ pub enum Message {
     Change(u8, u16, u32),
     // A kind, n1 and n2.
     Pair(u8, u16, u16),
+    // A kind alone.
+    Bare(u8),
+    // A kind and a position.
+    Position(u8, u32),
     // An opening: d, N and directions.
     Open(u8, u16, u8),
     End,

@@ -17,6 +17,7 @@ use head::Answer;
 use head::Refusal;
 use octets::lay_change;
 use octets::lay_number;
+use octets::lay_position;
 use octets::put_four;
 use octets::put_two;
 
@@ -64,6 +65,8 @@ fn framed(message: Message) -> bool
         Message::Sized(k, _) => has_shape(Shape::Size, k),
         Message::Change(k, _, _) => has_shape(Shape::SizePosition, k),
         Message::Pair(k, _, _) => has_shape(Shape::SizePair, k),
+        Message::Bare(k) => has_shape(Shape::Bare, k),
+        Message::Position(k, _) => has_shape(Shape::Position, k),
         Message::Open(_, _, _) => true,
         Message::End => false,
         Message::Refused(_) => false,
@@ -79,6 +82,8 @@ fn kind_of(message: Message) -> u8
         Message::Sized(k, _) => k,
         Message::Change(k, _, _) => k,
         Message::Pair(k, _, _) => k,
+        Message::Bare(k) => k,
+        Message::Position(k, _) => k,
         Message::Open(_, _, _) => OPEN,
         Message::End => 0,
         Message::Refused(_) => 0,
@@ -105,6 +110,8 @@ fn lay(message: Message, columns: [u32; 6], out: &mut [u8])
         Message::Sized(k, n) => lay_number(k, n, out),
         Message::Change(k, n, position) => lay_change(k, n, position, out),
         Message::Pair(k, n1, n2) => lay_pair(k, n1, n2, out),
+        Message::Bare(k) => out[0] = k,
+        Message::Position(k, position) => lay_position(k, position, out),
         Message::Open(d, n, directions) => lay_open(d, n, directions, out),
         Message::End => {}
         Message::Refused(_) => {}

@@ -2,7 +2,7 @@
 ghost use mathlib.Core.Path.{_≡_};
 ghost use Rattle.skyline.specs.Skyline.{windowStart};
 ghost use Rattle.head.specs.Refusals.{number};
-ghost use Rattle.head.specs.Heads.{freshHead, settingsHold, afterQuote};
+ghost use Rattle.head.specs.Heads.{freshHead, settingsHold, afterQuote, withPair, tornPair};
 
 // Why a call is refused (01: a no). The numbers are 01's.
 pub enum Refusal {
@@ -66,8 +66,8 @@ pub struct Reply {
     pub count: usize,
 }
 
-// The head of a book: its settings (01: d, N, directions), the newest position (01: M), and the numbers of live
-// rows and of all rows held.
+// The head of a book: its settings (01: d, N, directions), the newest position (01: M), the numbers of live rows
+// and of all rows held, and the pair whose past list is watched, 0 and 0 when unset.
 pub struct Head {
     pub dimensions: u32,
     pub capacity: u32,
@@ -75,6 +75,8 @@ pub struct Head {
     pub newest: u32,
     pub live: u32,
     pub held: u32,
+    pub n1: u32,
+    pub n2: u32,
 }
 
 // One record of the watch list; n is 0 where it is empty.
@@ -100,6 +102,8 @@ impl Head {
             newest: 0,
             live: 0,
             held: 0,
+            n1: 0,
+            n2: 0,
         }
     }
 
@@ -151,13 +155,33 @@ impl Head {
             newest: newest + 1,
             live,
             held,
+            n1: self.n1,
+            n2: self.n2,
         }
     }
 
-    // The head after a watch was set or ended.
-    pub fn after_watch(self) -> Head
-        ensures { λ r. ⌜ r ≡ self ⌝ }
+    // The head after the pair was set to n1 and n2, or ended, which sets it to 0 and 0.
+    pub fn after_watch(self, n1: u32, n2: u32) -> Head
+        ensures { λ r. ⌜ r ≡ withPair self n1 n2 ⌝ }
     {
-        self
+        Head {
+            dimensions: self.dimensions,
+            capacity: self.capacity,
+            directions: self.directions,
+            newest: self.newest,
+            live: self.live,
+            held: self.held,
+            n1,
+            n2,
+        }
+    }
+
+    // Whether a pair stands that could not be set.
+    pub fn torn_pair(self) -> bool
+        ensures { λ r. ⌜ r ≡ tornPair self ⌝ }
+    {
+        let unset = (self.n1 == 0) & (self.n2 == 0);
+        let set = (2 <= self.n1) & (self.n1 <= self.n2) & (self.n2 <= self.capacity);
+        !(unset | set)
     }
 }

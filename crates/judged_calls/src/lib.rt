@@ -8,20 +8,31 @@ use judged_lines::print;
 use judged_lines::print_changes;
 use judged_lines::print_refusal;
 
-// Opens the book of 01's worked example: two columns, a memory of five, lower is better. Prints its line, or the refusal.
+// Opens a book of two columns where lower is better, with a memory of so many. Prints its line, or the refusal.
 pub fn open(
+    capacity: u32,
     columns: &mut [u32],
     positions: &mut [u32],
     lower_ends: &mut [u32],
     upper_ends: &mut [u32],
     records: [Watch; 8],
 ) -> Made {
-    let made = by_value::open(2, 5, 0, columns, positions, lower_ends, upper_ends, records);
+    let made = by_value::open(
+        2,
+        capacity,
+        0,
+        columns,
+        positions,
+        lower_ends,
+        upper_ends,
+        records,
+    );
     let reply = made.reply;
     let answer = reply.answer;
     match answer {
         Answer::Accepted => {
-            print(b'O', &[2, 5, 0]);
+            let numbers = [2, capacity, 0];
+            print(b'O', &numbers);
         }
         Answer::Refused(_) => {
             print_refusal(answer);

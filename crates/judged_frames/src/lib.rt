@@ -28,12 +28,12 @@ pub fn there_and_back(n: u16) {
     let end = last.read;
     let said = end.message;
     if let Message::End = said {
-        print(b'E', &[]);
+        print(b'Z', &[]);
     }
 }
 
 // Writes the first bytes of a frame's lines, so many.
-fn write_lines(text: &[u8; 208088], count: usize) {
+fn write_lines(text: &[u8; tape::TEXT_BYTES], count: usize) {
     write_front(&text[..], count);
 }
 
@@ -51,8 +51,8 @@ pub fn play_opening() {
     let mut positions = [0u32; 2];
     let mut lower_ends = [0u32; 2];
     let mut upper_ends = [0u32; 2];
-    let mut bytes = [0u8; 57400];
-    let mut text = [0u8; 208088];
+    let mut bytes = [0u8; tape::CHANGE_BYTES];
+    let mut text = [0u8; tape::TEXT_BYTES];
     if tape::ready(&frame, 0) {
         let step = tape::play(
             &frame,

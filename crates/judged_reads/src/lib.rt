@@ -173,12 +173,22 @@ pub fn find(records: [Watch; 8], n: u32) {
     }
 }
 
-// What the head tells of itself: the first position of the window of n, and the next position.
+// What the head tells of itself: the first position of the window of n, the next position, and the pair of n and n, if
+// it could be set.
 pub fn tell(head: Head, n: u32) {
     let next = head.after_quote(head.live, head.held);
-    let still = head.after_watch();
+    let paired = head.after_watch(n, n);
+    if paired.torn_pair() {
+        return;
+    }
     if head.window_start(n) <= 16777215 {
-        let numbers = [n, head.window_start(n) as u32, next.newest, still.newest];
+        let numbers = [
+            n,
+            head.window_start(n) as u32,
+            next.newest,
+            paired.n1,
+            paired.n2,
+        ];
         print(b'H', &numbers);
     }
 }

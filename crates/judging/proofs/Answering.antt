@@ -14,7 +14,7 @@ use Rattle.head.specs.declared.Answer.the-variants.{Refused}
 use Rattle.head.specs.declared.Refusal.{Refusal}
 use Rattle.head.specs.declared.Refusal.the-variants.{Settings, ShortLoan, Torn}
 use Rattle.head.specs.Refusals.{number, numberOf, firstOf, granted}
-use Rattle.head.specs.Heads.{settingsHold}
+use Rattle.head.specs.Heads.{settingsHold, tornPair}
 use Rattle.head.proofs.Numbers.{zero-passed, firstOf-append, number-above, refused-number, granted-refused, positive}
 use Rattle.head.proofs.Settings.{Within, settings-within}
 use Rattle.model.specs.Rows.{Row, Tables}
@@ -62,7 +62,7 @@ module _ (h : Head) (t : Tables) where
   short = shortTables t (h .dimensions) (h .capacity)
 
   abbrev torn : Bool
-  torn = tornRows h (bookRows h t)
+  torn = tornRows h (bookRows h t) || tornPair h
 
 -- eight watches are as many as a loan asks, and are judged behind the rows
 pub watchful-judged : (h : Head) (t : Tables) (ws : List ℕ) {a r : ℕ} {test : Bool} → length ws ≡ 8 → a ≡ answerOf h t [] → test ≡ tornWatches (h .capacity) ws
@@ -110,6 +110,7 @@ pub record Passed (h : Head) (t : Tables) : Type 0 where
   pub settings : Within (h .dimensions) (h .capacity)
   pub long : Long t (h .dimensions) (h .capacity)
   pub untorn : tornRows h (bookRows h t) ≡ false
+  pub pair-fair : tornPair h ≡ false
   pub whole : Whole h (bookRows h t)
   pub few-held : h .held ≤ h .capacity
 
@@ -145,13 +146,15 @@ module _ (h : Head) (t : Tables) where
   passed : held h t ≡ true → short h t ≡ false → torn h t ≡ false → Passed h t
   passed s l r =
       let within = settings-within (h .dimensions) (h .capacity) (h .directions) s in
-      let whole = untorn-whole h (bookRows h t) rows-counted (within .some-capacity) r in
+      let untorn = none-left (tornRows h (bookRows h t)) (tornPair h) r in
+      let whole = untorn-whole h (bookRows h t) rows-counted (within .some-capacity) untorn in
       let as-many = rows-counted ∙ sym (length-map (bookRows h t) Row.position) ∙ ap length (whole .window) in
       record {
         held = s;
         settings = within;
         long = long-enough t (h .dimensions) (h .capacity) l;
-        untorn = r;
+        untorn = untorn;
+        pair-fair = none-right (tornRows h (bookRows h t)) (tornPair h) r;
         whole = whole;
         few-held = omega (arith, as-many, window-few (h .capacity) (within .some-capacity) (h .newest));
       }

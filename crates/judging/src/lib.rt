@@ -94,11 +94,9 @@ pub fn judge(
             return answer;
         }
     }
-    with_test(
-        answer,
-        torn_rows(head, positions, lower_ends, upper_ends),
-        Refusal::Torn,
-    )
+    let rows = torn_rows(head, positions, lower_ends, upper_ends);
+    let pair = head.torn_pair();
+    with_test(answer, rows | pair, Refusal::Torn)
 }
 
 // The answer of a call on the tables and the watches, before what the call adds: 3, 11, 12.

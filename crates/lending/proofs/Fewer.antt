@@ -11,13 +11,13 @@ use borrow.Author.Tests.{lt-ltb}
 use Rattle.head.specs.declared.Head.{Head}
 use Rattle.head.specs.declared.Refusal.the-variants.{Settings, ShortLoan}
 use Rattle.head.specs.declared.Reply.{Reply}
-use Rattle.head.specs.Heads.{freshHead, settingsHold}
+use Rattle.head.specs.Heads.{freshHead, settingsHold, withPair}
 use Rattle.head.specs.Refusals.{number, firstOf, granted}
 use Rattle.head.specs.Replies.{Outcome, outcome}
 use Rattle.head.proofs.Numbers.{granted-refused}
 use Rattle.model.specs.Rows.{Tables}
-use Rattle.model.specs.Book.{shortTables, shortLoan, watchfulAnswer, replyOf, openAnswer, openReply, openTables, quoteHead, quoteBytes, quoteAnswer, quoteReply, quoteTables, quoteOut, watchBytes, watchAnswer, watchReply, watchOut, endAnswer, endReply}
-use Rattle.model.specs.Promises.{Opened, Quoted, Watched, Ended}
+use Rattle.model.specs.Book.{shortTables, shortLoan, watchfulAnswer, replyOf, openAnswer, openReply, openTables, quoteHead, quoteBytes, quoteAnswer, quoteReply, quoteTables, quoteOut, watchBytes, watchAnswer, watchReply, watchOut, endAnswer, endReply, pairBytes, pairAnswer, pairReply, pairOut, unpairAnswer, unpairReply}
+use Rattle.model.specs.Promises.{Opened, Quoted, Watched, Ended, Paired, Unpaired}
 use Rattle.lending.specs.declared.Judgement.{Judgement}
 use Rattle.lending.specs.Lent.{judgement, Judged, fewAnswer, fewReply, OpenJudged, WatchJudged}
 
@@ -71,6 +71,12 @@ module _ (watches : List ℕ) (lent : ℕ) where
   pub quote-eight : (h : Head) (x : List ℕ) (t : Tables) {before : List ℕ} {r : Reply} {t' : Tables} {out : List ℕ} → length watches ≤ lent → Quoted h x t watches before r t' out → Quoted h x t ws before r t' out
   quote-eight h x t {before} {r} {t'} {out} k m = subst (λ (l : List ℕ). Quoted h x t l before r t' out) (enough k) m
 
+  pub pair-eight : (h : Head) (n1 n2 : ℕ) (t : Tables) {before : List ℕ} {r : Reply} {out : List ℕ} → length watches ≤ lent → Paired h n1 n2 t watches before r out → Paired h n1 n2 t ws before r out
+  pair-eight h n1 n2 t {before} {r} {out} k m = subst (λ (l : List ℕ). Paired h n1 n2 t l before r out) (enough k) m
+
+  pub unpair-eight : (h : Head) (t : Tables) {r : Reply} → length watches ≤ lent → Unpaired h t watches r → Unpaired h t ws r
+  unpair-eight h t {r} k m = subst (λ (l : List ℕ). Unpaired h t l r) (enough k) m
+
   module _ (few : lent < 8) where
     short : ltb (length ws) 8 ≡ true
     short = lt-ltb (length ws) 8 (omega (arith, length-take lent watches))
@@ -109,3 +115,15 @@ module _ (watches : List ℕ) (lent : ℕ) where
           lent = rw (few-watchful h t) (few-left h _ t);
           out = rw (few-watchful h t) (few-left h _ before);
         }
+
+    pub pair-few : (h : Head) (n1 n2 : ℕ) (t : Tables) {before : List ℕ} {r : Reply} → outcome r ≡ fewReply h h → Paired h n1 n2 t ws before r before
+    unfolding pairReply pairAnswer pairOut
+    pair-few h n1 n2 t {before} e =
+        record {
+          reply = e ∙ rw (few-watchful h t) (few-reply h h (withPair h n1 n2) (length (pairBytes h n1 n2 t ws)));
+          out = rw (few-watchful h t) (few-left h _ before);
+        }
+
+    pub unpair-few : (h : Head) (t : Tables) {r : Reply} → outcome r ≡ fewReply h h → Unpaired h t ws r
+    unfolding unpairReply unpairAnswer
+    unpair-few h t e = record { reply = e ∙ rw (few-watchful h t) (few-reply h h (withPair h 0 0) 0) }

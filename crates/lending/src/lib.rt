@@ -4,7 +4,7 @@ ghost use mathlib.Core.Path.{_≡_};
 ghost use lib.ListN.{take};
 ghost use Rattle.head.specs.Replies.{outcome};
 ghost use Rattle.model.specs.Book.{endReply};
-ghost use Rattle.model.specs.Promises.{tables, Quoted};
+ghost use Rattle.model.specs.Promises.{tables, Quoted, Paired, Unpaired};
 ghost use Rattle.lending.specs.Lent.{judgement, Judged, fewReply, OpenJudged, WatchJudged};
 use head::Answer;
 use head::Head;
@@ -13,6 +13,8 @@ use head::Reply;
 use opening::open;
 use quoting::quote;
 use watching::end;
+use watching::pair;
+use watching::unpair;
 use watching::watch;
 
 // What a call that may change the records answers: its reply, and whether they change.
@@ -172,4 +174,56 @@ pub fn end_lent(
     }
     let made = end(head, n, columns, positions, lower_ends, upper_ends, watches);
     judge(made.reply)
+}
+
+// Sets the pair n1 and n2 and writes its joins.
+pub fn pair_lent(
+    head: Head,
+    n1: u32,
+    n2: u32,
+    columns: &[u32],
+    positions: &[u32],
+    lower_ends: &[u32],
+    upper_ends: &[u32],
+    watches: [u32; 8],
+    lent: usize,
+    out: &mut [u8],
+) -> Reply
+    ensures { λ r. ⌜ Paired head n1 n2
+        (tables (now (columns .entry)) (now (positions .entry)) (now («lower_ends» .entry)) (now («upper_ends» .entry)))
+        (take lent watches) (now (out .entry)) r (now (out .exit)) ⌝ }
+{
+    if lent < 8 {
+        return few(head, head);
+    }
+    pair(
+        head,
+        n1,
+        n2,
+        columns,
+        positions,
+        lower_ends,
+        upper_ends,
+        watches,
+        out,
+    )
+}
+
+// Ends the pair.
+pub fn unpair_lent(
+    head: Head,
+    columns: &[u32],
+    positions: &[u32],
+    lower_ends: &[u32],
+    upper_ends: &[u32],
+    watches: [u32; 8],
+    lent: usize,
+) -> Reply
+    ensures { λ r. ⌜ Unpaired head
+        (tables (now (columns .entry)) (now (positions .entry)) (now («lower_ends» .entry)) (now («upper_ends» .entry))) (take lent watches) r ⌝ }
+{
+    if lent < 8 {
+        return few(head, head);
+    }
+    unpair(head, columns, positions, lower_ends, upper_ends, watches)
 }

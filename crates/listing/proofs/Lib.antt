@@ -2,4 +2,7 @@
 pub mod Picking
 pub mod Writing
 pub mod Framing
+pub mod Windows
 pub mod Listing
+pub mod Joins
+pub mod DueRows

@@ -1,5 +1,4 @@
--- The list of a window by the ends of rows whose positions follow one another: the test of a row, the loops over the window, and the
--- model's list of such rows.
+-- The list of a window by the ends of rows whose positions follow one another: the test of a row, and the model's list of such rows.
 use mathlib.Core.Path.{_≡_, refl, sym, ap, _∙_}
 use Prim.Native.Nat.{ℕ, suc, _+_, _-_, _≤_, _<_}
 use native.Mathlib.Nat.{zero-add}
@@ -8,7 +7,6 @@ use mathlib.Core.Bool.{Bool, true, false, _&&_, _||_}
 use mathlib.Core.List.{List, map}
 use lib.Dec.{ltb, eqb}
 use lib.ListN.{length, getD, length-map}
-use mir.Val.{boolByte}
 use borrow.Author.Tests.{le-leb}
 use Rattle.lists.specs.Lists.{filter, run, between}
 use Rattle.lists.proofs.Booleans.{refute}
@@ -21,9 +19,8 @@ use Rattle.head.specs.declared.Head.{Head}
 use Rattle.model.specs.Rows.{Row, Tables, rowAt, rowsIn, listed}
 use Rattle.model.specs.Book.{bookRows}
 use Rattle.model.proofs.Torn.{Whole}
-use Rattle.listing.specs.Picked.{picked, listedAt, listedIn, Window}
-use Rattle.listing.proofs.Picking.{picked-skip, Counted, counted-start, counted-skip, counted-more}
-use Rattle.listing.proofs.Writing.{cells, Writing, writing-start, writing-skip}
+use Rattle.listing.specs.Picked.{picked, listedAt, listedIn}
+use Rattle.listing.proofs.Picking.{picked-skip, picked-few}
 
 module _ (first a b : ℕ) (lowers uppers : List ℕ) where
   abbrev test : ℕ → Bool
@@ -41,7 +38,7 @@ module _ (first a b : ℕ) (lowers uppers : List ℕ) where
       go false y = refl
 
   -- a row before the window is not on its list
-  listed-early : (i : ℕ) → first + i < a → test i ≡ false
+  pub listed-early : (i : ℕ) → first + i < a → test i ≡ false
   unfolding listedAt
   listed-early i h = refute (test i) (λ t. omega (arith, of-covers a b (getD lowers i 0) (first + i) (getD uppers i 0) t .start))
 
@@ -50,43 +47,10 @@ module _ (first a b : ℕ) (lowers uppers : List ℕ) where
   unfolding listedAt
   listed-late i h = refute (test i) (λ t. omega (arith, of-covers a b (getD lowers i 0) (first + i) (getD uppers i 0) t .end))
 
-  -- the rows of the window below place i are counted
-  pub record Counting (n i : ℕ) : Type 0 where
-    pub reached : a ≤ first + i
-    pub counted : Counted test first (b + 1 - first) n i
-
-  pub counting-start : Window first a b lowers uppers → Counting 0 (a - first)
-  counting-start w =
-      let u = w .low in
-      let v = w .near in
-      record {
-        reached = omega arith;
-        counted = counted-skip (counted-start test first (b + 1 - first)) (a - first) (omega arith) (omega arith) (λ q _ h. listed-early q (omega arith));
-      }
-
-  pub counting-more : {n i : ℕ} → Counting n i → i < b + 1 - first → (on : Bool) → on ≡ (ltb (getD lowers i 0) a && (eqb (getD uppers i 0) 0 || ltb b (getD uppers i 0)))
-      → Counting (n + boolByte on) (i + 1)
-  counting-more {i = i} v h on e =
-      let r = v .reached in
-      record { reached = omega arith; counted = counted-more (v .counted) h on (listed-inside i r (omega arith) e) }
-
-  -- the positions listed below place i stand as cells at the front of the output
-  pub record Listing (encode : ℕ → List ℕ) (entry out : List ℕ) (at i : ℕ) : Type 0 where
-    pub reached : a ≤ first + i
-    pub writing : Writing encode test first (b + 1 - first) entry out at i
-
-  pub listing-start : (encode : ℕ → List ℕ) (entry : List ℕ) → Window first a b lowers uppers → length (cells encode (listedIn a b first lowers uppers)) ≤ length entry
-      → Listing encode entry entry 0 (a - first)
+  -- no more are listed than the window has rows
+  pub listed-few : length (listedIn a b first lowers uppers) ≤ b + 1 - first
   unfolding listedIn
-  listing-start encode entry w h =
-      let u = w .low in
-      let v = w .near in
-      record {
-        reached = omega arith;
-        writing =
-            writing-skip (writing-start encode test first (b + 1 - first) entry h) (a - first) (omega arith)
-            (picked-skip test first 0 (a - first) (omega arith) (λ q _ k. listed-early q (omega arith)));
-      }
+  listed-few = picked-few test first (b + 1 - first)
 
 -- ---- the model's rows
 

@@ -3,12 +3,12 @@ use mathlib.Core.Path.{_≡_, refl, sym, ap, _∙_}
 use Prim.Native.Nat.{ℕ, _+_, _-_, _≤_, _<_}
 use native.Mathlib.Omega.{arith}
 use mathlib.Core.Bool.{Bool, true, false}
-use mathlib.Core.List.{List, [], _∷_, _++_, map, append-nil}
-use lib.ListN.{length, set}
+use mathlib.Core.List.{List, [], _∷_, _++_, map, append-nil, append-assoc}
+use lib.ListN.{length, set, length-append}
 use borrow.Rule.Slice.PartMut.{midOf, putMid}
 use Rattle.lists.specs.Lists.{keep, flat, laid}
 use Rattle.lists.proofs.Filters.{flat-append, map-append}
-use Rattle.lists.proofs.Laying.{grows, Laying, laying-start, laying-pass, laying-room, laying-store, laying-more, laying-all}
+use Rattle.lists.proofs.Laying.{front-store, grows, Laying, laying-start, laying-pass, laying-room, laying-store, laying-more, laying-all}
 use Rattle.listing.specs.Picked.{picked}
 use Rattle.listing.proofs.Picking.{picked-none, picked-more, picked-took, picked-passed}
 
@@ -74,6 +74,17 @@ module _ {encode : ℕ → List ℕ} {test : ℕ → Bool} {first count : ℕ} {
   -- the turn of a position that is one cell, stored
   pub writing-store : (x : ℕ) → next ≡ x ∷ [] → b ≡ true → Writing encode test first count entry (set out at x) (at + 1) (i + 1)
   writing-store x s t = record { laying = laying-store (v .laying) h next (took t) grown x s }
+
+  -- the turn of a position that is two cells, stored
+  pub writing-two : (x y : ℕ) → next ≡ x ∷ y ∷ [] → b ≡ true → Writing encode test first count entry (set (set out at x) (at + 1) y) (at + 2) (i + 1)
+  writing-two x y s t =
+      let before = cells encode (picked test first i) in
+      let whole : cells encode (picked test first (i + 1)) ≡ (before ++ (x ∷ [])) ++ (y ∷ []) = took t ∙ ap (λ (r : List ℕ). before ++ r) s ∙ sym (append-assoc before (x ∷ []) (y ∷ [])) in
+      let room = v .laying .room in
+      let all : length ((before ++ (x ∷ [])) ++ (y ∷ [])) ≤ length entry = rw (← whole) (omega (arith, grown)) in
+      let one = front-store (v .laying .front) x (omega (arith, all, length-append (before ++ (x ∷ [])) (y ∷ []))) in
+      let place : at + 1 + 1 ≡ at + 2 = omega arith in
+      record { laying = record { within = omega arith; room = room; front = rw (whole, ← place) (front-store one y all) } }
 
   -- the turn of a position whose cells are laid into the rest of the output
   pub writing-more : {last : List ℕ} {used : ℕ} → used ≡ length next → last ≡ laid next (midOf at (length out - at) out) → b ≡ true

@@ -1,18 +1,33 @@
-// The list of a window by the ends of its rows, whose positions follow one another: counted, written into cells, and written as joins.
+// The list of a window by the ends of its rows, whose positions follow one another: counted, written into cells, and written as joins; and
+// the rows that are due, counted and written.
+mod due;
+
 ghost use mathlib.Core.Path.{_≡_};
-ghost use Prim.Native.Nat.{_*_, _≤_};
+ghost use Prim.Native.Nat.{_≤_};
 ghost use mathlib.Core.Bool.{_&&_, _||_};
-ghost use mathlib.Core.List.{map};
+ghost use mathlib.Core.List.{[], map};
 ghost use lib.Dec.{ltb, eqb};
 ghost use lib.ListN.{length};
 ghost use Rattle.lists.specs.Lists.{laid};
 ghost use Rattle.skyline.specs.Skyline.{windowStart};
 ghost use Rattle.head.specs.Heads.{lastPosition};
-ghost use Rattle.model.specs.Changes.{join, frames};
+ghost use Rattle.frames.specs.Frames.{frame};
+ghost use Rattle.model.specs.Changes.{frames};
 ghost use Rattle.listing.specs.Picked.{listedIn, Window};
+ghost use Rattle.listing.specs.Joins.{joinOf};
+pub use due::count_due;
+pub use due::write_due;
 use frames::JOIN;
+use frames::PAIR_JOIN;
 use head::Head;
 use octets::lay_change;
+use octets::lay_position;
+
+// What follows a list: the watch of n, or the pair.
+pub enum Follower {
+    Watch(u16),
+    Pair,
+}
 
 // The first position of the window of n, as a cell; below the last position it fits.
 pub fn start_of(head: Head, n: u32) -> u32
@@ -73,9 +88,45 @@ pub fn write_listed(
     at
 }
 
-// Writes a join of the watch of n for each position of the list of the window from a to b. Returns how many bytes.
+// How many bytes the follower's joins of the list of the window from a to b take.
+pub fn count_joins(
+    follower: Follower,
+    lower_ends: &[u32],
+    upper_ends: &[u32],
+    first: u32,
+    a: u32,
+    b: u32,
+) -> usize
+    requires { ⌜ Window first a b (now «lower_ends») (now «upper_ends») ⌝ }
+    ensures { λ r. ⌜ r ≡ length (frames (map (joinOf follower) (listedIn a b first (now («lower_ends» .entry)) (now («upper_ends» .entry))))) ⌝ }
+{
+    let count = count_listed(lower_ends, upper_ends, first, a, b);
+    match follower {
+        Follower::Watch(_) => 7 * count,
+        Follower::Pair => 5 * count,
+    }
+}
+
+// Lays the follower's join of a position. Returns how many bytes.
+fn lay_join(follower: Follower, position: u32, out: &mut [u8]) -> usize
+    requires { ⌜ length (frame (joinOf follower position) []) ≤ length (now out) ⌝ }
+    ensures { λ r. ⌜ r ≡ length (frame (joinOf follower position) []) ⌝ }
+    ensures { λ r. ⌜ now (out .exit) ≡ laid (frame (joinOf follower position) []) (now (out .entry)) ⌝ }
+{
+    match follower {
+        Follower::Pair => {}
+        Follower::Watch(n) => {
+            lay_change(JOIN, n, position, out);
+            return 7;
+        }
+    }
+    lay_position(PAIR_JOIN, position, out);
+    5
+}
+
+// Writes the follower's join of each position of the list of the window from a to b. Returns how many bytes.
 pub fn write_joins(
-    n: u16,
+    follower: Follower,
     lower_ends: &[u32],
     upper_ends: &[u32],
     first: u32,
@@ -84,9 +135,9 @@ pub fn write_joins(
     out: &mut [u8],
 ) -> usize
     requires { ⌜ Window first a b (now «lower_ends») (now «upper_ends») ⌝ }
-    requires { ⌜ 7 * length (listedIn a b first (now «lower_ends») (now «upper_ends»)) ≤ length (now out) ⌝ }
-    ensures { λ r. ⌜ r ≡ length (frames (map (join n) (listedIn a b first (now («lower_ends» .entry)) (now («upper_ends» .entry))))) ⌝ }
-    ensures { λ r. ⌜ now (out .exit) ≡ laid (frames (map (join n) (listedIn a b first (now («lower_ends» .entry)) (now («upper_ends» .entry))))) (now (out .entry)) ⌝ }
+    requires { ⌜ length (frames (map (joinOf follower) (listedIn a b first (now «lower_ends») (now «upper_ends»)))) ≤ length (now out) ⌝ }
+    ensures { λ r. ⌜ r ≡ length (frames (map (joinOf follower) (listedIn a b first (now («lower_ends» .entry)) (now («upper_ends» .entry))))) ⌝ }
+    ensures { λ r. ⌜ now (out .exit) ≡ laid (frames (map (joinOf follower) (listedIn a b first (now («lower_ends» .entry)) (now («upper_ends» .entry))))) (now (out .entry)) ⌝ }
 {
     let end = (b as usize) + 1 - (first as usize);
     let mut at: usize = 0;
@@ -96,8 +147,7 @@ pub fn write_joins(
         let listed = is_listed(a, b, lower_ends[i], upper_ends[i]);
         i += 1;
         if listed {
-            lay_change(JOIN, n, position, &mut out[at..]);
-            at += 7;
+            at += lay_join(follower, position, &mut out[at..]);
         }
     }
     at

@@ -12,7 +12,7 @@ use lib.ListN.{length, getD}
 use borrow.Author.Tests.{not-true, not-false}
 use Rattle.lists.specs.Lists.{keep, filter, any, headOr, lastOr, run, between}
 use Rattle.lists.proofs.Booleans.{either, clash, refute, none-left, none-right}
-use Rattle.lists.proofs.Filters.{filter-append, filter-filter}
+use Rattle.lists.proofs.Filters.{filter-append, filter-filter, filter-map}
 
 pub length-run : (a k : ℕ) → length (run a k) ≡ k
 unfolding run
@@ -240,3 +240,16 @@ of-run a (suc k) q m = go (List·Memᴰ·cases-cons m) (λ n. of-run (suc a) k q
     go : (q ≡ a) ⊎ List·Memᴰ q (run (suc a) k) → (List·Memᴰ q (run (suc a) k) → (suc a ≤ q) × (q < suc a + k)) → (a ≤ q) × (q < a + suc k)
     go (inl e) r = (omega arith, omega arith)
     go (inr n) r = let t = r n in (omega arith, omega arith)
+
+-- a run that begins further on
+pub run-from : (first a k : ℕ) → run (first + a) k ≡ map (λ i. first + i) (run a k)
+unfolding run
+run-from first a zero = refl
+run-from first a (suc k) = ap (λ (r : List ℕ). (first + a) ∷ r) (rw (← add-suc) (run-from first (suc a) k))
+
+-- a test of the places of a run
+pub filter-places : (g : ℕ → Bool) (first a k : ℕ) → filter (λ p. g (p - first)) (run (first + a) k) ≡ map (λ i. first + i) (filter g (run a k))
+filter-places g first a k =
+    ap (filter (λ p. g (p - first))) (run-from first a k)
+    ∙ filter-map (λ p. g (p - first)) (λ i. first + i) (run a k)
+    ∙ ap (map (λ i. first + i)) (filter-same (λ i. g (first + i - first)) g a k (λ i _ _. let e : first + i - first ≡ i = omega arith in ap g e))

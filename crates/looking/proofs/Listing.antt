@@ -6,9 +6,9 @@ use mathlib.Core.Bool.{Bool, true}
 use mathlib.Core.List.{List, [], _∷_, _++_}
 use lib.Dec.{ltb, eqb}
 use lib.ListN.{length}
-use borrow.Author.Tests.{ltb-false, eqb-false, lt-ltb, le-ltb}
+use borrow.Author.Tests.{ltb-true, ltb-false, eqb-true, eqb-false, eq-eqb, lt-ltb, le-ltb}
 use Rattle.lists.specs.Lists.{laid}
-use Rattle.lists.proofs.Booleans.{none-left, none-right}
+use Rattle.lists.proofs.Booleans.{agree, none-left, none-right}
 use Rattle.skyline.specs.Skyline.{windowStart}
 use Rattle.head.specs.declared.Head.{Head}
 use Rattle.head.specs.declared.Reply.{Reply}
@@ -27,7 +27,11 @@ use Rattle.listing.specs.Picked.{listedAt, listedIn, Window}
 use Rattle.listing.proofs.Picking.{picked-few}
 use Rattle.listing.proofs.Listing.{whole-consecutive, listed-rows}
 use Rattle.judging.proofs.Answering.{Passed, InRange, in-range, rows-stand, answer-passed, stays}
-use Rattle.looking.specs.Shown.{roomAnswer, Shown, sizeAnswer, pairAnswer}
+use Rattle.looking.specs.Shown.{roomAnswer, Written, Shown, sizeAnswer, sizesAnswer}
+
+-- 5 of a past look asks whether n1 is 0
+pub below-one : (n : ℕ) → ltb n 1 ≡ eqb n 0
+below-one n = agree (ltb n 1) (eqb n 0) (λ t. eq-eqb n 0 (omega (arith, ltb-true n 1 t))) (λ t. lt-ltb n 1 (omega (arith, eqb-true n 0 t)))
 
 module _ (h : Head) (t : Tables) where
   -- the first position held
@@ -39,7 +43,7 @@ module _ (h : Head) (t : Tables) where
   cellsOf a b = listedIn a b first (t .lowerEnds) (t .upperEnds)
 
   module _ (p : Passed h t) where
-    filled : h .newest + 1 ≡ first + h .held
+    pub filled : h .newest + 1 ≡ first + h .held
     filled = whole-consecutive h t (p .whole) .1
 
     -- a window of held positions lies within the cells
@@ -74,13 +78,13 @@ module _ (h : Head) (t : Tables) where
   -- ---- answers
 
   -- what passed the tests before is answered by those behind
-  behind : (cs more : List (Bool × ℕ)) → positive cs ≡ true → firstOf cs ≡ 0 → firstOf (cs ++ more) ≡ firstOf more
+  pub behind : (cs more : List (Bool × ℕ)) → positive cs ≡ true → firstOf cs ≡ 0 → firstOf (cs ++ more) ≡ firstOf more
   behind cs more f e = firstOf-append cs more f ∙ accepted-granted (firstOf cs) e (firstOf more) (firstOf cs)
 
-  -- what a look at these positions leaves, the other tests passed
-  shown-reply : {answer : ℕ} {positions cells before after : List ℕ} {r : Reply} → answer ≡ roomAnswer (length before) positions → cells ≡ positions → Shown h cells before r after
-      → (outcome r ≡ replyOf answer h h (length positions)) × (after ≡ granted answer (laid positions before) before)
-  shown-reply e f s = rw (e, ← f) (s .reply, s .out)
+  -- what a look at these cells leaves, the other tests passed
+  pub shown-reply : {answer : ℕ} {wanted cells before after : List ℕ} {asked count : ℕ} {r : Reply} → answer ≡ roomAnswer (length before) wanted → wanted ≡ cells → asked ≡ count
+      → Written h cells count before r after → (outcome r ≡ replyOf answer h h asked) × (after ≡ granted answer (laid wanted before) before)
+  shown-reply e f g s = rw (e, f, g) (s .reply, s .out)
 
   module _ (n : ℕ) where
     -- an accepted look at the list of n
@@ -105,24 +109,24 @@ module _ (h : Head) (t : Tables) where
           let p = size-passed e f in
           let w = start-in (p .0) (p .1) s in
           let cells = ap (λ (k : ℕ). listed k (h .newest) (bookRows h t)) (sym s) ∙ list-cells (p .0) start (h .newest) (w .0) (w .1) (omega arith) in
-          let q = shown-reply (behind _ _ refl (accepted-number a e f)) (sym cells) v in
+          let q = shown-reply (behind _ _ refl (accepted-number a e f)) cells (ap length cells) v in
           record { reply = q .0; out = q .1 }
 
   module _ (n1 n2 : ℕ) where
     -- an accepted look at the past list of n1 and n2
-    pub pair-passed : {a : Answer} → numberOf a ≡ pairAnswer h n1 n2 t → a ≡ Accepted → Passed h t × (1 ≤ n1) × (n1 ≤ n2) × (n2 ≤ h .capacity)
-    unfolding pairAnswer
-    pair-passed {a} e f =
+    pub sizes-passed : {a : Answer} → numberOf a ≡ sizesAnswer h n1 n2 t → a ≡ Accepted → Passed h t × (1 ≤ n1) × (n1 ≤ n2) × (n2 ≤ h .capacity)
+    unfolding sizesAnswer
+    sizes-passed {a} e f =
         let p = answer-passed h t _ (accepted-number a e f) in
         let s = zero-passed _ _ _ (p .1) in
         let o = zero-passed _ _ _ (s .1) in
         let some : (n1 ≡ 0) → ⊥ = eqb-false n1 0 (none-left (eqb n1 0) (ltb (h .capacity) n2) (s .0)) in
         (p .0, omega (arith, some), ltb-false n2 n1 (o .0), ltb-false (h .capacity) n2 (none-right (eqb n1 0) (ltb (h .capacity) n2) (s .0)))
 
-    module _ (out : List ℕ) {a : Answer} (e : numberOf a ≡ pairAnswer h n1 n2 t) where
+    module _ (out : List ℕ) {a : Answer} (e : numberOf a ≡ sizesAnswer h n1 n2 t) where
       -- what a refused look at a past list leaves
       pub past-refused : {k : Refusal} → a ≡ Refused k → PastLooked h n1 n2 t out (record { answer = a; head = h; count = 0 }) out
-      unfolding pastReply pastOut pastAnswer pairAnswer answerOf
+      unfolding pastReply pastOut pastAnswer sizesAnswer answerOf
       past-refused f =
           let g = stays _ ((ltb (length out) (length (pastCells h n1 n2 t)), number ShortOutput) ∷ []) e f refl in
           record { reply = refused-reply g f h h (length (pastCells h n1 n2 t)); out = refused-left g f out (laid (pastCells h n1 n2 t) out) }
@@ -130,24 +134,24 @@ module _ (h : Head) (t : Tables) where
       -- what an accepted one leaves
       pub past-done : {start end : ℕ} {r : Reply} {after : List ℕ} → a ≡ Accepted → start ≡ windowStart (h .newest) n2 → end ≡ h .newest + 1 - n1 → Shown h (cellsOf start end) out r after
           → PastLooked h n1 n2 t out r after
-      unfolding pastReply pastOut pastAnswer pastCells pastListOf pairAnswer answerOf roomAnswer
+      unfolding pastReply pastOut pastAnswer pastCells pastListOf sizesAnswer answerOf roomAnswer
       past-done {start} {end} f s d v =
-          let p = pair-passed e f in
+          let p = sizes-passed e f in
           let w = pair-in (p .0) (p .1) (p .2) (p .3) s d in
           let cells = ap₂ (λ (k l : ℕ). listed k l (bookRows h t)) (sym s) (sym d) ∙ list-cells (p .0) start end (w .0) (w .1) (w .2) in
-          let q = shown-reply (behind _ _ refl (accepted-number a e f)) (sym cells) v in
+          let q = shown-reply (behind _ _ refl (accepted-number a e f)) cells (ap length cells) v in
           record { reply = q .0; out = q .1 }
 
--- ---- the positions of a window
+-- ---- cells and their room
 
 module _ (h : Head) (cells out : List ℕ) where
-  -- positions that do not fit
-  pub shown-none : length out < length cells → Shown h cells out (record { answer = Refused ShortOutput; head = h; count = 0 }) out
+  -- cells that do not fit
+  pub shown-none : (count : ℕ) → length out < length cells → Written h cells count out (record { answer = Refused ShortOutput; head = h; count = 0 }) out
   unfolding roomAnswer firstOf replyOf granted
-  shown-none l = let short = lt-ltb (length out) (length cells) l in record { reply = rw short; out = rw short }
+  shown-none count l = let short = lt-ltb (length out) (length cells) l in record { reply = rw short; out = rw short }
 
-  -- positions written
-  pub shown-all : {count : ℕ} {after : List ℕ} → length cells ≤ length out → count ≡ length cells → after ≡ laid cells out
-      → Shown h cells out (record { answer = Accepted; head = h; count = count }) after
+  -- cells written
+  pub shown-all : {count n : ℕ} {after : List ℕ} → length cells ≤ length out → n ≡ count → after ≡ laid cells out
+      → Written h cells count out (record { answer = Accepted; head = h; count = n }) after
   unfolding roomAnswer firstOf replyOf granted
   shown-all l c e = let fits = le-ltb (length out) (length cells) l in record { reply = rw (fits, c); out = rw fits e }

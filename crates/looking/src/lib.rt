@@ -1,12 +1,15 @@
-// The looks: the list of n, and the past list of n1 and n2, written into lent cells.
+// The looks: the list of n, the past list of n1 and n2, and what is due, written into lent cells.
 ghost use mathlib.Core.Path.{_≡_};
 ghost use Prim.Native.Nat.{_+_, _-_, _≤_};
+ghost use mathlib.Core.Bool.{_||_};
+ghost use lib.Dec.{ltb};
+ghost use lib.ListN.{length};
 ghost use Rattle.skyline.specs.Skyline.{windowStart};
 ghost use Rattle.head.specs.Heads.{lastPosition};
 ghost use Rattle.head.specs.Refusals.{numberOf};
-ghost use Rattle.model.specs.Promises.{tables, Looked, PastLooked};
+ghost use Rattle.model.specs.Promises.{tables, Looked, PastLooked, DueLooked};
 ghost use Rattle.listing.specs.Picked.{listedIn, Window};
-ghost use Rattle.looking.specs.Shown.{Shown, sizeAnswer, pairAnswer};
+ghost use Rattle.looking.specs.Shown.{Written, Shown, sizeAnswer, sizesAnswer, dueOn, dueCellsOn};
 use head::Answer;
 use head::Head;
 use head::Refusal;
@@ -14,8 +17,10 @@ use head::Reply;
 use judging::judge;
 use judging::out_of_range;
 use judging::with_test;
+use listing::count_due;
 use listing::count_listed;
 use listing::start_of;
+use listing::write_due;
 use listing::write_listed;
 
 // The answer of a look at the list of n but for the output: 3, 11, 12, 5.
@@ -36,8 +41,15 @@ fn judge_size(
     )
 }
 
+// Whether n1 is below this least or n2 above the capacity.
+pub fn out_of_sizes(head: Head, least: u32, n1: u32, n2: u32) -> bool
+    ensures { λ r. ⌜ r ≡ (ltb n1 least || ltb (head .capacity) n2) ⌝ }
+{
+    (n1 < least) | (head.capacity < n2)
+}
+
 // The answer of a look at the past list of n1 and n2 but for the output: 3, 11, 12, 5, 14.
-fn judge_pair(
+fn judge_sizes(
     head: Head,
     n1: u32,
     n2: u32,
@@ -46,16 +58,16 @@ fn judge_pair(
     lower_ends: &[u32],
     upper_ends: &[u32],
 ) -> Answer
-    ensures { λ r. ⌜ numberOf r ≡ pairAnswer head n1 n2 (tables (now (columns .entry)) (now (positions .entry)) (now («lower_ends» .entry)) (now («upper_ends» .entry))) ⌝ }
+    ensures { λ r. ⌜ numberOf r ≡ sizesAnswer head n1 n2 (tables (now (columns .entry)) (now (positions .entry)) (now («lower_ends» .entry)) (now («upper_ends» .entry))) ⌝ }
 {
     let judged = judge(head, columns, positions, lower_ends, upper_ends);
-    let beyond = (n1 == 0) | (head.capacity < n2);
+    let beyond = out_of_sizes(head, 1, n1, n2);
     let sized = with_test(judged, beyond, Refusal::WindowSize);
     with_test(sized, n2 < n1, Refusal::WindowOrder)
 }
 
 // The last position of the window that ends n - 1 positions before the newest, or 0.
-fn end_of(head: Head, n: u32) -> u32
+pub fn end_of(head: Head, n: u32) -> u32
     requires { ⌜ head .newest ≤ lastPosition ⌝ }
     ensures { λ r. ⌜ r ≡ head .newest + 1 - n ⌝ }
 {
@@ -92,6 +104,35 @@ fn write_list(
         answer: Answer::Accepted,
         head,
         count: written,
+    }
+}
+
+// Writes of each row that is due for the head's pair its position and after how many more quotes it joins, oldest first, if there is
+// room, and hands back how many rows.
+fn write_rows(head: Head, lower_ends: &[u32], out: &mut [u32]) -> Reply
+    requires { ⌜ head .newest ≤ lastPosition ⌝ }
+    requires { ⌜ 1 ≤ head .n1 ⌝ }
+    requires { ⌜ head .n1 ≤ 1024 ⌝ }
+    requires { ⌜ Window (windowStart (head .newest) (head .capacity)) (windowStart (head .newest) (head .n1 - 1)) (head .newest) (now «lower_ends») (now «lower_ends») ⌝ }
+    ensures { λ r. ⌜ Written head (dueCellsOn head (now («lower_ends» .entry))) (length (dueOn head (now («lower_ends» .entry)))) (now (out .entry)) r (now (out .exit)) ⌝ }
+{
+    let first = start_of(head, head.capacity);
+    let a = start_of(head, head.n1 - 1);
+    let c = start_of(head, head.n2);
+    let count = count_due(lower_ends, first, a, head.newest, c);
+    let cells = 2 * count;
+    if out.len() < cells {
+        return Reply {
+            answer: Answer::Refused(Refusal::ShortOutput),
+            head,
+            count: 0,
+        };
+    }
+    write_due(lower_ends, first, a, head.newest, c, head.n1, out);
+    Reply {
+        answer: Answer::Accepted,
+        head,
+        count,
     }
 }
 
@@ -135,7 +176,7 @@ pub fn past(
 ) -> Reply
     ensures { λ r. ⌜ PastLooked head n1 n2 (tables (now (columns .entry)) (now (positions .entry)) (now («lower_ends» .entry)) (now («upper_ends» .entry))) (now (out .entry)) r (now (out .exit)) ⌝ }
 {
-    let answer = judge_pair(head, n1, n2, columns, positions, lower_ends, upper_ends);
+    let answer = judge_sizes(head, n1, n2, columns, positions, lower_ends, upper_ends);
     match answer {
         Answer::Accepted => {}
         Answer::Refused(_) => {
@@ -149,4 +190,37 @@ pub fn past(
     let a = start_of(head, n2);
     let b = end_of(head, n1);
     write_list(head, a, b, lower_ends, upper_ends, out)
+}
+
+// Writes of each row that is due its position and after how many more quotes it joins the past list of the pair, oldest first, and hands
+// back how many rows; nothing where no pair is watched.
+pub fn due(
+    head: Head,
+    columns: &[u32],
+    positions: &[u32],
+    lower_ends: &[u32],
+    upper_ends: &[u32],
+    out: &mut [u32],
+) -> Reply
+    ensures { λ r. ⌜ DueLooked head (tables (now (columns .entry)) (now (positions .entry)) (now («lower_ends» .entry)) (now («upper_ends» .entry))) (now (out .entry)) r (now (out .exit)) ⌝ }
+{
+    let answer = judge(head, columns, positions, lower_ends, upper_ends);
+    match answer {
+        Answer::Accepted => {}
+        Answer::Refused(_) => {
+            return Reply {
+                answer,
+                head,
+                count: 0,
+            };
+        }
+    }
+    if head.n1 == 0 {
+        return Reply {
+            answer,
+            head,
+            count: 0,
+        };
+    }
+    write_rows(head, lower_ends, out)
 }

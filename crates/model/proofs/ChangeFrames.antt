@@ -1,38 +1,53 @@
--- The frames of changes: seven bytes each, each list of messages behind the one before.
-use mathlib.Core.Path.{_≡_, refl, ap, _∙_}
+-- The frames of changes: seven bytes each of a watch's, five each of the pair's, each list of messages behind the one before.
+use mathlib.Core.Path.{_≡_, sym, ap, _∙_}
 use Prim.Native.Nat.{ℕ, _*_}
+use native.Mathlib.Nat.{mul-zero, mul-suc, mul-add}
 use native.Mathlib.Omega.{arith}
 use mathlib.Core.List.{List, [], _∷_, _++_, map}
 use lib.ListN.{length, length-append, length-map}
 use Rattle.lists.specs.Lists.{flat}
 use Rattle.lists.proofs.Filters.{flat-append, map-append}
 use Rattle.frames.specs.declared.Message.{Message}
-use Rattle.frames.specs.Kinds.{leaveKind, joinKind}
+use Rattle.frames.specs.Kinds.{leaveKind, joinKind, pairLeaveKind, pairJoinKind}
 use Rattle.frames.specs.Frames.{frame}
-use Rattle.frames.proofs.RoundTrips.{change-length}
-use Rattle.model.specs.Changes.{leave, join, missing, changesBy, changes, frames}
+use Rattle.frames.proofs.RoundTrips.{change-length, position-length}
+use Rattle.model.specs.Changes.{leave, join, pairLeave, pairJoin, missing, changesBy, changes, pairChanges, frames}
 
 pub frames-append : (ms ns : List Message) → frames (ms ++ ns) ≡ frames ms ++ frames ns
 unfolding frames
 frames-append ms ns =
     ap flat (map-append (λ m. frame m []) ms ns) ∙ flat-append (map (λ m. frame m []) ms) (map (λ m. frame m []) ns)
 
--- messages whose frames have seven bytes each
-sevens : (message : ℕ → Message) → ((p : ℕ) → length (frame (message p) []) ≡ 7) → (l : List ℕ) → length (frames (map message l)) ≡ 7 * length l
-unfolding frames flat
-sevens message e [] = refl
-sevens message e (p ∷ l) = length-append (frame (message p) []) (frames (map message l)) ∙ omega (arith, e p, sevens message e l)
+module _ (k : ℕ) where
+  -- messages whose frames have k bytes each
+  pub frames-bytes : (message : ℕ → Message) → ((p : ℕ) → length (frame (message p) []) ≡ k) → (l : List ℕ) → length (frames (map message l)) ≡ k * length l
+  unfolding frames flat
+  frames-bytes message e [] = sym (mul-zero k)
+  frames-bytes message e (p ∷ l) =
+      length-append (frame (message p) []) (frames (map message l)) ∙ omega (arith, e p, frames-bytes message e l, mul-suc k (length l))
 
--- each change is a frame of seven bytes
+  -- changes whose frames have k bytes each
+  by-bytes : (leaves joins : ℕ → Message) → ((p : ℕ) → length (frame (leaves p) []) ≡ k) → ((p : ℕ) → length (frame (joins p) []) ≡ k) → (before after : List ℕ)
+      → length (frames (changesBy leaves joins before after)) ≡ k * length (changesBy leaves joins before after)
+  unfolding changesBy
+  by-bytes leaves joins e f before after =
+      ap length (frames-append gone come)
+      ∙ length-append (frames gone) (frames come)
+      ∙ rw (frames-bytes leaves e (missing before after), frames-bytes joins f (missing after before), length-append, length-map (missing before after) leaves, length-map (missing after before) joins)
+      (sym (mul-add k (length (missing before after)) (length (missing after before))))
+    where
+      gone : List Message
+      gone = map leaves (missing before after)
+
+      come : List Message
+      come = map joins (missing after before)
+
+-- each change of a watch is a frame of seven bytes
 pub changes-bytes : (n : ℕ) (before after : List ℕ) → length (frames (changes n before after)) ≡ 7 * length (changes n before after)
-unfolding changes changesBy
-changes-bytes n before after =
-    ap length (frames-append leaves joins)
-    ∙ length-append (frames leaves) (frames joins)
-    ∙ omega (arith, sevens (leave n) (change-length leaveKind n) (missing before after), sevens (join n) (change-length joinKind n) (missing after before), length-append leaves joins, length-map (missing before after) (leave n), length-map (missing after before) (join n))
-  where
-    leaves : List Message
-    leaves = map (leave n) (missing before after)
+unfolding changes
+changes-bytes n before after = by-bytes 7 (leave n) (join n) (change-length leaveKind n) (change-length joinKind n) before after
 
-    joins : List Message
-    joins = map (join n) (missing after before)
+-- each change of the pair one of five
+pub pair-bytes : (before after : List ℕ) → length (frames (pairChanges before after)) ≡ 5 * length (pairChanges before after)
+unfolding pairChanges
+pair-bytes before after = by-bytes 5 pairLeave pairJoin (position-length pairLeaveKind) (position-length pairJoinKind) before after

@@ -1,53 +1,62 @@
--- How many changes a quote can write: at most one for each live row before and one for the new row, on any tables that are not torn.
+-- How many changes a quote can write, on any tables that are not torn: for a watch at most one for each live row before and one for the new
+-- row, for the pair at most one for each row.
 use mathlib.Core.Path.{_≡_, refl, sym, ap, _∙_}
 use mathlib.Core.Logic.{_⊎_, inl, inr}
-use Prim.Native.Nat.{ℕ, suc, _+_, _*_, _≤_, _<_}
+use Prim.Native.Nat.{ℕ, suc, _+_, _-_, _*_, _≤_, _<_}
 use native.Mathlib.Nat.{le-refl}
 use native.Mathlib.Omega.{arith}
 use mathlib.Core.Bool.{Bool, true, false, _&&_, _||_, not, cond}
 use mathlib.Core.List.{List, [], _∷_, _++_, map, List·Memᴰ, List·Memᴰ·head, List·Memᴰ·append-cases, List·Memᴰ·eq-of-singleton}
 use lib.Dec.{ltb, leb, eqb}
 use lib.ListN.{length, take, length-append, length-take, length-map}
-use borrow.Author.Tests.{le-ltb, eqb-true, eq-eqb, not-false}
-use Rattle.lists.specs.Lists.{filter, flat, run, contains, rising}
-use Rattle.lists.proofs.Booleans.{and-left, or-left, or-right, none-left}
+use borrow.Author.Tests.{le-ltb, eqb-true, eq-eqb, ne-eqb, not-false}
+use Rattle.lists.specs.Lists.{filter, any, flat, run, contains, rising}
+use Rattle.lists.proofs.Booleans.{and-left, or-left, or-right, none-left, none-right}
 use Rattle.lists.proofs.Filters.{length-filter, map-append, map-map}
 use Rattle.lists.proofs.Members.{mem-none, into-filter, of-filter, into-map, of-map, contains-mem, mem-contains, contains-filter}
 use Rattle.lists.proofs.Runs.{length-run}
 use Rattle.lists.proofs.Rising.{rising-between, rising-filter}
-use Rattle.lists.proofs.Apart.{parts-fit, rising-map-filter, rising-snoc, rising-wide, contains-append}
+use Rattle.lists.proofs.Apart.{parts-fit, rising-map-filter, rising-snoc, rising-wide, contains-map-filter, contains-append}
 use Rattle.skyline.specs.Skyline.{windowStart}
 use Rattle.skyline.specs.Past.{covers}
 use Rattle.skyline.proofs.Past.{of-covers}
 use Rattle.head.specs.declared.Head.{Head}
 use Rattle.head.specs.declared.Refusal.the-variants.{Settings, ColumnCount, TapeFull, ShortLoan, Torn, ShortOutput}
 use Rattle.head.specs.Refusals.{number, firstOf}
-use Rattle.head.specs.Heads.{settingsHold, afterQuote, lastPosition}
+use Rattle.head.specs.Heads.{settingsHold, afterQuote, tornPair, lastPosition}
 use Rattle.head.proofs.Settings.{Within, settings-within}
 use Rattle.frames.specs.declared.Message.{Message}
 use Rattle.model.specs.Rows.{Row, Tables, rowAt, rowsIn, isLive, liveRows, listed, expiring, overOlder, retiredBy, rowAfter, lowerEndAmong, rowsAfter}
-use Rattle.model.specs.Changes.{leave, join, missing, changesBy, changes, allChanges, frames}
-use Rattle.model.specs.Book.{shortLoan, tornRows, tornWatches, standing, bookRows, listOf, watchfulAnswer, quoteRows, quoteHead, quoteBytes, quoteAnswer, ChangesFit}
-use Rattle.model.proofs.Torn.{Whole, upperAstray, upper-place, window-few, untorn-whole}
-use Rattle.model.proofs.ChangeFrames.{frames-append, changes-bytes}
+use Rattle.model.specs.Changes.{leave, join, pairLeave, pairJoin, missing, changesBy, changes, allChanges, pairChanges, frames}
+use Rattle.model.specs.Book.{shortLoan, tornRows, tornWatches, standing, bookRows, pastListOf, listOf, pairStands, pairListOf, watchfulAnswer, quoteRows, quoteHead, quoteBytes, quoteAnswer, ChangesFit}
+use Rattle.model.proofs.Torn.{Whole, upperAstray, upper-place, pair-within, window-few, untorn-whole}
+use Rattle.model.proofs.ChangeFrames.{frames-append, changes-bytes, pair-bytes}
+
+or-false : (b : Bool) → b || false ≡ b
+or-false true = refl
+or-false false = refl
 
 -- leaves and joins of two rising lists are no more than the members of a rising list that has those of both
-changes-among : (lo hi n : ℕ) (before after all : List ℕ) → rising lo hi before ≡ true → rising lo hi after ≡ true → rising lo hi all ≡ true
+changes-among : (lo hi : ℕ) (leaves joins : ℕ → Message) (before after all : List ℕ)
+    → rising lo hi before ≡ true → rising lo hi after ≡ true → rising lo hi all ≡ true
     → ((p : ℕ) → contains p before ≡ true → contains p all ≡ true) → ((p : ℕ) → contains p after ≡ true → contains p all ≡ true)
-    → length (changes n before after) ≤ length all
-unfolding changes changesBy missing
-changes-among lo hi n before after all eb ea el pb pa =
-    let fit = parts-fit lo hi leaves joins all (rising-filter (λ p. not (contains p after)) lo hi before eb) (rising-filter (λ p. not (contains p before)) lo hi after ea) el
+    → length (changesBy leaves joins before after) ≤ length all
+unfolding changesBy missing
+changes-among lo hi leaves joins before after all eb ea el pb pa =
+    let fit = parts-fit lo hi gone come all
+    (rising-filter (λ p. not (contains p after)) lo hi before eb)
+    (rising-filter (λ p. not (contains p before)) lo hi after ea)
+    el
     (λ p t. pb p (and-left (contains p before) (not (contains p after)) (sym (contains-filter (λ p. not (contains p after)) p before) ∙ t)))
     (λ p t. pa p (and-left (contains p after) (not (contains p before)) (sym (contains-filter (λ p. not (contains p before)) p after) ∙ t)))
     (λ p. simp contains-filter (apart (contains p before) (contains p after))) in
-    omega (arith, length-append (map (leave n) leaves) (map (join n) joins), length-map leaves (leave n), length-map joins (join n))
+    omega (arith, length-append (map leaves gone) (map joins come), length-map gone leaves, length-map come joins)
   where
-    leaves : List ℕ
-    leaves = missing before after
+    gone : List ℕ
+    gone = missing before after
 
-    joins : List ℕ
-    joins = missing after before
+    come : List ℕ
+    come = missing after before
 
     apart : (o n : Bool) → (o && not n) && (n && not o) ≡ false
     apart true true = refl
@@ -159,17 +168,62 @@ module _ (h : Head) (x : List ℕ) (rs : List Row) (ok : Whole h rs) where
           rw (List·Memᴰ·eq-of-singleton m, contains-append) (or-right (contains (h .newest + 1) (map Row.position (liveRows rs))) (contains (h .newest + 1) ((h .newest + 1) ∷ []))
           (mem-contains (h .newest + 1) ((h .newest + 1) ∷ []) (List·Memᴰ·head refl)))
 
+  -- every list of the rows before the quote rises, and every list of those after it
+  old-rises : (a b : ℕ) → rising start (h .newest + 1) (listed a b rs) ≡ true
+  unfolding listed
+  old-rises a b =
+      rising-wide start (h .newest) (h .newest + 1) (listed a b rs) (omega arith) (rising-map-filter Row.position (onList a b) start (h .newest) rs risen)
+
+  next-rises : (a b : ℕ) → rising start (h .newest + 1) (listed a b next) ≡ true
+  unfolding listed
+  next-rises a b =
+      rising-map-filter Row.position (onList a b) start (h .newest + 1) next
+      (rw next-positions (behind (map Row.position left) (rising-map-filter Row.position (λ r. not (eqb (r .position) gone)) start (h .newest) rs risen)))
+
   -- at most one change for each live row and one for the new row
   rows-change : (n a a' b' : ℕ) → h .newest ≤ b' → length (changes n (listed a (h .newest) rs) (listed a' b' next)) ≤ suc (length (liveRows rs))
-  unfolding listed liveRows
+  unfolding changes liveRows
   rows-change n a a' b' k =
-      let fit = changes-among start (h .newest + 1) n (listed a (h .newest) rs) (listed a' b' next) all
-      (rising-wide start (h .newest) (h .newest + 1) (listed a (h .newest) rs) (omega arith) (rising-map-filter Row.position (onList a (h .newest)) start (h .newest) rs risen))
-      (rising-map-filter Row.position (onList a' b') start (h .newest + 1) next (rw next-positions (behind (map Row.position left) (rising-map-filter Row.position (λ r. not (eqb (r .position) gone)) start (h .newest) rs risen))))
+      let fit = changes-among start (h .newest + 1) (leave n) (join n) (listed a (h .newest) rs) (listed a' b' next) all
+      (old-rises a (h .newest))
+      (next-rises a' b')
       (behind (map Row.position (liveRows rs)) (rising-map-filter Row.position isLive start (h .newest) rs risen))
       (λ p t. old-among a p t)
       (λ p t. next-among a' b' p k t) in
       omega (arith, length-append (map Row.position (liveRows rs)) ((h .newest + 1) ∷ []), length-map (liveRows rs) Row.position)
+
+  -- ---- the pair
+
+  -- a position on a list is that of a row that the window covers
+  on-listed : (a b p : ℕ) (rows : List Row) → contains p (listed a b rows) ≡ true → (p ≤ b) × (contains p (map Row.position rows) ≡ true)
+  unfolding listed
+  on-listed a b p rows t =
+      let m = of-map Row.position p (filter (onList a b) rows) (contains-mem p (listed a b rows) t) in
+      let r = m .0 in
+      let c = of-covers a b (r .lowerEnd) (r .position) (r .upperEnd) (of-filter (onList a b) r rows (m .1) .1) in
+      (rw (m .2) (c .end), contains-map-filter Row.position (onList a b) rows p t)
+
+  -- a list that ends before the quote has old positions alone
+  next-old : (a b p : ℕ) → b ≤ h .newest → contains p (listed a b next) ≡ true → contains p (map Row.position rs) ≡ true
+  unfolding contains any
+  next-old a b p k t =
+      let o = on-listed a b p next t in
+      let low = o .0 in
+      let young = ne-eqb p (h .newest + 1) (λ e. omega arith) in
+      let among = rw (next-positions, contains-append p (map Row.position left) ((h .newest + 1) ∷ []), young) at (o .1) in
+      contains-map-filter Row.position (λ r. not (eqb (r .position) gone)) rs p (sym (or-false (contains p (map Row.position left))) ∙ among)
+
+  -- at most one change of the pair for each row
+  pair-change : (a b a' b' : ℕ) → b' ≤ h .newest → length (pairChanges (listed a b rs) (listed a' b' next)) ≤ length rs
+  unfolding pairChanges
+  pair-change a b a' b' k =
+      let fit = changes-among start (h .newest + 1) pairLeave pairJoin (listed a b rs) (listed a' b' next) (map Row.position rs)
+      (old-rises a b)
+      (next-rises a' b')
+      (rising-wide start (h .newest) (h .newest + 1) (map Row.position rs) (omega arith) risen)
+      (λ p t. on-listed a b p rs t .1)
+      (λ p t. next-old a' b' p k t) in
+      omega (arith, length-map rs Row.position)
 
 -- where no watch has more than 1,025 changes, each has 7,175 bytes at most
 all-bytes : (watched : List ℕ) (before after : ℕ → List ℕ) → ((n : ℕ) → length (changes n (before n) (after n)) ≤ 1025)
@@ -195,14 +249,32 @@ length-rows : (h : Head) (t : Tables) → length (bookRows h t) ≡ h .held
 unfolding bookRows rowsIn
 length-rows h t = length-map (run 0 (h .held)) (rowAt (h .dimensions) t) ∙ length-run 0 (h .held)
 
--- a quote moves the newest position on, or leaves it
-newest-onward : (h : Head) (live held : ℕ) → h .newest ≤ afterQuote h live held .newest
+-- a quote moves the newest position on by one, or leaves it, and keeps the pair
+pub record Onward (h next : Head) : Type 0 where
+  pub least : h .newest ≤ next .newest
+  pub most : next .newest ≤ h .newest + 1
+  pub first : next .n1 ≡ h .n1
+  pub second : next .n2 ≡ h .n2
+
+pub onward : (h : Head) (live held : ℕ) → Onward h (afterQuote h live held)
 unfolding afterQuote
-newest-onward h live held = go (ltb (h .newest) lastPosition)
+onward h live held = go (ltb (h .newest) lastPosition)
   where
-    go : (b : Bool) → h .newest ≤ cond b (record { dimensions = h .dimensions; capacity = h .capacity; directions = h .directions; newest = h .newest + 1; live = live; held = held }) h .newest
-    go true = omega arith
-    go false = le-refl (h .newest)
+    moved : Head
+    moved = record {
+      dimensions = h .dimensions;
+      capacity = h .capacity;
+      directions = h .directions;
+      newest = h .newest + 1;
+      live = live;
+      held = held;
+      n1 = h .n1;
+      n2 = h .n2;
+    }
+
+    go : (b : Bool) → Onward h (cond b moved h)
+    go true = record { least = omega arith; most = omega arith; first = refl; second = refl }
+    go false = record { least = omega arith; most = omega arith; first = refl; second = refl }
 
 -- at most N rows are live
 live-few : (h : Head) (rs : List Row) → 1 ≤ h .capacity → Whole h rs → h .live ≤ h .capacity
@@ -210,36 +282,94 @@ unfolding liveRows
 live-few h rs some ok =
     omega (arith, ok .live-count, length-filter isLive rs, length-map rs Row.position, ap length (ok .window), window-few (h .capacity) some (h .newest))
 
+module _ (h : Head) (x : List ℕ) (rs : List Row) (counted : h .held ≡ length rs) (holds : settingsHold (h .dimensions) (h .capacity) (h .directions) ≡ true)
+    (whole : tornRows h rs ≡ false) where
+  -- the rows and the head after the quote
+  abbrev rowsNext : List Row
+  rowsNext = rowsAfter (h .dimensions) (h .directions) (h .capacity) (h .newest) x rs
+
+  abbrev headNext : Head
+  headNext = afterQuote h (length (liveRows rowsNext)) (length rowsNext)
+
+  within : Within (h .dimensions) (h .capacity)
+  within = settings-within (h .dimensions) (h .capacity) (h .directions) holds
+
+  ok : Whole h rs
+  ok = untorn-whole h rs counted (within .some-capacity) whole
+
+  on : Onward h headNext
+  on = onward h (length (liveRows rowsNext)) (length rowsNext)
+
+  -- a watch has at most one change for each live row and one more
+  each : (n : ℕ) → length (changes n (listOf h rs n) (listOf headNext rowsNext n)) ≤ h .live + 1
+  unfolding listOf
+  each n = omega (arith, rows-change h x rs ok n (windowStart (h .newest) n) (windowStart (headNext .newest) n) (headNext .newest) (on .least), ok .live-count)
+
+  most : h .live + 1 ≤ 1025
+  most = omega (arith, within .small-capacity, live-few h rs (within .some-capacity) ok)
+
+  -- eight watches have 57,400 bytes at most
+  watches-fit : (watched : List ℕ) → length watched ≤ 8 → length (frames (allChanges watched (listOf h rs) (listOf headNext rowsNext))) ≤ 57400
+  watches-fit watched few = omega (arith, all-bytes watched (listOf h rs) (listOf headNext rowsNext) (λ n. omega (arith, each n, most)))
+
+  module _ (fine : tornPair h ≡ false) where
+    -- the pair has at most one change for each row
+    pair-fit : length (pairChanges (pairListOf h rs) (pairListOf headNext rowsNext)) ≤ 1024
+    unfolding pairListOf pastListOf pairStands pairChanges changesBy missing filter
+    pair-fit = rw (on .first, on .second) (go (pairStands h) refl)
+      where
+        go : (b : Bool) → pairStands h ≡ b
+            → length (pairChanges (cond b (pastListOf h rs (h .n1) (h .n2)) []) (cond b (pastListOf headNext rowsNext (h .n1) (h .n2)) [])) ≤ 1024
+        go true e =
+            let two = pair-within h fine e .two in
+            let high = on .most in
+            omega (
+              arith,
+              pair-change h x rs ok (windowStart (h .newest) (h .n2)) (h .newest + 1 - h .n1)
+                  (windowStart (headNext .newest) (h .n2)) (headNext .newest + 1 - h .n1) (omega arith),
+              length-map rs Row.position,
+              ap length (ok .window),
+              window-few (h .capacity) (within .some-capacity) (h .newest),
+              within .small-capacity,
+            )
+        go false e = omega arith
+
+    -- so all have 62,520 bytes at most
+    pub bytes-fit : (watched : List ℕ) → length watched ≤ 8
+        → length (frames (allChanges watched (listOf h rs) (listOf headNext rowsNext) ++ pairChanges (pairListOf h rs) (pairListOf headNext rowsNext))) ≤ 62520
+    bytes-fit watched few =
+        omega (
+          arith,
+          watches-fit watched few,
+          pair-fit,
+          pair-bytes before after,
+          length-append (frames plain) (frames (pairChanges before after)),
+          ap length (frames-append plain (pairChanges before after)),
+        )
+      where
+        before : List ℕ
+        before = pairListOf h rs
+
+        after : List ℕ
+        after = pairListOf headNext rowsNext
+
+        plain : List Message
+        plain = allChanges watched (listOf h rs) (listOf headNext rowsNext)
+
 -- a quote on tables that are not torn writes no more
 pub changes-fit : (h : Head) (x : List ℕ) (t : Tables) (ws : List ℕ) → settingsHold (h .dimensions) (h .capacity) (h .directions) ≡ true
-    → tornRows h (bookRows h t) ≡ false → ChangesFit h x t ws
-unfolding listOf quoteRows quoteHead quoteBytes
-changes-fit h x t ws holds whole =
-    record { changes-each = each; changes-most = most; bytes-most = omega (arith, few-standing ws, all-bytes (standing ws) (listOf h rs) (listOf next-head next) (λ n. omega (arith, each n, most))) }
-  where
-    rs : List Row
-    rs = bookRows h t
-
-    next : List Row
-    next = quoteRows h x t ws
-
-    next-head : Head
-    next-head = quoteHead h x t ws
-
-    within : Within (h .dimensions) (h .capacity)
-    within = settings-within (h .dimensions) (h .capacity) (h .directions) holds
-
-    ok : Whole h rs
-    ok = untorn-whole h rs (sym (length-rows h t)) (within .some-capacity) whole
-
-    onward : h .newest ≤ next-head .newest
-    onward = newest-onward h (length (liveRows next)) (length next)
-
-    each : (n : ℕ) → length (changes n (listOf h rs n) (listOf next-head next n)) ≤ h .live + 1
-    each n = omega (arith, rows-change h x rs ok n (windowStart (h .newest) n) (windowStart (next-head .newest) n) (next-head .newest) onward, ok .live-count)
-
-    most : h .live + 1 ≤ 1025
-    most = omega (arith, within .small-capacity, live-few h rs (within .some-capacity) ok)
+    → tornRows h (bookRows h t) ≡ false → tornPair h ≡ false → ChangesFit h x t ws
+unfolding quoteRows quoteHead quoteBytes
+changes-fit h x t ws holds whole fine =
+    let rs = bookRows h t in
+    let counted = sym (length-rows h t) in
+    record {
+      changes-each = each h x rs counted holds whole;
+      changes-most = most h x rs counted holds whole;
+      watches-most = watches-fit h x rs counted holds whole (standing ws) (few-standing ws);
+      pair-most = pair-fit h x rs counted holds whole fine;
+      bytes-most = bytes-fit h x rs counted holds whole fine (standing ws) (few-standing ws);
+    }
 
 -- a last refusal that is never given where the first and the third are not
 never-last : (a b c d e o : Bool) → (a ≡ false → c ≡ false → o ≡ false)
@@ -253,19 +383,25 @@ never-last false false false true e o h = refl
 never-last false false false false true o h = refl
 never-last false false false false false o h = rw (h refl refl)
 
--- so an output of 57,400 bytes is too short for no quote: its answer is by the other refusals alone
-pub room-suffices : (h : Head) (x : List ℕ) (t : Tables) (ws : List ℕ) (room : ℕ) → 57400 ≤ room
+-- so an output of 62,520 bytes is too short for no quote: its answer is by the other refusals alone
+pub room-suffices : (h : Head) (x : List ℕ) (t : Tables) (ws : List ℕ) (room : ℕ) → 62520 ≤ room
     → quoteAnswer h x t ws room ≡ watchfulAnswer h t ws ((not (eqb (length x) (h .dimensions)), number ColumnCount) ∷ (leb lastPosition (h .newest), number TapeFull) ∷ [])
 unfolding quoteAnswer watchfulAnswer
 room-suffices h x t ws room wide =
-    never-last (not held) (shortLoan t ws (h .dimensions) (h .capacity)) (torn || tornWatches (h .capacity) ws) (not (eqb (length x) (h .dimensions))) (leb lastPosition (h .newest)) (ltb room (length bytes))
-    (λ a c. le-ltb room (length bytes) (omega (arith, changes-fit h x t ws (not-false held a) (none-left torn (tornWatches (h .capacity) ws) c) .bytes-most)))
+    never-last (not held) (shortLoan t ws (h .dimensions) (h .capacity)) ((torn || pair) || tornWatches (h .capacity) ws)
+    (not (eqb (length x) (h .dimensions))) (leb lastPosition (h .newest)) (ltb room (length bytes))
+    (λ a c.
+    let fine = none-left (torn || pair) (tornWatches (h .capacity) ws) c in
+    le-ltb room (length bytes) (omega (arith, changes-fit h x t ws (not-false held a) (none-left torn pair fine) (none-right torn pair fine) .bytes-most)))
   where
     held : Bool
     held = settingsHold (h .dimensions) (h .capacity) (h .directions)
 
     torn : Bool
     torn = tornRows h (bookRows h t)
+
+    pair : Bool
+    pair = tornPair h
 
     bytes : List ℕ
     bytes = quoteBytes h x t ws

@@ -7,8 +7,10 @@ pub mod Torn
 pub mod Sound
 pub mod Simulation
 pub mod Opening
+pub mod Written
 pub mod Quoting
 pub mod Watching
+pub mod Pairing
 pub mod Replay
 pub mod Reached
 pub mod Kept
@@ -21,6 +23,7 @@ pub mod ChangesFit
 pub mod Sought
 pub mod QuoteUntorn
 pub mod Listing
+pub mod PairMoves
 pub mod Plays
 pub mod AuditTables
 pub mod RightEnds
@@ -28,4 +31,6 @@ pub mod Rules
 pub mod RulesToTape
 pub mod Audit
 pub mod Passing
+pub mod Stretches
+pub mod Due
 pub mod Refining

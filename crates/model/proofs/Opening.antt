@@ -9,7 +9,7 @@ use borrow.Author.Tests.{not-false}
 use Rattle.lists.specs.Lists.{filter, rising, laid, padded}
 use Rattle.lists.proofs.Writing.{length-padded, padded-again}
 use Rattle.head.specs.Refusals.{granted}
-use Rattle.head.specs.Heads.{freshHead, settingsHold}
+use Rattle.head.specs.Heads.{freshHead, settingsHold, tornPair}
 use Rattle.head.proofs.Numbers.{zero-passed}
 use Rattle.model.specs.Rows.{filled, liveRows}
 use Rattle.model.specs.Reference.{Reference, unopened, rowsOf, headOf, opened, opening, tooShort, tells, referenceStep}
@@ -46,7 +46,7 @@ module _ (d N directions : ℕ) (l : Lent) where
 
     -- the invariant holds after an accepted opening
     invariant : Invariant fresh cleared
-    unfolding opening opened rising shortLoan
+    unfolding opening opened rising shortLoan headOf tornPair
     invariant = record {
       settings = holds;
       wide = λ p h k. absurd (omega arith);
@@ -61,6 +61,7 @@ module _ (d N directions : ℕ) (l : Lent) where
       records = padded-again 8 [] [] (l .watches) zero-le;
       risen = refl;
       eight = zero-le;
+      pair = refl;
     }
 
   module _ (o : Outputs) (s : Reference) (since : (s ≡ unopened) ⊎ Invariant s l) where

@@ -1,27 +1,28 @@
--- The reference model fed with a tape of an opening and quotes: which it takes, and what it holds after them.
+-- The reference model fed with quotes, from an opening or later: which it takes, and what it holds after them.
 use mathlib.Core.Path.{_≡_, refl, sym, ap, _∙_}
 use Prim.Native.Nat.{ℕ, zero, suc, _+_, _*_, _≤_, _<_, zero-le}
 use native.Mathlib.Nat.{zero-add, mul-le-mul-right}
 use native.Mathlib.Omega.{arith}
 use mathlib.Core.Bool.{Bool, true, false, _&&_, not, cond}
 use mathlib.Core.List.{List, [], _∷_, _++_, append-nil, append-assoc}
-use lib.Dec.{leb, eqb}
+use lib.Dec.{ltb, leb, eqb}
 use lib.ListN.{length, getD, length-append}
 use borrow.Author.Tests.{eqb-true, leb-false, eq-eqb, lt-leb, le-ltb, not-false}
-use Rattle.lists.specs.Lists.{flat}
+use Rattle.lists.specs.Lists.{rising}
 use Rattle.head.specs.declared.Head.{Head}
-use Rattle.head.specs.declared.Refusal.the-variants.{ColumnCount, TapeFull}
+use Rattle.head.specs.declared.Refusal.the-variants.{ColumnCount, TapeFull, ShortOutput}
 use Rattle.head.specs.Refusals.{number, firstOf, granted}
-use Rattle.head.specs.Heads.{settingsHold, lastPosition}
+use Rattle.head.specs.Heads.{settingsHold, lastPosition, tornPair}
 use Rattle.head.proofs.Settings.{settings-within}
 use Rattle.head.proofs.Numbers.{zero-passed}
-use Rattle.model.specs.Changes.{allChanges, frames}
-use Rattle.model.specs.Reference.{Reference, Quote, ample, opening, opened, withQuote, tooShort, tells, referenceStep}
+use Rattle.model.specs.Reference.{Reference, Quote, ample, newest, headOf, opening, opened, withQuote, withQuotes, tooShort, tells, referenceStep}
 use Rattle.model.specs.Audit.{tapeOpening, plays}
+use Rattle.model.proofs.Simulation.{Bounded}
+use Rattle.model.proofs.Written.{written, written-fits}
 
 -- the reference model that holds these quotes, with no watch standing
 abbrev pub holding : ℕ → ℕ → ℕ → List (List ℕ) → Reference
-holding d N directions qs = record { dimensions = d; capacity = N; directions = directions; quotes = qs; watched = [] }
+holding d N directions qs = record { dimensions = d; capacity = N; directions = directions; quotes = qs; watched = []; n1 = 0; n2 = 0 }
 
 -- every quote has d columns
 abbrev pub WideAll : ℕ → List (List ℕ) → Type 0
@@ -31,21 +32,41 @@ plays-nil : (s : Reference) → plays [] s ≡ s
 unfolding plays
 plays-nil s = refl
 
-module _ (d N directions : ℕ) (hold : settingsHold d N directions ≡ true) where
-  -- the model of these settings that holds quotes
+module _ (s : Reference) (hold : opened s ≡ true) (ok : Bounded s) where
+  -- the columns of a quote
+  abbrev d : ℕ
+  d = s .dimensions
+
+  -- the model with other quotes
   abbrev at : List (List ℕ) → Reference
-  at = holding d N directions
+  at qs = record {
+    dimensions = s .dimensions;
+    capacity = s .capacity;
+    directions = s .directions;
+    quotes = qs;
+    watched = s .watched;
+    n1 = s .n1;
+    n2 = s .n2;
+  }
+
+  at-fits : (x : List ℕ) (qs : List (List ℕ)) → length qs < lastPosition → length (written (at qs) x) ≤ 62520
+  unfolding opened headOf tornPair
+  at-fits x qs room =
+      written-fits (at qs) x hold record { short = omega arith; small = ok .small; risen = ok .risen; eight = ok .eight; pair = ok .pair } room
 
   -- a quote is taken if it has d columns and the tape is not full
   quote-next : (x : List ℕ) (qs : List (List ℕ))
       → referenceStep (Quote x) ample (at qs) .next ≡ cond (eqb (length x) d && not (leb lastPosition (length qs))) (at (qs ++ (x ∷ []))) (at qs)
-  unfolding referenceStep tells opened firstOf granted withQuote allChanges frames flat
-  quote-next x qs = rw hold (go (eqb (length x) d) (leb lastPosition (length qs)))
+  unfolding referenceStep tells opened firstOf granted withQuote
+  quote-next x qs = rw hold (go (eqb (length x) d) (leb lastPosition (length qs)) refl)
     where
-      go : (a b : Bool) → granted (firstOf ((not a, number ColumnCount) ∷ (b, number TapeFull) ∷ [])) (at (qs ++ (x ∷ []))) (at qs) ≡ cond (a && not b) (at (qs ++ (x ∷ []))) (at qs)
-      go true true = refl
-      go true false = refl
-      go false b = refl
+      go : (a b : Bool) → leb lastPosition (length qs) ≡ b
+          → granted (firstOf ((not a, number ColumnCount) ∷ (b, number TapeFull) ∷ (ltb 62520 (length (written (at qs) x)), number ShortOutput) ∷ []))
+          (at (qs ++ (x ∷ []))) (at qs)
+          ≡ cond (a && not b) (at (qs ++ (x ∷ []))) (at qs)
+      go true true e = refl
+      go true false e = rw (le-ltb 62520 (length (written (at qs) x)) (at-fits x qs (leb-false lastPosition (length qs) e)))
+      go false b e = refl
 
   -- the first quote, and then the others
   plays-cons : (x : List ℕ) (xs qs : List (List ℕ))
@@ -97,15 +118,28 @@ module _ (d N directions : ℕ) (hold : settingsHold d N directions ≡ true) wh
           wide w (suc k) h = w k (omega arith)
       go false u b v e f r = absurd (omega arith)
 
-  -- an opened model holds a tape of quotes of d columns that is not too long
-  pub opening-plays : (qs : List (List ℕ)) → WideAll d qs → length qs ≤ lastPosition → plays qs (opening d N directions) ≡ at qs
-  unfolding opening
-  opening-plays qs wide room = plays-all qs [] wide (omega arith)
+  -- an opened model takes quotes of d columns while the tape has space for them
+  pub plays-on : (more : List (List ℕ)) → WideAll d more → newest s + length more ≤ lastPosition → plays more s ≡ withQuotes s more
+  plays-on more wide room = plays-all more (s .quotes) wide room
 
-  -- an opened model that holds as many quotes as the tape has took a tape of quotes of d columns that is not too long
+module _ (d N directions : ℕ) (hold : settingsHold d N directions ≡ true) where
+  fresh-opened : opened (holding d N directions []) ≡ true
+  unfolding opened
+  fresh-opened = hold
+
+  fresh-bounded : Bounded (holding d N directions [])
+  unfolding rising headOf tornPair
+  fresh-bounded = record { short = zero-le; small = settings-within d N directions hold .small-capacity; risen = refl; eight = zero-le; pair = refl }
+
+  -- a book just opened holds a tape of quotes of d columns that is not too long
+  pub opening-plays : (qs : List (List ℕ)) → WideAll d qs → length qs ≤ lastPosition → plays qs (opening d N directions) ≡ holding d N directions qs
+  unfolding opening
+  opening-plays qs wide room = plays-all (holding d N directions []) fresh-opened fresh-bounded qs [] wide (omega arith)
+
+  -- one that holds as many quotes as the tape has took a tape of quotes of d columns that is not too long
   pub opening-took : (qs : List (List ℕ)) → length (plays qs (opening d N directions) .quotes) ≡ length qs → WideAll d qs × (length qs ≤ lastPosition)
   unfolding opening
-  opening-took qs e = rw zero-add at (taken qs [] zero-le (e ∙ sym (zero-add (length qs))))
+  opening-took qs e = rw zero-add at (taken (holding d N directions []) fresh-opened fresh-bounded qs [] zero-le (e ∙ sym (zero-add (length qs))))
 
 -- lengths that are ample are long enough for settings that hold
 ample-long : (d N directions : ℕ) → settingsHold d N directions ≡ true → tooShort ample d N ≡ false

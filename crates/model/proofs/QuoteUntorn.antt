@@ -16,7 +16,7 @@ use Rattle.lists.proofs.Members.{mem-none, none-mem, of-filter, of-map, into-ma
 use Rattle.lists.proofs.Runs.{between-snoc, of-run}
 use Rattle.skyline.specs.Skyline.{windowStart}
 use Rattle.head.specs.declared.Head.{Head}
-use Rattle.head.specs.Heads.{lastPosition, afterQuote}
+use Rattle.head.specs.Heads.{lastPosition, afterQuote, tornPair}
 use Rattle.model.specs.Rows.{Row, liveRows, expiring, renamed, overOlder, overYounger, retiredBy, rowAfter, lowerEndAmong, rowsAfter}
 use Rattle.model.specs.Book.{tornRows}
 use Rattle.model.proofs.Quotes.{window-moves, window-bounds, left-positions}
@@ -146,3 +146,24 @@ quote-untorn h x rs some room counted e =
     let w = untorn-whole h rs counted some e in
     let o = head-others h x rs some room w in
     whole-untorn (head h x rs some room w) (next h x rs some room w) (o .2) (rw (o .0) some) (whole-after h x rs some room w)
+
+-- and its pair as torn as it was
+pub pair-untorn : (h : Head) (live held : ℕ) → tornPair (afterQuote h live held) ≡ tornPair h
+unfolding afterQuote tornPair
+pair-untorn h live held = go (ltb (h .newest) lastPosition)
+  where
+    moved : Head
+    moved = record {
+      dimensions = h .dimensions;
+      capacity = h .capacity;
+      directions = h .directions;
+      newest = h .newest + 1;
+      live = live;
+      held = held;
+      n1 = h .n1;
+      n2 = h .n2;
+    }
+
+    go : (b : Bool) → tornPair (cond b moved h) ≡ tornPair h
+    go true = refl
+    go false = refl

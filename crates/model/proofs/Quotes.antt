@@ -1,6 +1,6 @@
 -- The rows after one more quote are the book model's step of the rows before, and every past list is what its window covers of them.
 use mathlib.Core.Path.{_≡_, sym, ap, ap₂, _∙_}
-use Prim.Native.Nat.{ℕ, suc, _+_, _-_, _≤_}
+use Prim.Native.Nat.{ℕ, suc, _+_, _-_, _≤_, _<_}
 use native.Mathlib.Omega.{arith}
 use native.Mathlib.Numerals.{add-one}
 use mathlib.Core.Bool.{Bool, true, false, _&&_, not, cond}
@@ -8,7 +8,7 @@ use mathlib.Core.List.{List, [], _∷_, _++_, map}
 use lib.Dec.{eqb}
 use lib.ListN.{length, length-append, List·getD-append}
 use lib.Seq.{getD-append-seam}
-use borrow.Author.Tests.{eq-eqb, ne-eqb}
+use borrow.Author.Tests.{lt-ltb, eq-eqb, ne-eqb}
 use Rattle.lists.specs.Lists.{filter, lastOr, run, between}
 use Rattle.lists.proofs.Filters.{filter-map, map-append, map-map, map-id}
 use Rattle.lists.proofs.Members.{map-same-mem}
@@ -19,8 +19,9 @@ use Rattle.skyline.specs.Skyline.{windowStart}
 use Rattle.skyline.specs.Past.{lowerEnd, upperEnd}
 use Rattle.skyline.proofs.Ends.{upper-new, lower-new, lower-step, upper-step, lower-cong, upper-cong}
 use Rattle.skyline.proofs.Past.{past-covered, past-of-one}
-use Rattle.model.specs.Rows.{Row, expiring, renamed, listed, overOlder, overYounger, retiredBy, rowAfter, lowerEndAmong, rowsAfter}
-use Rattle.model.specs.Reference.{Reference, quoteAt, dominatesAt, newest, over, skylineOf, pastOf, rowOf, rowsOf, withQuote}
+use Rattle.head.specs.Heads.{lastPosition, afterQuote}
+use Rattle.model.specs.Rows.{Row, liveRows, expiring, renamed, listed, overOlder, overYounger, retiredBy, rowAfter, lowerEndAmong, rowsAfter}
+use Rattle.model.specs.Reference.{Reference, quoteAt, dominatesAt, newest, over, skylineOf, pastOf, rowOf, rowsOf, headOf, withQuote}
 
 module _ (d directions : ℕ) (quotes : List (List ℕ)) where
   -- dominance on positions is irreflexive
@@ -207,3 +208,10 @@ module _ (s : Reference) (x : List ℕ) (some : 1 ≤ s .capacity) where
       ap (map (rowOf (withQuote s x))) held-after
       ∙ map-append (rowOf (withQuote s x)) (between (suc g) M) (suc M ∷ [])
       ∙ ap₂ (λ (l : List Row) (r : Row). l ++ (r ∷ [])) old-rows new-row
+
+  -- and their head is its step of the head before
+  pub head-after-quote : newest s < lastPosition
+      → let next = rowsAfter (s .dimensions) (s .directions) (s .capacity) (newest s) x (rowsOf s) in
+      afterQuote (headOf s) (length (liveRows next)) (length next) ≡ headOf (withQuote s x)
+  unfolding afterQuote headOf withQuote
+  head-after-quote h = rw (lt-ltb (newest s) lastPosition h, ← rows-after-quote, newest-after, add-one)

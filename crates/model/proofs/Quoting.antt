@@ -1,40 +1,28 @@
 -- A quote is answered alike by both models.
-use mathlib.Core.Path.{_≡_, refl, sym, ap, ap₂, _∙_}
+use mathlib.Core.Path.{_≡_, refl, sym, ap, _∙_}
 use mathlib.Core.Logic.{inr}
 use Prim.Native.Nat.{ℕ, zero, suc, _≤_, _<_}
 use native.Mathlib.Omega.{arith}
-use native.Mathlib.Numerals.{add-one}
 use native.Mathlib.Decide.{decLe}
-use mathlib.Core.Bool.{Bool, true, not}
+use mathlib.Core.Bool.{Bool, not}
 use mathlib.Core.List.{List, [], _∷_, _++_}
 use lib.Dec.{ltb, leb, eqb}
 use lib.ListN.{length}
-use borrow.Author.Tests.{lt-ltb, leb-false, eqb-true, not-false}
-use Rattle.lists.specs.Lists.{flat, rising, laid}
-use Rattle.lists.proofs.Members.{map-same-mem}
-use Rattle.lists.proofs.Rising.{rising-bounds}
+use borrow.Author.Tests.{leb-false, eqb-true, not-false}
+use Rattle.lists.specs.Lists.{laid}
 use Rattle.head.specs.declared.Refusal.the-variants.{Settings, ColumnCount, TapeFull, ShortOutput}
 use Rattle.head.specs.Refusals.{number, firstOf, granted}
-use Rattle.head.specs.Heads.{lastPosition, afterQuote}
+use Rattle.head.specs.Heads.{lastPosition}
 use Rattle.head.proofs.Numbers.{zero-passed, firstOf-alike}
 use Rattle.model.specs.Rows.{filled}
-use Rattle.model.specs.Changes.{changes, allChanges, frames}
-use Rattle.model.specs.Reference.{Reference, quoteAt, newest, skylineOf, rowsOf, headOf, opened, withQuote, tells, referenceStep}
-use Rattle.model.specs.Book.{shortLoan, bookRows, listOf, replyOf, quoteRows, quoteHead, quoteBytes, quoteAnswer, quoteReply, quoteTables, quoteOut}
+use Rattle.model.specs.Reference.{Reference, quoteAt, newest, rowsOf, headOf, opened, withQuote, tells, referenceStep}
+use Rattle.model.specs.Book.{shortLoan, replyOf, quoteRows, quoteHead, quoteBytes, quoteAnswer, quoteReply, quoteTables, quoteOut}
 use Rattle.model.specs.Calls.{Quote, Outputs, Lent, bookSeen, headAfter, worldAfter, bookStep, lengthsOf, shown, expectedStep}
-use Rattle.model.proofs.Quotes.{newest-after, quote-within, quote-new, rows-after-quote}
+use Rattle.model.proofs.Quotes.{newest-after, quote-within, quote-new, rows-after-quote, head-after-quote}
+use Rattle.model.proofs.Written.{written, pair-kept, written-is}
 use Rattle.model.proofs.Tables.{filled-again, filled-long}
 use Rattle.model.proofs.Sound.{Wide, rows-few, rows-wide}
-use Rattle.model.proofs.Simulation.{Invariant, Agree, referenceWith, bookWith, long-tables, list-is, simulation, some-capacity, shown-opened, shown-still, rows-read, watches-read, skyline-read, judged-watchful}
-
--- watches whose lists before and after are equal have equal changes
-changes-alike : (watched : List ℕ) (before before' after after' : ℕ → List ℕ) (N : ℕ) → rising 1 N watched ≡ true
-    → ((n : ℕ) → 1 ≤ n → n ≤ N → before n ≡ before' n) → ((n : ℕ) → 1 ≤ n → n ≤ N → after n ≡ after' n)
-    → allChanges watched before after ≡ allChanges watched before' after'
-unfolding allChanges
-changes-alike watched before before' after after' N risen b a =
-    ap flat (map-same-mem (λ n. changes n (before n) (after n)) (λ n. changes n (before' n) (after' n)) watched
-    (λ n m. let r = rising-bounds 1 N n watched risen m in ap₂ (changes n) (b n (r .0) (r .1)) (a n (r .0) (r .1))))
+use Rattle.model.proofs.Simulation.{Invariant, Agree, referenceWith, bookWith, long-tables, simulation, some-capacity, shown-opened, shown-still, rows-read, watches-read, judged-watchful}
 
 module _ (s : Reference) (l : Lent) (f : Invariant s l) (x : List ℕ) where
   -- the reference model with the quote
@@ -59,24 +47,13 @@ module _ (s : Reference) (l : Lent) (f : Invariant s l) (x : List ℕ) where
   rows-are = rw (rows-read s l f) (sym (rows-after-quote s x (some-capacity s l f)))
 
   head-is : newest s < lastPosition → quoteHead (headOf s) x (l .tables) (l .watches) ≡ headOf s'
-  unfolding quoteHead afterQuote headOf withQuote
-  head-is h = rw (lt-ltb (newest s) lastPosition h, rows-are, newest-after s x (some-capacity s l f), add-one)
-
-  -- what the reference model writes
-  abbrev written : List ℕ
-  written = frames (allChanges (s .watched) (skylineOf s) (skylineOf s'))
-
-  list-after : (n : ℕ) → 1 ≤ n → n ≤ s .capacity → listOf (headOf s') (rowsOf s') n ≡ skylineOf s' n
-  unfolding withQuote
-  list-after n u v = list-is s' n u v
+  unfolding quoteHead quoteRows headOf
+  head-is h = rw (rows-read s l f) (head-after-quote s x (some-capacity s l f) h)
 
   -- the book model writes the same
-  bytes-are : newest s < lastPosition → quoteBytes (headOf s) x (l .tables) (l .watches) ≡ written
+  bytes-are : newest s < lastPosition → quoteBytes (headOf s) x (l .tables) (l .watches) ≡ written s x
   unfolding quoteBytes
-  bytes-are h =
-      rw (head-is h, rows-are, watches-read s l f)
-      (ap frames (changes-alike (s .watched) (listOf (headOf s) (bookRows (headOf s) (l .tables))) (skylineOf s) (listOf (headOf s') (rowsOf s')) (skylineOf s') (s .capacity) (f .risen)
-      (skyline-read s l f) list-after))
+  bytes-are h = rw (head-is h, rows-are, rows-read s l f, watches-read s l f) (written-is s x (f .risen) (f .pair))
 
   -- ---- what is left
 
@@ -104,6 +81,7 @@ module _ (s : Reference) (l : Lent) (f : Invariant s l) (x : List ℕ) where
           records = f .records;
           risen = f .risen;
           eight = f .eight;
+          pair = pair-kept s x (f .pair);
         }
 
   -- ---- the call
@@ -118,15 +96,17 @@ module _ (s : Reference) (l : Lent) (f : Invariant s l) (x : List ℕ) where
 
     -- the reference model's answer
     abbrev answer : ℕ
-    answer = firstOf ((not (opened s), number Settings) ∷ (not (eqb (length x) (s .dimensions)), number ColumnCount) ∷ more written)
+    answer = firstOf ((not (opened s), number Settings) ∷ (not (eqb (length x) (s .dimensions)), number ColumnCount) ∷ more (written s x))
 
     -- the book model's answer is the same
     answers : quoteAnswer (headOf s) x (l .tables) (l .watches) (length (o .bytes)) ≡ answer
     unfolding quoteAnswer headOf
     answers =
-        judged-watchful s l f ((not (eqb (length x) (s .dimensions)), number ColumnCount) ∷ more bytes) ((not (eqb (length x) (s .dimensions)), number ColumnCount) ∷ more written)
-        (firstOf-alike (not (eqb (length x) (s .dimensions))) (number ColumnCount) (more bytes) (more written)
-        (λ _. firstOf-alike (leb lastPosition (newest s)) (number TapeFull) (short bytes) (short written) (λ e. ap (λ (b : List ℕ). firstOf (short b)) (bytes-are (leb-false lastPosition (newest s) e)))))
+        judged-watchful s l f ((not (eqb (length x) (s .dimensions)), number ColumnCount) ∷ more bytes)
+        ((not (eqb (length x) (s .dimensions)), number ColumnCount) ∷ more (written s x))
+        (firstOf-alike (not (eqb (length x) (s .dimensions))) (number ColumnCount) (more bytes) (more (written s x))
+        (λ _. firstOf-alike (leb lastPosition (newest s)) (number TapeFull) (short bytes) (short (written s x))
+        (λ e. ap (λ (b : List ℕ). firstOf (short b)) (bytes-are (leb-false lastPosition (newest s) e)))))
       where
         bytes : List ℕ
         bytes = quoteBytes (headOf s) x (l .tables) (l .watches)

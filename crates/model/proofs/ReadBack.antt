@@ -13,8 +13,8 @@ use Rattle.frames.specs.declared.Message.{Message}
 use Rattle.frames.specs.Frames.{frame, stays, readAt, toldFirst, messagesFrom}
 use Rattle.frames.specs.Messages.{Writable}
 use Rattle.frames.proofs.WriteCases.{frame-size}
-use Rattle.frames.proofs.RoundTrips.{read-after-write, leave-writable, join-writable}
-use Rattle.model.specs.Changes.{leave, join, missing, changesBy, changes, allChanges, frames}
+use Rattle.frames.proofs.RoundTrips.{read-after-write, leave-writable, join-writable, pair-leave-writable, pair-join-writable}
+use Rattle.model.specs.Changes.{leave, join, pairLeave, pairJoin, missing, changesBy, changes, allChanges, pairChanges, frames}
 
 -- messages that have frames without columns
 pub data Sent : List Message → Type 0 where
@@ -60,15 +60,28 @@ module _ (lo hi : ℕ) (short : hi < 4294967296) where
   pub sent-joins : (n : ℕ) (l : List ℕ) → n < 65536 → rising lo hi l ≡ true → Sent (map (join n) l)
   sent-joins n l h = sent-map (join n) lo hi (λ p u. join-writable n p h (omega arith)) l
 
-  sent-changes : (n : ℕ) (before after : List ℕ) → n < 65536 → rising lo hi before ≡ true → rising lo hi after ≡ true → Sent (changes n before after)
-  unfolding changes changesBy missing
-  sent-changes n before after h e f =
+  sent-by : (leaves joins : ℕ → Message) → ((p : ℕ) → p ≤ hi → Writable (leaves p) []) → ((p : ℕ) → p ≤ hi → Writable (joins p) []) → (before after : List ℕ)
+      → rising lo hi before ≡ true → rising lo hi after ≡ true → Sent (changesBy leaves joins before after)
+  unfolding changesBy missing
+  sent-by leaves joins l j before after e f =
       sent-append
-      (sent-map (leave n) lo hi (λ p u. leave-writable n p h (omega arith)) (missing before after) (rising-filter (λ p. not (contains p after)) lo hi before e))
-      (sent-joins n (missing after before) h (rising-filter (λ p. not (contains p before)) lo hi after f))
+      (sent-map leaves lo hi l (missing before after) (rising-filter (λ p. not (contains p after)) lo hi before e))
+      (sent-map joins lo hi j (missing after before) (rising-filter (λ p. not (contains p before)) lo hi after f))
+
+  sent-changes : (n : ℕ) (before after : List ℕ) → n < 65536 → rising lo hi before ≡ true → rising lo hi after ≡ true → Sent (changes n before after)
+  unfolding changes
+  sent-changes n before after h = sent-by (leave n) (join n) (λ p u. leave-writable n p h (omega arith)) (λ p u. join-writable n p h (omega arith)) before after
+
+  -- joins and changes of the pair
+  pub sent-pair-joins : (l : List ℕ) → rising lo hi l ≡ true → Sent (map pairJoin l)
+  sent-pair-joins l = sent-map pairJoin lo hi (λ p u. pair-join-writable p (omega arith)) l
+
+  sent-pair : (before after : List ℕ) → rising lo hi before ≡ true → rising lo hi after ≡ true → Sent (pairChanges before after)
+  unfolding pairChanges
+  sent-pair before after = sent-by pairLeave pairJoin (λ p u. pair-leave-writable p (omega arith)) (λ p u. pair-join-writable p (omega arith)) before after
 
   -- the changes of every watch
-  pub sent-all : (before after : ℕ → List ℕ) → ((n : ℕ) → rising lo hi (before n) ≡ true) → ((n : ℕ) → rising lo hi (after n) ≡ true)
+  sent-all : (before after : ℕ → List ℕ) → ((n : ℕ) → rising lo hi (before n) ≡ true) → ((n : ℕ) → rising lo hi (after n) ≡ true)
       → (a N : ℕ) → N < 65536 → (watched : List ℕ) → rising a N watched ≡ true → Sent (allChanges watched before after)
   unfolding allChanges flat
   sent-all before after e f a N h [] r = none
@@ -76,3 +89,9 @@ module _ (lo hi : ℕ) (short : hi < 4294967296) where
       let u = rising-cons a N w ws r in
       let high = u .high in
       sent-append (sent-changes w (before w) (after w) (omega arith) (e w) (f w)) (sent-all before after e f (suc w) N h ws (u .rest))
+
+  -- and those of the pair behind them
+  pub sent-both : (before after : ℕ → List ℕ) → ((n : ℕ) → rising lo hi (before n) ≡ true) → ((n : ℕ) → rising lo hi (after n) ≡ true)
+      → (a N : ℕ) → N < 65536 → (watched : List ℕ) → rising a N watched ≡ true → (pair pair' : List ℕ) → rising lo hi pair ≡ true → rising lo hi pair' ≡ true
+      → Sent (allChanges watched before after ++ pairChanges pair pair')
+  sent-both before after e f a N h watched r pair pair' u v = sent-append (sent-all before after e f a N h watched r) (sent-pair pair pair' u v)

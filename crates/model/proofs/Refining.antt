@@ -1,16 +1,18 @@
 -- The one theorem of demand 3: calls that were made, each on what the one before left and each meeting its promise, refine the reference
 -- model.
 use mathlib.Core.Path.{_≡_, refl, sym, ap, subst, _∙_}
-use Prim.Native.Nat.{ℕ, zero, suc}
-use mathlib.Core.List.{List, [], _∷_}
+use Prim.Native.Nat.{ℕ}
+use mathlib.Core.List.{List, _∷_}
 use lib.ListN.{take}
 use Rattle.model.specs.Calls.{Call, Outputs, Lending, Lent, Seen, World, bookSeen, worldAfter, bookStep, runs, worldFirst, expectedAtEnd, worldAtEnd, referenceAtEnd}
-use Rattle.model.specs.Watcher.{Nothing, watcher}
-use Rattle.model.specs.Claims.{Made, opened, quoted, looked, watched, ended, pastLooked, AllMade, none, next, lastHead, Refines}
+use Rattle.model.specs.Watcher.{Follower, OfSize, OfPair, Nothing, watcher, heldBy}
+use Rattle.model.specs.Claims.{Made, opened, quoted, looked, watched, ended, pastLooked, paired, unpaired, dueLooked, AllMade, none, next, lastHead, Refines}
 use Rattle.model.proofs.Simulation.{shown-same}
 use Rattle.model.proofs.Replay.{replay, replay-ends}
 use Rattle.model.proofs.Kept.{live-row-iff-listed, retired-row-never-listed, held-row-listed-alone, held-row-iff-past}
-use Rattle.model.proofs.Watcher.{watcher-holds-skyline}
+use Rattle.model.proofs.Watcher.{watcher-holds}
+use Rattle.model.proofs.Stretches.{first-seen}
+use Rattle.model.proofs.Due.{due-row-joins, due-row-not-before, due-space}
 use Rattle.model.proofs.Passing.{simulation-passes}
 
 -- what is seen of a call that met its promise is what the book model says
@@ -22,6 +24,9 @@ made-seen (looked m) = rw (m .reply, m .out)
 made-seen (watched m) = rw (m .reply, m .watches, m .out)
 made-seen (ended m) = rw (m .reply, m .watches)
 made-seen (pastLooked m) = rw (m .reply, m .out)
+made-seen (paired m) = rw (m .reply, m .out)
+made-seen (unpaired m) = rw (m .reply)
+made-seen (dueLooked m) = rw (m .reply, m .out)
 
 -- so is what is seen of a list of calls, and the book at its end
 all-made : {cs : List Lending} {w : World} {ss : List Seen} {end : World} → AllMade cs w ss end → (ss ≡ runs bookStep cs w .0) × (end ≡ runs bookStep cs w .1)
@@ -38,15 +43,6 @@ unfolding lastHead worldAfter
 head-made none = refl
 head-made (next m rest) = head-made rest
 
--- what is seen of the first calls of a list
-first-seen : (k : ℕ) (cs : List Lending) (w : World) → runs bookStep (take k cs) w .0 ≡ take k (runs bookStep cs w .0)
-unfolding runs
-first-seen zero cs w = refl
-first-seen (suc k) [] w = refl
-first-seen (suc k) (c ∷ cs) w =
-    let one = bookStep (c .call) (c .outputs) w in
-    ap (λ (l : List Seen). one .0 ∷ l) (first-seen k cs (one .1))
-
 -- calls that were made from a head of zeros on anything lent refine the reference model
 pub calls-refine : (cs : List Lending) (l : Lent) (ss : List Seen) (end : World) → AllMade cs (worldFirst l) ss end → Refines cs l ss end
 calls-refine cs l ss end m =
@@ -62,6 +58,13 @@ calls-refine cs l ss end m =
       retired-never-listed = retired-row-never-listed cs l;
       held-listed-alone = held-row-listed-alone cs l;
       held-iff-past = held-row-iff-past cs l;
-      watcher-holds-list = λ n k. ap (λ (seen : List Seen). watcher n (take k cs) seen Nothing) (sym (first-seen k cs (worldFirst l))) ∙ watcher-holds-skyline n (take k cs) l;
+      watcher-holds-list = λ n k. holds k (OfSize n);
+      pair-holds-past = λ k. holds k OfPair;
+      due-joins = λ i j p due h closed. due-row-joins cs l i j h closed p due;
+      due-not-before = λ i j p due h closed. due-row-not-before cs l i j h closed p;
+      due-space = due-space cs l;
       passes-audit = simulation-passes (expectedAtEnd cs l) (worldAtEnd cs l) j;
     }
+  where
+    holds : (k : ℕ) (f : Follower) → watcher f (take k cs) (take k (runs bookStep cs (worldFirst l) .0)) Nothing ≡ heldBy f (referenceAtEnd (take k cs) l)
+    holds k f = ap (λ (seen : List Seen). watcher f (take k cs) seen Nothing) (sym (first-seen bookStep k cs (worldFirst l))) ∙ watcher-holds f (take k cs) l

@@ -3,8 +3,8 @@ use mathlib.Core.Path.{_≡_, refl, sym, ap, ap₂, _∙_}
 use mathlib.Core.Logic.{_⊎_, inl, inr}
 use Prim.Native.Nat.{ℕ, _≤_}
 use native.Mathlib.Omega.{arith}
-use mathlib.Core.Bool.{Bool, true, false, _&&_, not}
-use mathlib.Core.List.{List, _∷_}
+use mathlib.Core.Bool.{Bool, true, false, _&&_, not, cond}
+use mathlib.Core.List.{List, [], _∷_}
 use lib.Dec.{ltb, leb, eqb}
 use lib.ListN.{length}
 use borrow.Author.Tests.{ltb-false, leb-true, eqb-false, not-false}
@@ -13,18 +13,19 @@ use Rattle.lists.proofs.Booleans.{and-left, and-right, none-left, none-right}
 use Rattle.head.specs.declared.Head.{Head}
 use Rattle.head.specs.declared.Refusal.the-variants.{Settings}
 use Rattle.head.specs.Refusals.{number, firstOf}
-use Rattle.head.specs.Heads.{settingsHold, lastPosition}
+use Rattle.head.specs.Heads.{settingsHold, lastPosition, tornPair}
 use Rattle.head.proofs.Settings.{settings-within}
-use Rattle.model.specs.Rows.{Tables, rowsIn, filled}
-use Rattle.model.specs.Reference.{Reference, unopened, newest, skylineOf, pastOf, rowsOf, headOf, opened, outside, outsidePast}
-use Rattle.model.specs.Book.{shortTables, shortLoan, tornRows, tornWatches, standing, bookRows, pastListOf, listOf, answerOf, watchfulAnswer}
+use Rattle.model.specs.Rows.{Row, Tables, rowsIn, filled, dueRows}
+use Rattle.model.specs.Reference.{Reference, unopened, newest, skylineOf, pastOf, paired, pairOf, rowsOf, headOf, dueOf, opened, outside, outsidePast, outsidePair}
+use Rattle.model.specs.Book.{shortTables, shortLoan, tornRows, tornWatches, standing, bookRows, pastListOf, listOf, pairStands, pairListOf, answerOf, watchfulAnswer, dueIn}
 use Rattle.model.specs.Calls.{Call, Outputs, Lent, World, bookStep, shown, Expected, expectedStep}
 use Rattle.model.proofs.Quotes.{past-listed, skyline-listed}
 use Rattle.model.proofs.Tables.{rows-filled}
+use Rattle.model.proofs.Torn.{PairWithin, pair-within}
 use Rattle.model.proofs.Sound.{Wide, rows-none, rows-few, rows-wide, rows-sound, standing-padded, watches-sound}
 
 -- from the first accepted opening on: what is lent is filled from the reference model, whose settings hold, whose quotes have d
--- columns each and are not too many, and whose watched n rise from 1 to N and are at most eight
+-- columns each and are not too many, whose watched n rise from 1 to N and are at most eight, and whose pair is not torn
 pub record Invariant (s : Reference) (l : Lent) : Type 0 where
   pub settings : opened s ≡ true
   pub wide : Wide s
@@ -34,6 +35,7 @@ pub record Invariant (s : Reference) (l : Lent) : Type 0 where
   pub records : padded 8 (s .watched) (l .watches) ≡ l .watches
   pub risen : rising 1 (s .capacity) (s .watched) ≡ true
   pub eight : length (s .watched) ≤ 8
+  pub pair : tornPair (headOf s) ≡ false
 
 -- between two calls: the head is the reference model's, both models are lent the same, and either no opening was accepted or what
 -- is lent keeps the invariant
@@ -41,6 +43,27 @@ pub record Simulation (k : Expected) (w : World) : Type 0 where
   pub head : w .head ≡ headOf (k .reference)
   pub lent : w .lent ≡ k .lent
   pub since : (k .reference ≡ unopened) ⊎ Invariant (k .reference) (k .lent)
+
+-- a reference model whose positions and watched n fit the frames of changes, whose watched n rise and are at most eight, and whose pair
+-- is not torn
+pub record Bounded (s : Reference) : Type 0 where
+  pub short : newest s ≤ lastPosition
+  pub small : s .capacity ≤ 1024
+  pub risen : rising 1 (s .capacity) (s .watched) ≡ true
+  pub eight : length (s .watched) ≤ 8
+  pub pair : tornPair (headOf s) ≡ false
+
+-- the reference model is bounded wherever a book simulates it
+pub bounded : (s : Reference) (l : Lent) → (s ≡ unopened) ⊎ Invariant s l → Bounded s
+unfolding opened rising headOf tornPair
+bounded s l (inl e) = rw e (record { short = omega arith; small = omega arith; risen = refl; eight = omega arith; pair = refl })
+bounded s l (inr f) = record {
+  short = f .within;
+  small = settings-within (s .dimensions) (s .capacity) (s .directions) (f .settings) .small-capacity;
+  risen = f .risen;
+  eight = f .eight;
+  pair = f .pair;
+}
 
 -- what is lent is long enough: the tables
 pub long-tables : (t : Tables) (ws : List ℕ) (d N : ℕ) → shortLoan t ws d N ≡ false → shortTables t d N ≡ false
@@ -78,10 +101,34 @@ in-past-range s n1 n2 e f =
     let z = eqb-false n1 0 (none-left (eqb n1 0) (ltb (s .capacity) n2) e) in
     (omega arith, ltb-false n2 n1 f, ltb-false (s .capacity) n2 (none-right (eqb n1 0) (ltb (s .capacity) n2) e))
 
+-- those that a watch of the pair does not refuse so have 2 ≤ n1 ≤ n2 ≤ N
+pub in-pair-range : (s : Reference) (n1 n2 : ℕ) → outsidePair s n1 n2 ≡ false → ltb n2 n1 ≡ false → PairWithin n1 n2 (s .capacity)
+unfolding outsidePair
+in-pair-range s n1 n2 e f = record {
+  two = ltb-false n1 2 (none-left (ltb n1 2) (ltb (s .capacity) n2) e);
+  order = ltb-false n2 n1 f;
+  most = ltb-false (s .capacity) n2 (none-right (ltb n1 2) (ltb (s .capacity) n2) e);
+}
+
+-- a pair that is watched and not torn has 2 ≤ n1 ≤ n2 ≤ N
+pub watched-pair : (s : Reference) → tornPair (headOf s) ≡ false → paired s ≡ true → PairWithin (s .n1) (s .n2) (s .capacity)
+unfolding paired headOf pairStands
+watched-pair s e f = pair-within (headOf s) e f
+
+-- a list that stands only where a test passes
+pub alike-where : {A : Type 0} (b : Bool) {l m : List A} → (b ≡ true → l ≡ m) → cond b l [] ≡ cond b m []
+alike-where true f = f refl
+alike-where false f = refl
+
 -- the book model's list of n of a reference model's rows
 pub list-is : (s : Reference) (n : ℕ) → 1 ≤ n → n ≤ s .capacity → listOf (headOf s) (rowsOf s) n ≡ skylineOf s n
 unfolding listOf headOf
 list-is s n h k = skyline-listed s n h k
+
+-- and its past list of the pair
+pub pair-is : (s : Reference) → tornPair (headOf s) ≡ false → pairListOf (headOf s) (rowsOf s) ≡ pairOf s
+unfolding pairListOf pairStands pastListOf pairOf paired headOf
+pair-is s e = alike-where (paired s) (λ t. let w = watched-pair s e t in past-listed s (s .n1) (s .n2) (let h = w .two in omega arith) (w .order) (w .most))
 
 -- what is lent, as an opened reference model shows it
 pub shown-opened : (s : Reference) (l : Lent) → opened s ≡ true
@@ -122,6 +169,11 @@ module _ (s : Reference) (l : Lent) (f : Invariant s l) where
   unfolding pastListOf headOf
   past-read n1 n2 h j k = rw rows-read (past-listed s n1 n2 h j k)
 
+  -- and its rows that are due
+  pub due-read : dueIn (headOf s) (l .tables) ≡ dueOf s
+  unfolding dueIn dueOf pairStands paired headOf
+  due-read = ap (λ (rs : List Row). cond (paired s) (dueRows (newest s) (s .n1) (s .n2) rs) []) rows-read
+
   rows-whole : tornRows (headOf s) (rowsOf s) ≡ false
   rows-whole = rows-sound s some-capacity (f .within)
 
@@ -131,12 +183,12 @@ module _ (s : Reference) (l : Lent) (f : Invariant s l) where
   -- neither 3 nor 11 nor 12 is said: the answer is by what the call adds
   pub judged : (more more' : List (Bool × ℕ)) → firstOf more ≡ firstOf more' → answerOf (headOf s) (l .tables) more ≡ firstOf ((not (opened s), number Settings) ∷ more')
   unfolding answerOf firstOf headOf opened
-  judged more more' e = rw (f .settings, long-tables (l .tables) (l .watches) (s .dimensions) (s .capacity) (f .long), rows-read, rows-whole) e
+  judged more more' e = rw (f .settings, long-tables (l .tables) (l .watches) (s .dimensions) (s .capacity) (f .long), rows-read, rows-whole, f .pair) e
 
   -- and no more so if the watches are judged too
   pub judged-watchful : (more more' : List (Bool × ℕ)) → firstOf more ≡ firstOf more' → watchfulAnswer (headOf s) (l .tables) (l .watches) more ≡ firstOf ((not (opened s), number Settings) ∷ more')
   unfolding watchfulAnswer firstOf headOf opened
-  judged-watchful more more' e = rw (f .settings, f .long, rows-read, rows-whole, watches-whole) e
+  judged-watchful more more' e = rw (f .settings, f .long, rows-read, rows-whole, f .pair, watches-whole) e
 
 -- what holds before any opening and by the invariant holds of every simulation
 pub simulation-by : (P : Expected → World → Type 0) → ((l : Lent) → P (referenceWith unopened l) (bookWith unopened l))

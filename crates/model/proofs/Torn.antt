@@ -7,18 +7,18 @@ use mathlib.Core.Bool.{Bool, true, false, _&&_, _||_, not}
 use mathlib.Core.List.{List, [], map}
 use lib.Dec.{ltb, leb, eqb}
 use lib.ListN.{length, length-map}
-use borrow.Author.Tests.{ltb-true, leb-true, ltb-false, le-ltb, eqb-true, eq-eqb, ne-eqb, not-false}
+use borrow.Author.Tests.{ltb-true, leb-true, ltb-false, le-ltb, le-leb, eqb-true, eq-eqb, ne-eqb, not-true, not-false}
 use Rattle.lists.specs.Lists.{any, lastOr, run, between, contains, rising}
-use Rattle.lists.proofs.Booleans.{clash, none-left, none-right, and-false}
+use Rattle.lists.proofs.Booleans.{clash, and-left, and-right, or-cases, none-left, none-right, and-false}
 use Rattle.lists.proofs.Filters.{last-snoc}
 use Rattle.lists.proofs.Members.{mem-contains}
 use Rattle.lists.proofs.Runs.{length-run, between-snoc, filter-all, any-none, none-any, into-run}
 use Rattle.lists.proofs.Rising.{rising-between, rising-is}
 use Rattle.skyline.specs.Skyline.{windowStart}
 use Rattle.head.specs.declared.Head.{Head}
-use Rattle.head.specs.Heads.{lastPosition}
+use Rattle.head.specs.Heads.{lastPosition, tornPair}
 use Rattle.model.specs.Rows.{Row, liveRows}
-use Rattle.model.specs.Book.{tornRows}
+use Rattle.model.specs.Book.{tornRows, pairStands}
 
 -- a lower end not below its position
 abbrev pub lowerAstray : Row → Bool
@@ -46,6 +46,46 @@ pub record Whole (h : Head) (rs : List Row) : Type 0 where
   pub lower-ends : any lowerAstray rs ≡ false
   pub upper-ends : any (upperAstray (h .newest)) rs ≡ false
   pub live-count : h .live ≡ length (liveRows rs)
+
+-- ---- the pair
+
+-- a pair that can be watched in a book of N
+pub record PairWithin (n1 n2 N : ℕ) : Type 0 where
+  pub two : 2 ≤ n1
+  pub order : n1 ≤ n2
+  pub most : n2 ≤ N
+
+-- a pair that stands and is not torn is one
+pub pair-within : (h : Head) → tornPair h ≡ false → pairStands h ≡ true → PairWithin (h .n1) (h .n2) (h .capacity)
+unfolding tornPair pairStands
+pair-within h e stands = go (or-cases none some (not-false (none || some) e))
+  where
+    none : Bool
+    none = eqb (h .n1) 0 && eqb (h .n2) 0
+
+    some : Bool
+    some = leb 2 (h .n1) && leb (h .n1) (h .n2) && leb (h .n2) (h .capacity)
+
+    go : (none ≡ true) ⊎ (some ≡ true) → PairWithin (h .n1) (h .n2) (h .capacity)
+    go (inl t) = absurd (clash (eqb (h .n1) 0) (and-left (eqb (h .n1) 0) (eqb (h .n2) 0) t) (not-true (eqb (h .n1) 0) stands))
+    go (inr t) =
+        let two = and-left (leb 2 (h .n1) && leb (h .n1) (h .n2)) (leb (h .n2) (h .capacity)) t in
+        record {
+          two = leb-true 2 (h .n1) (and-left (leb 2 (h .n1)) (leb (h .n1) (h .n2)) two);
+          order = leb-true (h .n1) (h .n2) (and-right (leb 2 (h .n1)) (leb (h .n1) (h .n2)) two);
+          most = leb-true (h .n2) (h .capacity) (and-right (leb 2 (h .n1) && leb (h .n1) (h .n2)) (leb (h .n2) (h .capacity)) t);
+        }
+
+-- and one that can be watched is not torn
+pub within-untorn : (h : Head) → PairWithin (h .n1) (h .n2) (h .capacity) → tornPair h ≡ false
+unfolding tornPair
+within-untorn h w =
+    rw (le-leb 2 (h .n1) (w .two), le-leb (h .n1) (h .n2) (w .order), le-leb (h .n2) (h .capacity) (w .most))
+    (rw (or-true (eqb (h .n1) 0 && eqb (h .n2) 0)))
+  where
+    or-true : (b : Bool) → b || true ≡ true
+    or-true true = refl
+    or-true false = refl
 
 -- ---- the positions of a window of N
 

@@ -69,7 +69,7 @@ module _ (s : Reference) (l : Lent) (f : Invariant s l) (n : ℕ) where
 
     -- the invariant holds with other watches
     rewatched : Invariant (withWatched s ns) relent
-    unfolding withWatched opened rowsOf rowOf shortLoan
+    unfolding withWatched opened rowsOf rowOf headOf shortLoan
     rewatched = record {
       settings = f .settings;
       wide = f .wide;
@@ -79,6 +79,7 @@ module _ (s : Reference) (l : Lent) (f : Invariant s l) (n : ℕ) where
       records = padded-again 8 ns ns (l .watches) few;
       risen = risen;
       eight = few;
+      pair = f .pair;
     }
 
     shown-rewatched : shown (withWatched s ns) l ≡ relent

@@ -1,7 +1,7 @@
 -- The book model: what each call answers and leaves in everything lent, for any head, tables, watch records and output.
 use Prim.Native.Nat.{ℕ, suc, _+_, _-_, _*_, _≤_}
 use mathlib.Core.Bool.{Bool, true, _&&_, _||_, not, cond}
-use mathlib.Core.List.{List, [], _∷_, map}
+use mathlib.Core.List.{List, [], _∷_, _++_, map}
 use lib.Dec.{ltb, leb, eqb}
 use lib.ListN.{length, take}
 use Rattle.lists.specs.Lists.{filter, any, lastOr, between, contains, rising, insert, without, laid, padded}
@@ -10,9 +10,9 @@ use Rattle.head.specs.declared.Head.{Head}
 use Rattle.head.specs.declared.Refusal.the-variants.{Settings, ColumnCount, WindowSize, TapeFull, AlreadyWatched, NoFreeRecord, NotWatched, ShortLoan, Torn, ShortOutput, WindowOrder}
 use Rattle.head.specs.Refusals.{number, firstOf, granted}
 use Rattle.head.specs.Replies.{Outcome}
-use Rattle.head.specs.Heads.{freshHead, settingsHold, afterQuote, lastPosition}
-use Rattle.model.specs.Rows.{Row, Tables, rowsIn, filled, liveRows, listed, rowsAfter}
-use Rattle.model.specs.Changes.{join, changes, allChanges, frames}
+use Rattle.head.specs.Heads.{freshHead, settingsHold, afterQuote, withPair, tornPair, lastPosition}
+use Rattle.model.specs.Rows.{Row, Tables, rowsIn, filled, liveRows, listed, dueRows, dueCells, rowsAfter}
+use Rattle.model.specs.Changes.{join, pairJoin, changes, allChanges, pairChanges, frames}
 
 -- a table is shorter than these settings ask
 unfoldable pub shortTables : Tables → ℕ → ℕ → Bool
@@ -63,17 +63,26 @@ pastListOf h rs n1 n2 = listed (windowStart (h .newest) n2) (h .newest + 1 - n1)
 unfoldable pub listOf : Head → List Row → ℕ → List ℕ
 listOf h rs n = listed (windowStart (h .newest) n) (h .newest) rs
 
+-- a pair is watched
+unfoldable pub pairStands : Head → Bool
+pairStands h = not (eqb (h .n1) 0)
+
+-- the past list of the head's pair by the rows' ends; none where no pair is watched
+unfoldable pub pairListOf : Head → List Row → List ℕ
+pairListOf h rs = cond (pairStands h) (pastListOf h rs (h .n1) (h .n2)) []
+
 -- the answer of a call on the tables alone, 0 if accepted: 3, 11, 12, then what the call adds
 unfoldable pub answerOf : Head → Tables → List (Bool × ℕ) → ℕ
 answerOf h t more =
     firstOf ((not (settingsHold (h .dimensions) (h .capacity) (h .directions)), number Settings)
-    ∷ (shortTables t (h .dimensions) (h .capacity), number ShortLoan) ∷ (tornRows h (bookRows h t), number Torn) ∷ more)
+    ∷ (shortTables t (h .dimensions) (h .capacity), number ShortLoan) ∷ (tornRows h (bookRows h t) || tornPair h, number Torn) ∷ more)
 
 -- the answer of a call on the tables and the watches, 0 if accepted: 3, 11, 12, then what the call adds
 unfoldable pub watchfulAnswer : Head → Tables → List ℕ → List (Bool × ℕ) → ℕ
 watchfulAnswer h t ws more =
     firstOf ((not (settingsHold (h .dimensions) (h .capacity) (h .directions)), number Settings)
-    ∷ (shortLoan t ws (h .dimensions) (h .capacity), number ShortLoan) ∷ (tornRows h (bookRows h t) || tornWatches (h .capacity) ws, number Torn) ∷ more)
+    ∷ (shortLoan t ws (h .dimensions) (h .capacity), number ShortLoan)
+    ∷ ((tornRows h (bookRows h t) || tornPair h) || tornWatches (h .capacity) ws, number Torn) ∷ more)
 
 -- what a call hands back: if accepted the next head and the count, else the head as it came and 0
 unfoldable pub replyOf : ℕ → Head → Head → ℕ → Outcome
@@ -111,9 +120,11 @@ module _ (h : Head) (x : List ℕ) (t : Tables) (ws : List ℕ) where
   unfoldable pub quoteHead : Head
   quoteHead = afterQuote h (length (liveRows quoteRows)) (length quoteRows)
 
-  -- the changes of every watch, as frames
+  -- the changes of every watch and, behind them, those of the pair, as frames
   unfoldable pub quoteBytes : List ℕ
-  quoteBytes = frames (allChanges (standing ws) (listOf h (bookRows h t)) (listOf quoteHead quoteRows))
+  quoteBytes =
+      frames (allChanges (standing ws) (listOf h (bookRows h t)) (listOf quoteHead quoteRows)
+      ++ pairChanges (pairListOf h (bookRows h t)) (pairListOf quoteHead quoteRows))
 
   -- the answer of a quote with this room for its changes: 3, 11, 12, then 4, 6, 13
   unfoldable pub quoteAnswer : ℕ → ℕ
@@ -134,11 +145,13 @@ module _ (h : Head) (x : List ℕ) (t : Tables) (ws : List ℕ) where
   quoteOut out = granted (quoteAnswer (length out)) (laid quoteBytes out) out
 
 -- how much a quote can write: for every n at most one change for each live row and one more, which is 1,025 at most, and 57,400 bytes for
--- all watches
+-- all watches; for the pair at most 1,024 changes; and 62,520 bytes in all
 pub record ChangesFit (h : Head) (x : List ℕ) (t : Tables) (ws : List ℕ) : Type 0 where
   pub changes-each : (n : ℕ) → length (changes n (listOf h (bookRows h t) n) (listOf (quoteHead h x t ws) (quoteRows h x t ws) n)) ≤ h .live + 1
   pub changes-most : h .live + 1 ≤ 1025
-  pub bytes-most : length (quoteBytes h x t ws) ≤ 57400
+  pub watches-most : length (frames (allChanges (standing ws) (listOf h (bookRows h t)) (listOf (quoteHead h x t ws) (quoteRows h x t ws)))) ≤ 57400
+  pub pair-most : length (pairChanges (pairListOf h (bookRows h t)) (pairListOf (quoteHead h x t ws) (quoteRows h x t ws))) ≤ 1024
+  pub bytes-most : length (quoteBytes h x t ws) ≤ 62520
 
 -- ---- look
 module _ (h : Head) (n : ℕ) (t : Tables) where
@@ -213,3 +226,52 @@ module _ (h : Head) (n : ℕ) (t : Tables) (ws : List ℕ) where
   -- the watch records after the end of a watch
   unfoldable pub endWatches : List ℕ
   endWatches = granted endAnswer (padded 8 (without n (standing ws)) ws) ws
+
+-- ---- pair, its end, and what is due
+module _ (h : Head) (n1 n2 : ℕ) (t : Tables) (ws : List ℕ) where
+  -- a join for each position of the past list of n1 and n2, as frames
+  unfoldable pub pairBytes : List ℕ
+  pairBytes = frames (map pairJoin (pastListOf h (bookRows h t) n1 n2))
+
+  -- the answer of a watch of the pair with this room for its joins: 3, 11, 12, then 5, 14, 9, 13
+  unfoldable pub pairAnswer : ℕ → ℕ
+  pairAnswer room =
+      watchfulAnswer h t ws ((ltb n1 2 || ltb (h .capacity) n2, number WindowSize) ∷ (ltb n2 n1, number WindowOrder)
+      ∷ (pairStands h, number NoFreeRecord) ∷ (ltb room (length pairBytes), number ShortOutput) ∷ [])
+
+  -- what a watch of the pair hands back
+  unfoldable pub pairReply : ℕ → Outcome
+  pairReply room = replyOf (pairAnswer room) h (withPair h n1 n2) (length pairBytes)
+
+  -- the output after a watch of the pair
+  unfoldable pub pairOut : List ℕ → List ℕ
+  pairOut out = granted (pairAnswer (length out)) (laid pairBytes out) out
+
+module _ (h : Head) (t : Tables) where
+  -- the answer of the end of the pair: 3, 11, 12, then 10
+  unfoldable pub unpairAnswer : List ℕ → ℕ
+  unpairAnswer ws = watchfulAnswer h t ws ((not (pairStands h), number NotWatched) ∷ [])
+
+  -- what the end of the pair hands back
+  unfoldable pub unpairReply : List ℕ → Outcome
+  unpairReply ws = replyOf (unpairAnswer ws) h (withPair h 0 0) 0
+
+  -- the rows that are due; none where no pair is watched
+  unfoldable pub dueIn : List Row
+  dueIn = cond (pairStands h) (dueRows (h .newest) (h .n1) (h .n2) (bookRows h t)) []
+
+  -- of each row that is due its position and after how many more quotes it joins
+  unfoldable pub dueWritten : List ℕ
+  dueWritten = dueCells (h .newest) (h .n1) dueIn
+
+  -- the answer of a look at what is due with this room: 3, 11, 12, then 13
+  unfoldable pub dueAnswer : ℕ → ℕ
+  dueAnswer room = answerOf h t ((ltb room (length dueWritten), number ShortOutput) ∷ [])
+
+  -- what a look at what is due hands back: the count is the number of rows, each of two cells
+  unfoldable pub dueReply : ℕ → Outcome
+  dueReply room = replyOf (dueAnswer room) h h (length dueIn)
+
+  -- the output after a look at what is due
+  unfoldable pub dueOut : List ℕ → List ℕ
+  dueOut out = granted (dueAnswer (length out)) (laid dueWritten out) out

@@ -11,7 +11,7 @@ use Rattle.head.specs.Refusals.{granted}
 use Rattle.head.specs.Replies.{Outcome}
 use Rattle.model.specs.Rows.{Row, Tables, filled, liveRows}
 use Rattle.model.specs.Reference.{Reference, unopened, Lengths, rowsOf, opened, referenceStep}
-pub use Rattle.model.specs.Reference.{Call, Open, Quote, Look, Watch, End, Past}
+pub use Rattle.model.specs.Reference.{Call, Open, Quote, Look, Watch, End, Past, Pair, Unpair, Due}
 use Rattle.model.specs.Book
 
 -- what the outputs of a call hold: bytes for frames, cells for positions; a call writes into those that it uses, the other stays as lent
@@ -72,6 +72,16 @@ bookSeen (Past n1 n2) o w =
     let t = w .lent .tables in
     let outputs : Outputs = record { bytes = o .bytes; cells = Book.pastOut (w .head) n1 n2 t (o .cells) } in
     record { outcome = Book.pastReply (w .head) n1 n2 t (length (o .cells)); outputs = outputs; lent = w .lent }
+bookSeen (Pair n1 n2) o w =
+    let t = w .lent .tables in
+    let ws = w .lent .watches in
+    let outputs : Outputs = record { bytes = Book.pairOut (w .head) n1 n2 t ws (o .bytes); cells = o .cells } in
+    record { outcome = Book.pairReply (w .head) n1 n2 t ws (length (o .bytes)); outputs = outputs; lent = w .lent }
+bookSeen Unpair o w = record { outcome = Book.unpairReply (w .head) (w .lent .tables) (w .lent .watches); outputs = o; lent = w .lent }
+bookSeen Due o w =
+    let t = w .lent .tables in
+    let outputs : Outputs = record { bytes = o .bytes; cells = Book.dueOut (w .head) t (o .cells) } in
+    record { outcome = Book.dueReply (w .head) t (length (o .cells)); outputs = outputs; lent = w .lent }
 
 -- the head that the next call gets: the one handed back, unless by a refused opening
 unfoldable pub headAfter : Call → Outcome → Head → Head
@@ -81,6 +91,9 @@ headAfter (Look n) outcome h = outcome .head
 headAfter (Watch n) outcome h = outcome .head
 headAfter (End n) outcome h = outcome .head
 headAfter (Past n1 n2) outcome h = outcome .head
+headAfter (Pair n1 n2) outcome h = outcome .head
+headAfter Unpair outcome h = outcome .head
+headAfter Due outcome h = outcome .head
 
 -- the book after a call of which this was seen
 unfoldable pub worldAfter : Call → Seen → World → World

@@ -1,20 +1,21 @@
 -- Calls that were made, each meeting its promise on what the one before left, and all that demand 3 says of a list of them.
 use mathlib.Core.Path.{_≡_}
 use mathlib.Core.Logic.{_↔_}
-use Prim.Native.Nat.{ℕ, _+_, _-_, _≤_}
-use mathlib.Core.Bool.{true}
-use mathlib.Core.List.{List, [], _∷_, List·Memᴰ}
-use lib.ListN.{take}
+use Prim.Native.Nat.{ℕ, _+_, _-_, _≤_, _<_}
+use mathlib.Core.Bool.{Bool, true, false, _&&_, cond}
+use mathlib.Core.List.{List, [], _∷_, map, List·Memᴰ}
+use lib.Dec.{eqb}
+use lib.ListN.{length, getD, take, drop}
 use Rattle.head.specs.declared.Head.{Head}
 use Rattle.head.specs.declared.Reply.{Reply}
-use Rattle.head.specs.Heads.{freshHead}
+use Rattle.head.specs.Heads.{freshHead, lastPosition}
 use Rattle.head.specs.Replies.{outcome, yes}
-use Rattle.model.specs.Rows.{Tables}
-use Rattle.model.specs.Reference.{newest, skylineOf, pastOf, headOf, opened as isOpened, withQuotes}
-use Rattle.model.specs.Calls.{Call, Open, Quote, Look, Watch, End, Past, Outputs, Lending, Lent, Seen, World, headAfter, worldAfter, shown, expectedStep, runs, expectedFirst, expectedAtEnd, referenceAtEnd, positionsIn, livePositionsIn}
-use Rattle.model.specs.Promises.{world, Opened, Quoted, Looked, PastLooked, Watched, Ended}
-use Rattle.model.specs.Watcher.{Nothing, watcher, heldBy}
-use Rattle.model.specs.Audit.{auditFinding}
+use Rattle.model.specs.Rows.{Row, Tables, joinsAfter}
+use Rattle.model.specs.Reference.{Reference, newest, skylineOf, pastOf, dueOf, headOf, opened as isOpened, withQuotes}
+use Rattle.model.specs.Calls.{Call, Open, Quote, Look, Watch, End, Past, Pair, Unpair, Due, Outputs, Lending, Lent, Seen, World, headAfter, worldAfter, shown, expectedStep, runs, expectedFirst, expectedAtEnd, referenceAtEnd, positionsIn, livePositionsIn}
+use Rattle.model.specs.Promises.{world, Opened, Quoted, Looked, PastLooked, Watched, Ended, Paired, Unpaired, DueLooked}
+use Rattle.model.specs.Watcher.{Nothing, OfSize, OfPair, watcher, heldBy}
+use Rattle.model.specs.Audit.{auditFinding, plays}
 
 -- what is seen of a call that left this reply, these outputs, these tables and these watches
 abbrev pub seen : Reply → Outputs → Tables → List ℕ → Seen
@@ -34,6 +35,11 @@ pub data Made : Call → Outputs → World → Seen → Type 0 where
       → Ended h n t ws r ws' → Made (End n) o (world h t ws) (seen r o t ws')
   pastLooked : {n1 n2 : ℕ} {o : Outputs} {h : Head} {t : Tables} {ws : List ℕ} {r : Reply} {cells : List ℕ}
       → PastLooked h n1 n2 t (o .cells) r cells → Made (Past n1 n2) o (world h t ws) (seen r (record { bytes = o .bytes; cells = cells }) t ws)
+  paired : {n1 n2 : ℕ} {o : Outputs} {h : Head} {t : Tables} {ws : List ℕ} {r : Reply} {bytes : List ℕ}
+      → Paired h n1 n2 t ws (o .bytes) r bytes → Made (Pair n1 n2) o (world h t ws) (seen r (record { bytes = bytes; cells = o .cells }) t ws)
+  unpaired : {o : Outputs} {h : Head} {t : Tables} {ws : List ℕ} {r : Reply} → Unpaired h t ws r → Made Unpair o (world h t ws) (seen r o t ws)
+  dueLooked : {o : Outputs} {h : Head} {t : Tables} {ws : List ℕ} {r : Reply} {cells : List ℕ}
+      → DueLooked h t (o .cells) r cells → Made Due o (world h t ws) (seen r (record { bytes = o .bytes; cells = cells }) t ws)
 
 -- a list of calls was made on a book, each on what the one before left (it gets the head handed back, unless by a refused opening), and
 -- left this to be seen after each, and this book at the end
@@ -47,6 +53,48 @@ unfoldable pub lastHead : List Lending → List Seen → Head → Head
 lastHead [] ss h = h
 lastHead (c ∷ cs) [] h = h
 lastHead (c ∷ cs) (s ∷ ss) h = lastHead cs ss (headAfter (c .call) (s .outcome) h)
+
+-- the call is a quote
+unfoldable pub isQuote : Call → Bool
+isQuote (Open d N directions) = false
+isQuote (Quote x) = true
+isQuote (Look n) = false
+isQuote (Watch n) = false
+isQuote (End n) = false
+isQuote (Past n1 n2) = false
+isQuote (Pair n1 n2) = false
+isQuote Unpair = false
+isQuote Due = false
+
+-- the call is an opening
+unfoldable pub isOpening : Call → Bool
+isOpening (Open d N directions) = true
+isOpening (Quote x) = false
+isOpening (Look n) = false
+isOpening (Watch n) = false
+isOpening (End n) = false
+isOpening (Past n1 n2) = false
+isOpening (Pair n1 n2) = false
+isOpening Unpair = false
+isOpening Due = false
+
+-- how many calls of this sort were accepted, of calls of which this was seen
+unfoldable pub acceptedIn : (Call → Bool) → List Lending → List Seen → ℕ
+acceptedIn sort [] ss = 0
+acceptedIn sort (c ∷ cs) [] = 0
+acceptedIn sort (c ∷ cs) (s ∷ ss) = cond (sort (c .call) && eqb (s .outcome .number) 0) 1 0 + acceptedIn sort cs ss
+
+-- those behind the first i, of the first j
+abbrev pub stretch : {A : Type 0} → ℕ → ℕ → List A → List A
+stretch i j xs = drop i (take j xs)
+
+-- the row at position p is due for the pair that is watched
+abbrev pub IsDue : Reference → ℕ → Type 0
+IsDue s p = List·Memᴰ p (map Row.position (dueOf s))
+
+-- after how many more quotes the row at position p joins the past list of the pair that is watched
+abbrev pub dueAfter : Reference → ℕ → ℕ
+dueAfter s p = joinsAfter (newest s) (s .n1) p
 
 -- all that demand 3 says of a list of calls from a head of zeros on anything lent, of what was seen after each, and of the book at the end
 pub record Refines (cs : List Lending) (l : Lent) (ss : List Seen) (end : World) : Type 0 where
@@ -74,6 +122,22 @@ pub record Refines (cs : List Lending) (l : Lent) (ss : List Seen) (end : World)
   pub held-iff-past : (p : ℕ)
       → List·Memᴰ p (positionsIn end) ↔ ((n1 : ℕ) × (n2 : ℕ) × (1 ≤ n1) × (n1 ≤ n2) × (n2 ≤ referenceAtEnd cs l .capacity) × List·Memᴰ p (pastOf (referenceAtEnd cs l) n1 n2))
   -- after each call a watcher of n who applied the changes holds the list of n, and nothing while n is not watched
-  pub watcher-holds-list : (n k : ℕ) → watcher n (take k cs) (take k ss) Nothing ≡ heldBy n (referenceAtEnd (take k cs) l)
+  pub watcher-holds-list : (n k : ℕ) → watcher (OfSize n) (take k cs) (take k ss) Nothing ≡ heldBy (OfSize n) (referenceAtEnd (take k cs) l)
+  -- and a watcher of the pair its past list, and nothing while no pair is watched
+  pub pair-holds-past : (k : ℕ) → watcher OfPair (take k cs) (take k ss) Nothing ≡ heldBy OfPair (referenceAtEnd (take k cs) l)
+  -- a row that is due after i calls is on the past list of the pair watched then after exactly its number of further accepted quotes
+  pub due-joins : (i j p : ℕ) → IsDue (referenceAtEnd (take i cs) l) p → i ≤ j
+      → acceptedIn isOpening (stretch i j cs) (stretch i j ss) ≡ 0
+      → acceptedIn isQuote (stretch i j cs) (stretch i j ss) ≡ dueAfter (referenceAtEnd (take i cs) l) p
+      → List·Memᴰ p (pastOf (referenceAtEnd (take j cs) l) (referenceAtEnd (take i cs) l .n1) (referenceAtEnd (take i cs) l .n2))
+  -- and not before
+  pub due-not-before : (i j p : ℕ) → IsDue (referenceAtEnd (take i cs) l) p → i ≤ j
+      → acceptedIn isOpening (stretch i j cs) (stretch i j ss) ≡ 0
+      → acceptedIn isQuote (stretch i j cs) (stretch i j ss) < dueAfter (referenceAtEnd (take i cs) l) p
+      → List·Memᴰ p (pastOf (referenceAtEnd (take j cs) l) (referenceAtEnd (take i cs) l .n1) (referenceAtEnd (take i cs) l .n2)) → ⊥
+  -- once an opening was accepted any further quotes of d columns are accepted while the tape has space for them
+  pub due-space : (more : List (List ℕ)) → isOpened (referenceAtEnd cs l) ≡ true
+      → ((k : ℕ) → k < length more → length (getD more k []) ≡ referenceAtEnd cs l .dimensions)
+      → newest (referenceAtEnd cs l) + length more ≤ lastPosition → plays more (referenceAtEnd cs l) ≡ withQuotes (referenceAtEnd cs l) more
   -- once an opening was accepted the book passes the audit
   pub passes-audit : isOpened (referenceAtEnd cs l) ≡ true → auditFinding (end .head) (end .lent .tables) ≡ yes

@@ -1,5 +1,6 @@
--- 01's marked cases M1 to M10 and its worked tape, and a tape with past lists: one table of questions with their answers, and the answers that the definitions give.
-use Prim.Native.Nat.{ℕ}
+-- 01's marked cases M1 to M10 and its worked tape, a tape with past lists and two with a watched pair: one table of questions with their
+-- answers, and the answers that the definitions give.
+use Prim.Native.Nat.{ℕ, _+_}
 use mathlib.Core.Bool.{Bool, true, false, _&&_}
 use mathlib.Core.List.{List, [], _∷_, _++_, map}
 use lib.Dec.{eqb}
@@ -9,7 +10,7 @@ use Rattle.head.specs.declared.Head.{Head}
 use Rattle.head.specs.Replies.{Finding, yes, no, refused}
 use Rattle.model.specs.Rows.{Row, Tables, liveRows}
 use Rattle.model.specs.Reference.{Reference, opening, skylineOf, rowOf, rowsOf}
-use Rattle.model.specs.Calls.{Call, Open, Quote, Look, Watch, End, Past, Outputs, Lending, Lent, Seen, bookStep, expectedStep, runs, worldFirst, expectedFirst}
+use Rattle.model.specs.Calls.{Call, Open, Quote, Look, Watch, End, Past, Pair, Unpair, Due, Outputs, Lending, Lent, Seen, bookStep, expectedStep, runs, worldFirst, expectedFirst}
 use Rattle.model.specs.Audit.{auditFinding, plays}
 
 -- the two models that calls are run by
@@ -67,9 +68,12 @@ tape =
     Open 2 5 0 ∷ quote 5 5 ∷ quote 3 8 ∷ quote 4 4 ∷ quote 7 2 ∷ quote 4 4 ∷ Watch 2 ∷ quote 6 6 ∷ Look 5 ∷ quote 2 9 ∷ quote 4 3
     ∷ Look 3 ∷ []
 
--- tables and watch records of any content, longer than a book of 2 columns and 5 places asks
+-- tables and watch records of any content, longer than a book of 2 columns and 6 places asks
 abbrev lent : Lent
-lent = record { tables = record { columns = replicate 12 9; positions = replicate 6 9; lowerEnds = replicate 6 9; upperEnds = replicate 6 9 }; watches = replicate 9 5 }
+lent = record {
+  tables = record { columns = replicate 14 9; positions = replicate 7 9; lowerEnds = replicate 7 9; upperEnds = replicate 7 9 };
+  watches = replicate 9 5;
+}
 
 -- each call that takes an n, at N and at N + 1, on an empty book
 abbrev edges : List Call
@@ -138,11 +142,77 @@ pastPrint =
     ∷ (14 ∷ 8 ∷ 3 ∷ [])
     ∷ []
 
+-- the frame of a leave of the pair
+abbrev pairLeave : ℕ → List ℕ
+pairLeave p = 36 ∷ p ∷ 0 ∷ 0 ∷ 0 ∷ []
+
+-- the frame of a join of the pair
+abbrev pairJoin : ℕ → List ℕ
+pairJoin p = 37 ∷ p ∷ 0 ∷ 0 ∷ 0 ∷ []
+
+-- the calls of a tape with a watched pair, and what is due after each quote; behind them pairs that cannot be set, one that stands
+-- already, and the end of the pair
+abbrev pairTape : List Call
+pairTape =
+    Open 2 6 0 ∷ Due ∷ Pair 3 5 ∷ Due ∷ quote 3 3 ∷ Due ∷ quote 4 4 ∷ Due ∷ quote 1 5 ∷ Due ∷ quote 2 2 ∷ Due ∷ quote 9 9 ∷ Due ∷ quote 1 1 ∷ Due
+    ∷ quote 5 5 ∷ Due ∷ Pair 1 5 ∷ Pair 2 7 ∷ Pair 4 3 ∷ Pair 3 5 ∷ Unpair ∷ Unpair ∷ Due ∷ Pair 2 6 ∷ []
+
+-- its print
+abbrev pairPrint : List (List ℕ)
+pairPrint =
+    (0 ∷ 0 ∷ 0 ∷ [])
+    ∷ (0 ∷ 0 ∷ 0 ∷ [])
+    ∷ (0 ∷ 0 ∷ 0 ∷ [])
+    ∷ (0 ∷ 0 ∷ 0 ∷ [])
+    ∷ (0 ∷ 1 ∷ 1 ∷ [])
+    ∷ (0 ∷ 1 ∷ 1 ∷ 1 ∷ 2 ∷ [])
+    ∷ (0 ∷ 2 ∷ 2 ∷ [])
+    ∷ (0 ∷ 2 ∷ 2 ∷ 1 ∷ 1 ∷ [])
+    ∷ (0 ∷ 3 ∷ 3 ∷ pairJoin 1)
+    ∷ (0 ∷ 3 ∷ 3 ∷ 3 ∷ 2 ∷ [])
+    ∷ (0 ∷ 4 ∷ 2 ∷ [])
+    ∷ (0 ∷ 4 ∷ 2 ∷ 3 ∷ 1 ∷ 4 ∷ 2 ∷ [])
+    ∷ (0 ∷ 5 ∷ 3 ∷ pairJoin 3)
+    ∷ (0 ∷ 5 ∷ 3 ∷ 4 ∷ 1 ∷ [])
+    ∷ (0 ∷ 6 ∷ 1 ∷ pairLeave 1 ++ pairJoin 4)
+    ∷ (0 ∷ 6 ∷ 1 ∷ 6 ∷ 2 ∷ [])
+    ∷ (0 ∷ 7 ∷ 2 ∷ [])
+    ∷ (0 ∷ 7 ∷ 2 ∷ 6 ∷ 1 ∷ [])
+    ∷ (5 ∷ 7 ∷ 2 ∷ [])
+    ∷ (5 ∷ 7 ∷ 2 ∷ [])
+    ∷ (14 ∷ 7 ∷ 2 ∷ [])
+    ∷ (9 ∷ 7 ∷ 2 ∷ [])
+    ∷ (0 ∷ 7 ∷ 2 ∷ [])
+    ∷ (10 ∷ 7 ∷ 2 ∷ [])
+    ∷ (0 ∷ 7 ∷ 2 ∷ [])
+    ∷ (0 ∷ 7 ∷ 2 ∷ pairJoin 6)
+    ∷ []
+
+-- the calls of a tape with a watch beside the pair
+abbrev bothTape : List Call
+bothTape = Open 2 6 0 ∷ Pair 2 3 ∷ Watch 1 ∷ quote 5 5 ∷ quote 4 6 ∷ quote 1 1 ∷ quote 2 2 ∷ []
+
+-- its print: the pair's changes stand behind those of the watch
+abbrev bothPrint : List (List ℕ)
+bothPrint =
+    (0 ∷ 0 ∷ 0 ∷ [])
+    ∷ (0 ∷ 0 ∷ 0 ∷ [])
+    ∷ (0 ∷ 0 ∷ 0 ∷ [])
+    ∷ (0 ∷ 1 ∷ 1 ∷ join 1 1)
+    ∷ (0 ∷ 2 ∷ 2 ∷ leave 1 1 ++ join 1 2 ++ pairJoin 1)
+    ∷ (0 ∷ 3 ∷ 1 ∷ leave 1 2 ++ join 1 3 ++ pairJoin 2)
+    ∷ (0 ∷ 4 ∷ 2 ∷ leave 1 3 ++ join 1 4 ++ pairLeave 1 ++ pairLeave 2 ++ pairJoin 3)
+    ∷ []
+
 -- ---- the audit's books
 
 -- one column, N = 2, low, M = 2, and this many rows, all live
 abbrev book : ℕ → Head
-book count = record { dimensions = 1; capacity = 2; directions = 0; newest = 2; live = count; held = count }
+book count = record { dimensions = 1; capacity = 2; directions = 0; newest = 2; live = count; held = count; n1 = 0; n2 = 0 }
+
+-- the same with two rows and a pair that could not be set
+abbrev pairedBook : Head
+pairedBook = record { dimensions = 1; capacity = 2; directions = 0; newest = 2; live = 2; held = 2; n1 = 2; n2 = 1 }
 
 -- a sole row at 2
 abbrev sole : ℕ → Tables
@@ -180,6 +250,8 @@ table =
     ∷ record { question = Audit (book 2) (pair 0); answer = (0 ∷ []) ∷ [] }
     ∷ record { question = Audit (book 2) (pair 1); answer = (1 ∷ []) ∷ [] }
     ∷ record { question = Audit (book 2) (pair 2); answer = (0 ∷ []) ∷ [] }
+    -- the audit judges no pair
+    ∷ record { question = Audit pairedBook (pair 1); answer = (1 ∷ []) ∷ [] }
     -- the worked tape
     ∷ record { question = Lines ByReference tape; answer = print }
     ∷ record { question = Lines ByBook tape; answer = print }
@@ -187,6 +259,11 @@ table =
     ∷ record { question = Lines ByReference pastTape; answer = pastPrint }
     ∷ record { question = Lines ByBook pastTape; answer = pastPrint }
     ∷ record { question = Ends 8; answer = (0 ∷ 0 ∷ 5 ∷ 0 ∷ 0 ∷ []) ∷ (0 ∷ 8 ∷ 8 ∷ 0 ∷ 0 ∷ []) ∷ [] }
+    -- the tapes with a watched pair
+    ∷ record { question = Lines ByReference pairTape; answer = pairPrint }
+    ∷ record { question = Lines ByBook pairTape; answer = pairPrint }
+    ∷ record { question = Lines ByReference bothTape; answer = bothPrint }
+    ∷ record { question = Lines ByBook bothTape; answer = bothPrint }
     ∷ []
 
 -- ---- the definitions' answers
@@ -202,18 +279,21 @@ abbrev seen : Model → List Call → List Seen
 seen ByReference cs = runs expectedStep (lending cs) (expectedFirst lent) .0
 seen ByBook cs = runs bookStep (lending cs) (worldFirst lent) .0
 
--- what was written, by the call: frames or positions
-abbrev written : Call → Outputs → List ℕ
-written (Open d N directions) o = []
-written (Quote x) o = o .bytes
-written (Look n) o = o .cells
-written (Watch n) o = o .bytes
-written (End n) o = []
-written (Past n1 n2) o = o .cells
+-- what was written, by the call and its count: frames, positions, or for each row that is due two cells
+abbrev written : Call → ℕ → Outputs → List ℕ
+written (Open d N directions) count o = []
+written (Quote x) count o = take count (o .bytes)
+written (Look n) count o = take count (o .cells)
+written (Watch n) count o = take count (o .bytes)
+written (End n) count o = []
+written (Past n1 n2) count o = take count (o .cells)
+written (Pair n1 n2) count o = take count (o .bytes)
+written Unpair count o = []
+written Due count o = take (count + count) (o .cells)
 
 -- the refusal of a call, the newest position, the number of live rows, and what is written
 abbrev line : Call → Seen → List ℕ
-line c s = s .outcome .number ∷ s .outcome .head .newest ∷ s .outcome .head .live ∷ take (s .outcome .count) (written c (s .outputs))
+line c s = s .outcome .number ∷ s .outcome .head .newest ∷ s .outcome .head .live ∷ written c (s .outcome .count) (s .outputs)
 
 -- a line for each call
 abbrev lines : List Call → List Seen → List (List ℕ)

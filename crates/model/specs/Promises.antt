@@ -51,3 +51,17 @@ pub record Watched (h : Head) (n : ℕ) (t : Tables) (ws before : List ℕ) (r :
 pub record Ended (h : Head) (n : ℕ) (t : Tables) (ws : List ℕ) (r : Reply) (ws' : List ℕ) : Type 0 where
   pub reply : outcome r ≡ Book.endReply h n t ws
   pub watches : ws' ≡ Book.endWatches h n t ws
+
+-- what a watch of the pair n1 and n2 leaves of the output; tables and watches stay
+pub record Paired (h : Head) (n1 n2 : ℕ) (t : Tables) (ws before : List ℕ) (r : Reply) (after : List ℕ) : Type 0 where
+  pub reply : outcome r ≡ Book.pairReply h n1 n2 t ws (length before)
+  pub out : after ≡ Book.pairOut h n1 n2 t ws before
+
+-- what the end of the pair hands back; everything lent stays
+pub record Unpaired (h : Head) (t : Tables) (ws : List ℕ) (r : Reply) : Type 0 where
+  pub reply : outcome r ≡ Book.unpairReply h t ws
+
+-- what a look at what is due leaves of the output
+pub record DueLooked (h : Head) (t : Tables) (before : List ℕ) (r : Reply) (after : List ℕ) : Type 0 where
+  pub reply : outcome r ≡ Book.dueReply h t (length before)
+  pub out : after ≡ Book.dueOut h t before

@@ -1,6 +1,6 @@
 -- The reference model (01: the plain desk): it keeps every quote and works each answer out from the definitions.
 use Prim.Native.Nat.{ℕ, _+_, _-_, _*_}
-use mathlib.Core.Bool.{Bool, _&&_, _||_, not}
+use mathlib.Core.Bool.{Bool, _&&_, _||_, not, cond}
 use mathlib.Core.List.{List, [], _∷_, _++_, map}
 use lib.Dec.{ltb, leb, eqb}
 use lib.ListN.{length, getD}
@@ -12,20 +12,23 @@ use Rattle.head.specs.declared.Head.{Head}
 use Rattle.head.specs.declared.Refusal.the-variants.{Settings, ColumnCount, WindowSize, TapeFull, AlreadyWatched, NoFreeRecord, NotWatched, ShortLoan, ShortOutput, WindowOrder}
 use Rattle.head.specs.Refusals.{number, firstOf, granted}
 use Rattle.head.specs.Heads.{freshHead, settingsHold, lastPosition}
-use Rattle.model.specs.Rows.{Row, liveRows}
-use Rattle.model.specs.Changes.{join, allChanges, frames}
+use Rattle.model.specs.Rows.{Row, liveRows, dueRows, dueCells}
+use Rattle.model.specs.Changes.{join, pairJoin, allChanges, pairChanges, frames}
 
--- what the reference model holds: the settings (zeros at first), every quote accepted since they were taken, the watched n
+-- what the reference model holds: the settings (zeros at first), every quote accepted since they were taken, the watched n, and the
+-- watched pair (0 and 0 when unset)
 pub record Reference : Type 0 where
   pub dimensions : ℕ
   pub capacity : ℕ
   pub directions : ℕ
   pub quotes : List (List ℕ)
   pub watched : List ℕ
+  pub n1 : ℕ
+  pub n2 : ℕ
 
 -- before any opening
 abbrev pub unopened : Reference
-unopened = record { dimensions = 0; capacity = 0; directions = 0; quotes = []; watched = [] }
+unopened = record { dimensions = 0; capacity = 0; directions = 0; quotes = []; watched = []; n1 = 0; n2 = 0 }
 
 -- the columns of the quote at a position; the first is at 1
 unfoldable pub quoteAt : List (List ℕ) → ℕ → List ℕ
@@ -53,6 +56,14 @@ module _ (s : Reference) where
   unfoldable pub pastOf : ℕ → ℕ → List ℕ
   pastOf n1 n2 = skyline over (windowStart newest n2) (newest + 1 - n1)
 
+  -- a pair is watched
+  unfoldable pub paired : Bool
+  paired = not (eqb (s .n1) 0)
+
+  -- the past list of the watched pair; none where no pair is watched
+  unfoldable pub pairOf : List ℕ
+  pairOf = cond paired (pastOf (s .n1) (s .n2)) []
+
   -- the row at a position
   unfoldable pub rowOf : ℕ → Row
   rowOf p = record {
@@ -75,7 +86,13 @@ module _ (s : Reference) where
     newest = newest;
     live = length (liveRows rowsOf);
     held = length rowsOf;
+    n1 = s .n1;
+    n2 = s .n2;
   }
+
+  -- the rows that are due for the past list of the watched pair; none where no pair is watched
+  unfoldable pub dueOf : List Row
+  dueOf = cond paired (dueRows newest (s .n1) (s .n2) rowsOf) []
 
   -- the settings were taken by an opening
   unfoldable pub opened : Bool
@@ -89,10 +106,21 @@ module _ (s : Reference) where
   unfoldable pub outsidePast : ℕ → ℕ → Bool
   outsidePast n1 n2 = eqb n1 0 || ltb (s .capacity) n2
 
+  -- n1 is below 2, or n2 above N
+  unfoldable pub outsidePair : ℕ → ℕ → Bool
+  outsidePair n1 n2 = ltb n1 2 || ltb (s .capacity) n2
+
   -- with more quotes
   abbrev pub withQuotes : List (List ℕ) → Reference
-  withQuotes more =
-      record { dimensions = s .dimensions; capacity = s .capacity; directions = s .directions; quotes = s .quotes ++ more; watched = s .watched }
+  withQuotes more = record {
+    dimensions = s .dimensions;
+    capacity = s .capacity;
+    directions = s .directions;
+    quotes = s .quotes ++ more;
+    watched = s .watched;
+    n1 = s .n1;
+    n2 = s .n2;
+  }
 
   -- with one more quote
   unfoldable pub withQuote : List ℕ → Reference
@@ -100,15 +128,34 @@ module _ (s : Reference) where
 
   -- with these n watched
   unfoldable pub withWatched : List ℕ → Reference
-  withWatched ns =
-      record { dimensions = s .dimensions; capacity = s .capacity; directions = s .directions; quotes = s .quotes; watched = ns }
+  withWatched ns = record {
+    dimensions = s .dimensions;
+    capacity = s .capacity;
+    directions = s .directions;
+    quotes = s .quotes;
+    watched = ns;
+    n1 = s .n1;
+    n2 = s .n2;
+  }
+
+  -- with this pair watched; none for 0 and 0
+  unfoldable pub withPairOf : ℕ → ℕ → Reference
+  withPairOf n1 n2 = record {
+    dimensions = s .dimensions;
+    capacity = s .capacity;
+    directions = s .directions;
+    quotes = s .quotes;
+    watched = s .watched;
+    n1 = n1;
+    n2 = n2;
+  }
 
 -- a book just opened with these settings
 unfoldable pub opening : ℕ → ℕ → ℕ → Reference
-opening d N directions = record { dimensions = d; capacity = N; directions = directions; quotes = []; watched = [] }
+opening d N directions = record { dimensions = d; capacity = N; directions = directions; quotes = []; watched = []; n1 = 0; n2 = 0 }
 
 -- a call on a book: an opening with d, N and directions; a quote with its columns; a look, a watch and the end of a watch with their n;
--- a look at a past list with its n1 and n2
+-- a look at a past list with its n1 and n2; a watch of the pair n1 and n2, its end, and what is due
 pub data Call : Type 0 where
   Open : ℕ → ℕ → ℕ → Call
   Quote : List ℕ → Call
@@ -116,6 +163,9 @@ pub data Call : Type 0 where
   Watch : ℕ → Call
   End : ℕ → Call
   Past : ℕ → ℕ → Call
+  Pair : ℕ → ℕ → Call
+  Unpair : Call
+  Due : Call
 
 -- the lengths of what a call is lent: the four tables, the watch records, and the outputs for frames (bytes) and for positions (cells)
 pub record Lengths : Type 0 where
@@ -127,9 +177,10 @@ pub record Lengths : Type 0 where
   pub bytes : ℕ
   pub cells : ℕ
 
--- lengths that are enough for every book and every answer: 1,024 rows of six columns, eight records, 57,400 bytes, 1,024 cells
+-- lengths that are enough for every book and every answer: 1,024 rows of six columns, eight records, 62,520 bytes, and two cells for
+-- each of 1,024 rows
 abbrev pub ample : Lengths
-ample = record { columns = 6144; positions = 1024; lowerEnds = 1024; upperEnds = 1024; watches = 8; bytes = 57400; cells = 1024 }
+ample = record { columns = 6144; positions = 1024; lowerEnds = 1024; upperEnds = 1024; watches = 8; bytes = 62520; cells = 2048 }
 
 -- what the model tells of a call: 0 or the number of its refusal, the head and the count handed back, what is written at the start of
 -- each output, and the model after it
@@ -166,7 +217,7 @@ referenceStep (Open d N directions) l s =
     (freshHead 0 0 0) 0 [] [] (opening d N directions) s
 referenceStep (Quote x) l s =
     let next = withQuote s x in
-    let written = frames (allChanges (s .watched) (skylineOf s) (skylineOf next)) in
+    let written = frames (allChanges (s .watched) (skylineOf s) (skylineOf next) ++ pairChanges (pairOf s) (pairOf next)) in
     tells ((not (opened s), number Settings) ∷ (not (eqb (length x) (s .dimensions)), number ColumnCount)
     ∷ (leb lastPosition (newest s), number TapeFull) ∷ (ltb (l .bytes) (length written), number ShortOutput) ∷ [])
     (headOf s) (length written) written [] next s
@@ -187,3 +238,15 @@ referenceStep (Past n1 n2) l s =
     tells ((not (opened s), number Settings) ∷ (outsidePast s n1 n2, number WindowSize) ∷ (ltb n2 n1, number WindowOrder)
     ∷ (ltb (l .cells) (length written), number ShortOutput) ∷ [])
     (headOf s) (length written) [] written s s
+referenceStep (Pair n1 n2) l s =
+    let written = frames (map pairJoin (pastOf s n1 n2)) in
+    tells ((not (opened s), number Settings) ∷ (outsidePair s n1 n2, number WindowSize) ∷ (ltb n2 n1, number WindowOrder)
+    ∷ (paired s, number NoFreeRecord) ∷ (ltb (l .bytes) (length written), number ShortOutput) ∷ [])
+    (headOf s) (length written) written [] (withPairOf s n1 n2) s
+referenceStep Unpair l s =
+    tells ((not (opened s), number Settings) ∷ (not (paired s), number NotWatched) ∷ [])
+    (headOf s) 0 [] [] (withPairOf s 0 0) s
+referenceStep Due l s =
+    let written = dueCells (newest s) (s .n1) (dueOf s) in
+    tells ((not (opened s), number Settings) ∷ (ltb (l .cells) (length written), number ShortOutput) ∷ [])
+    (headOf s) (length (dueOf s)) [] written s s

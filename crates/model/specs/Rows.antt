@@ -2,10 +2,11 @@
 use Prim.Native.Nat.{ℕ, _+_, _-_, _*_}
 use mathlib.Core.Bool.{Bool, _&&_, not, cond}
 use mathlib.Core.List.{List, [], _∷_, _++_, map}
-use lib.Dec.{eqb}
+use lib.Dec.{ltb, eqb}
 use lib.ListN.{getD, take, drop}
 use Rattle.lists.specs.Lists.{filter, lastOr, flat, run, padded}
 use Rattle.dominance.specs.Dominance.{dominates}
+use Rattle.skyline.specs.Skyline.{windowStart}
 use Rattle.skyline.specs.Past.{covers}
 
 -- a row: position, lower end, upper end and columns
@@ -55,6 +56,18 @@ liveRows rs = filter isLive rs
 -- the list of the window from a to b: the positions of the rows that it covers
 unfoldable pub listed : ℕ → ℕ → List Row → List ℕ
 listed a b rs = map Row.position (filter (λ r. covers a b (r .lowerEnd) (r .position) (r .upperEnd)) rs)
+
+-- the rows that are due for the past list of n1 and n2: younger than its window, and no row of it is over them
+unfoldable pub dueRows : ℕ → ℕ → ℕ → List Row → List Row
+dueRows newest n1 n2 rs = filter (λ r. ltb (newest + 1) (r .position + n1) && ltb (r .lowerEnd) (windowStart newest n2)) rs
+
+-- after how many more quotes a row at position p that is due joins the past list of n1 and n2
+abbrev pub joinsAfter : ℕ → ℕ → ℕ → ℕ
+joinsAfter newest n1 p = p + n1 - (newest + 1)
+
+-- what is written of rows that are due: of each its position and after how many more quotes it joins
+unfoldable pub dueCells : ℕ → ℕ → List Row → List ℕ
+dueCells newest n1 rs = flat (map (λ r. r .position ∷ joinsAfter newest n1 (r .position) ∷ []) rs)
 
 -- the position that expires (01: ages out) with the quote behind the newest, or 0
 unfoldable pub expiring : ℕ → ℕ → ℕ

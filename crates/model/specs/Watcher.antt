@@ -1,64 +1,105 @@
--- A watcher of n: reads the frames that the calls write, and applies the changes of its n.
+-- A watcher of n or of the pair: reads the frames that the calls write, and applies the changes that are meant for it.
 use Prim.Native.Nat.{ℕ}
-use mathlib.Core.Bool.{cond}
+use mathlib.Core.Bool.{Bool, true, false, cond}
 use mathlib.Core.List.{List, [], _∷_}
 use lib.Dec.{eqb}
 use lib.ListN.{length, take}
 use Rattle.lists.specs.Lists.{contains, insert, without}
 use Rattle.head.specs.Refusals.{granted}
 use Rattle.frames.specs.declared.Message.{Message}
-use Rattle.frames.specs.declared.Message.the-variants.{Quote, Sized, Change, Pair, Open, End, Refused}
-use Rattle.frames.specs.Kinds.{leaveKind, joinKind}
+use Rattle.frames.specs.declared.Message.the-variants.{Quote, Sized, Change, Pair, Bare, Position, Open, End, Refused}
+use Rattle.frames.specs.Kinds.{leaveKind, joinKind, pairLeaveKind, pairJoinKind}
 use Rattle.frames.specs.Frames.{messagesFrom}
-use Rattle.model.specs.Reference.{Reference, skylineOf}
+use Rattle.model.specs.Reference.{Reference, skylineOf, paired, pairOf}
 use Rattle.model.specs.Calls.{Call, Lending, Seen}
 
+-- a watcher: of the list of n, or of the past list of the pair
+pub data Follower : Type 0 where
+  OfSize : ℕ → Follower
+  OfPair : Follower
+
 -- a list after a change of this kind at a position: it is taken out by a leave and put in by a join
-unfoldable pub applied : ℕ → ℕ → List ℕ → List ℕ
-applied kind p held = cond (eqb kind leaveKind) (without p held) (cond (eqb kind joinKind) (insert p held) held)
+unfoldable pub applied : ℕ → ℕ → ℕ → ℕ → List ℕ → List ℕ
+applied leaves joins kind p held = cond (eqb kind leaves) (without p held) (cond (eqb kind joins) (insert p held) held)
 
--- the list that the watcher of n holds after a message
-unfoldable pub heeds : ℕ → List ℕ → Message → List ℕ
-heeds n held (Quote k) = held
-heeds n held (Sized k m) = held
-heeds n held (Change k m p) = cond (eqb m n) (applied k p held) held
-heeds n held (Pair k n1 n2) = held
-heeds n held (Open d N directions) = held
-heeds n held End = held
-heeds n held (Refused k) = held
+-- the list that a watcher holds after a change of the list of m
+unfoldable pub heedsChange : Follower → ℕ → ℕ → ℕ → List ℕ → List ℕ
+heedsChange (OfSize n) k m p held = cond (eqb m n) (applied leaveKind joinKind k p held) held
+heedsChange OfPair k m p held = held
 
--- the list that the watcher of n holds after messages
-unfoldable pub heedsAll : ℕ → List ℕ → List Message → List ℕ
-heedsAll n held [] = held
-heedsAll n held (m ∷ ms) = heedsAll n (heeds n held m) ms
+-- the list that a watcher holds after a change of the past list of the pair
+unfoldable pub heedsPosition : Follower → ℕ → ℕ → List ℕ → List ℕ
+heedsPosition (OfSize n) k p held = held
+heedsPosition OfPair k p held = applied pairLeaveKind pairJoinKind k p held
 
--- what a watcher holds: nothing while its n is not watched, else a list
+-- the list that a watcher holds after a message
+unfoldable pub heeds : Follower → List ℕ → Message → List ℕ
+heeds f held (Quote k) = held
+heeds f held (Sized k m) = held
+heeds f held (Change k m p) = heedsChange f k m p held
+heeds f held (Pair k n1 n2) = held
+heeds f held (Bare k) = held
+heeds f held (Position k p) = heedsPosition f k p held
+heeds f held (Open d N directions) = held
+heeds f held End = held
+heeds f held (Refused k) = held
+
+-- the list that a watcher holds after messages
+unfoldable pub heedsAll : Follower → List ℕ → List Message → List ℕ
+heedsAll f held [] = held
+heedsAll f held (m ∷ ms) = heedsAll f (heeds f held m) ms
+
+-- what a watcher holds: nothing while its list is not watched, else a list
 pub data Held : Type 0 where
   Nothing : Held
   Holding : List ℕ → Held
 
 -- what is held after the frames that a call wrote
-unfoldable pub reads : ℕ → Seen → Held → Held
-reads n seen Nothing = Nothing
-reads n seen (Holding held) =
+unfoldable pub reads : Follower → Seen → Held → Held
+reads f seen Nothing = Nothing
+reads f seen (Holding held) =
     let bytes = take (seen .outcome .count) (seen .outputs .bytes) in
-    Holding (heedsAll n held (messagesFrom (length bytes) bytes 0))
+    Holding (heedsAll f held (messagesFrom (length bytes) bytes 0))
 
--- what is held after a call: an accepted watch of n begins with the empty list, its accepted end or an accepted opening ends it
-unfoldable pub watcherStep : ℕ → Call → Seen → Held → Held
-watcherStep n (Call.Open d N directions) seen held = granted (seen .outcome .number) Nothing held
-watcherStep n (Call.Quote x) seen held = reads n seen held
-watcherStep n (Call.Look m) seen held = held
-watcherStep n (Call.Watch m) seen held = reads n seen (granted (seen .outcome .number) (cond (eqb m n) (Holding []) held) held)
-watcherStep n (Call.End m) seen held = granted (seen .outcome .number) (cond (eqb m n) Nothing held) held
-watcherStep n (Call.Past n1 n2) seen held = held
+-- a watch of m is that of the watcher
+unfoldable pub sizedFor : Follower → ℕ → Bool
+sizedFor (OfSize n) m = eqb m n
+sizedFor OfPair m = false
 
--- what the watcher of n holds after a list of calls of which this was seen
-unfoldable pub watcher : ℕ → List Lending → List Seen → Held → Held
-watcher n [] ss held = held
-watcher n (c ∷ cs) [] held = held
-watcher n (c ∷ cs) (s ∷ ss) held = watcher n cs ss (watcherStep n (c .call) s held)
+-- the watch of the pair is that of the watcher
+unfoldable pub pairedFor : Follower → Bool
+pairedFor (OfSize n) = false
+pairedFor OfPair = true
 
--- what a watcher of n is to hold by the reference model: nothing while n is not watched, else the skyline of n
-unfoldable pub heldBy : ℕ → Reference → Held
-heldBy n s = cond (contains n (s .watched)) (Holding (skylineOf s n)) Nothing
+-- what is held after a call: an accepted watch of the watcher's begins with the empty list, its accepted end or an accepted opening
+-- ends it
+unfoldable pub watcherStep : Follower → Call → Seen → Held → Held
+watcherStep f (Call.Open d N directions) seen held = granted (seen .outcome .number) Nothing held
+watcherStep f (Call.Quote x) seen held = reads f seen held
+watcherStep f (Call.Look m) seen held = held
+watcherStep f (Call.Watch m) seen held = reads f seen (granted (seen .outcome .number) (cond (sizedFor f m) (Holding []) held) held)
+watcherStep f (Call.End m) seen held = granted (seen .outcome .number) (cond (sizedFor f m) Nothing held) held
+watcherStep f (Call.Past n1 n2) seen held = held
+watcherStep f (Call.Pair n1 n2) seen held = reads f seen (granted (seen .outcome .number) (cond (pairedFor f) (Holding []) held) held)
+watcherStep f Call.Unpair seen held = granted (seen .outcome .number) (cond (pairedFor f) Nothing held) held
+watcherStep f Call.Due seen held = held
+
+-- what a watcher holds after a list of calls of which this was seen
+unfoldable pub watcher : Follower → List Lending → List Seen → Held → Held
+watcher f [] ss held = held
+watcher f (c ∷ cs) [] held = held
+watcher f (c ∷ cs) (s ∷ ss) held = watcher f cs ss (watcherStep f (c .call) s held)
+
+-- the watcher's list is watched
+unfoldable pub watchedFor : Follower → Reference → Bool
+watchedFor (OfSize n) s = contains n (s .watched)
+watchedFor OfPair s = paired s
+
+-- the watcher's list by the reference model: the skyline of n, or the past list of the pair
+unfoldable pub listFor : Follower → Reference → List ℕ
+listFor (OfSize n) s = skylineOf s n
+listFor OfPair s = pairOf s
+
+-- what a watcher is to hold by the reference model: nothing while its list is not watched, else the list
+unfoldable pub heldBy : Follower → Reference → Held
+heldBy f s = cond (watchedFor f s) (Holding (listFor f s)) Nothing

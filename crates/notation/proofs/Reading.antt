@@ -12,15 +12,15 @@ use lib.Seq.{drop-cons}
 use borrow.Author.Tests.{lt-ltb, le-ltb, ltb-true, ltb-false, eq-eqb, ne-eqb, not-true, not-false}
 use Rattle.lists.proofs.Booleans.{and-left, and-right}
 use Rattle.head.specs.Refusals.{firstOf, granted}
-use Rattle.frames.specs.Kinds.{lookKind, watchKind, unwatchKind, pastKind}
+use Rattle.frames.specs.Kinds.{lookKind, watchKind, unwatchKind, pairKind, unpairKind, pastKind}
 use Rattle.frames.specs.Frames.{framed, frame}
 use Rattle.frames.specs.Writing.{writeAnswer, Wrote}
 use Rattle.frames.specs.declared.Written.{Written}
 use Rattle.frames.specs.declared.Message.{Message}
-use Rattle.frames.specs.declared.Message.the-variants.{Quote, Sized, Pair, Open}
+use Rattle.frames.specs.declared.Message.the-variants.{Quote, Sized, Pair, Bare, Open}
 use Rattle.notation.specs.declared.Fields.{Fields}
 use Rattle.notation.specs.Fields.{noField, after, fieldsFrom}
-use Rattle.notation.specs.Lines.{nothing, opens, opening, quoteOf, pairs, pairOf, fits, ofNumber, said, saidBy, lineLength}
+use Rattle.notation.specs.Lines.{nothing, opens, opening, quoteOf, pairs, pairOf, bareOf, fits, ofNumber, sizedOf, said, saidBy, lineLength}
 
 -- ---- messages
 
@@ -82,7 +82,23 @@ module _ (f : Fields) where
   unfolding fits
   fits-two t = ltb-true (getD (f .numbers) 0 0) 65536 (and-right (eqb (f .count) 1) (ltb (getD (f .numbers) 0 0) 65536) t)
 
+  pub bare-not : (kind : ℕ) → (f .count ≡ 0 → ⊥) → nothing ≡ bareOf kind f
+  unfolding bareOf
+  bare-not kind h = rw (ne-eqb (f .count) 0 h)
+
+  pub bare-of : (kind : ℕ) → f .count ≡ 0 → Bare kind ≡ bareOf kind f
+  unfolding bareOf
+  bare-of kind e = rw e
+
   module _ (letter : ℕ) where
+    pub sized-not : fits f ≡ false → nothing ≡ sizedOf letter f
+    unfolding sizedOf
+    sized-not t = rw t
+
+    pub sized-of : fits f ≡ true → ofNumber letter (getD (f .numbers) 0 0) ≡ sizedOf letter f
+    unfolding sizedOf
+    sized-of t = rw t
+
     pub said-unfair : not (f .fair) || f .empty ≡ true → nothing ≡ said letter f
     unfolding said
     said-unfair t = rw t
@@ -90,26 +106,27 @@ module _ (f : Fields) where
     module _ (t : not (f .fair) || f .empty ≡ false) where
       pub said-opening : letter ≡ 79 → opening f ≡ said letter f
       unfolding said
-      said-opening e = rw (t, eq-eqb letter 79 e)
+      said-opening e = rw (t, e)
 
-      module _ (o : letter ≡ 79 → ⊥) where
-        pub said-quote : letter ≡ 81 → quoteOf f ≡ said letter f
-        unfolding said
-        said-quote e = rw (t, ne-eqb letter 79 o, eq-eqb letter 81 e)
+      pub said-quote : letter ≡ 81 → quoteOf f ≡ said letter f
+      unfolding said
+      said-quote e = rw (t, e)
 
-        module _ (q : letter ≡ 81 → ⊥) where
-          pub said-past : letter ≡ 80 → pairOf pastKind f ≡ said letter f
-          unfolding said
-          said-past e = rw (t, ne-eqb letter 79 o, ne-eqb letter 81 q, eq-eqb letter 80 e)
+      pub said-past : letter ≡ 80 → pairOf pastKind f ≡ said letter f
+      unfolding said
+      said-past e = rw (t, e)
 
-          module _ (p : letter ≡ 80 → ⊥) where
-            pub said-not : fits f ≡ false → nothing ≡ said letter f
-            unfolding said
-            said-not h = rw (t, ne-eqb letter 79 o, ne-eqb letter 81 q, ne-eqb letter 80 p, h)
+      pub said-pair : letter ≡ 66 → pairOf pairKind f ≡ said letter f
+      unfolding said
+      said-pair e = rw (t, e)
 
-            pub said-number : fits f ≡ true → ofNumber letter (getD (f .numbers) 0 0) ≡ said letter f
-            unfolding said
-            said-number h = rw (t, ne-eqb letter 79 o, ne-eqb letter 81 q, ne-eqb letter 80 p, h)
+      pub said-unpair : letter ≡ 69 → bareOf unpairKind f ≡ said letter f
+      unfolding said
+      said-unpair e = rw (t, e)
+
+      pub said-number : (letter ≡ 79 → ⊥) → (letter ≡ 81 → ⊥) → (letter ≡ 80 → ⊥) → (letter ≡ 66 → ⊥) → (letter ≡ 69 → ⊥) → sizedOf letter f ≡ said letter f
+      unfolding said
+      said-number o q p b e = rw (t, ne-eqb letter 79 o, ne-eqb letter 81 q, ne-eqb letter 80 p, ne-eqb letter 66 b, ne-eqb letter 69 e)
 
 -- the letters of a number
 module _ (letter n : ℕ) where

@@ -14,12 +14,12 @@ use borrow.Author.Tests.{ltb-true, ltb-false, lt-ltb, le-ltb, ne-eqb}
 use Rattle.lists.specs.Lists.{flat}
 use Rattle.lists.proofs.Booleans.{either, and-left, and-right}
 use Rattle.text.specs.Text.{digitsUpTo, digits, field, line}
-use Rattle.frames.specs.declared.Message.the-variants.{Quote, Sized, Pair, Open}
-use Rattle.frames.specs.Kinds.{lookKind, watchKind, unwatchKind, pastKind}
+use Rattle.frames.specs.declared.Message.the-variants.{Quote, Sized, Pair, Bare, Open}
+use Rattle.frames.specs.Kinds.{lookKind, watchKind, unwatchKind, pairKind, unpairKind, pastKind}
 use Rattle.notation.specs.declared.Fields.{Fields}
 use Rattle.notation.specs.Fields.{noField, begun, grown, after, fieldsFrom}
 use Rattle.notation.specs.declared.Said.{Said}
-use Rattle.notation.specs.Lines.{opens, opening, quoteOf, pairs, pairOf, fits, ofNumber, said, saidBy}
+use Rattle.notation.specs.Lines.{opens, opening, quoteOf, pairs, pairOf, bareOf, fits, ofNumber, sizedOf, said, saidBy}
 use Rattle.notation.proofs.Steps.{begun-next, grown-next, after-space, after-digit}
 
 -- bytes behind bytes
@@ -134,15 +134,15 @@ module _ (n : ℕ) (h : n < 65536) where
 
   -- the lines of a look, a watch and the end of a watch are read back
   pub look-read : saidBy (spelled 76 (n ∷ [])) .message ≡ Sized lookKind n
-  unfolding noField said fieldsOf fits ofNumber zeros
+  unfolding noField said sizedOf fieldsOf fits ofNumber zeros
   look-read = ap (λ (s : Said). s .message) (line-read 76 (n ∷ []) zeros refl (omega arith) one-small) ∙ rw (lt-ltb n 65536 h)
 
   pub watch-read : saidBy (spelled 87 (n ∷ [])) .message ≡ Sized watchKind n
-  unfolding noField said fieldsOf fits ofNumber zeros
+  unfolding noField said sizedOf fieldsOf fits ofNumber zeros
   watch-read = ap (λ (s : Said). s .message) (line-read 87 (n ∷ []) zeros refl (omega arith) one-small) ∙ rw (lt-ltb n 65536 h)
 
   pub end-read : saidBy (spelled 85 (n ∷ [])) .message ≡ Sized unwatchKind n
-  unfolding noField said fieldsOf fits ofNumber zeros
+  unfolding noField said sizedOf fieldsOf fits ofNumber zeros
   end-read = ap (λ (s : Said). s .message) (line-read 85 (n ∷ []) zeros refl (omega arith) one-small) ∙ rw (lt-ltb n 65536 h)
 
 -- the line of an opening is read back
@@ -154,14 +154,27 @@ opening-read d N directions h k j =
     (rw (lt-ltb d 4294967296 (omega arith), lt-ltb N 4294967296 (omega arith), lt-ltb directions 4294967296 (omega arith))))
     ∙ rw (lt-ltb d 256 h, lt-ltb N 65536 k, lt-ltb directions 256 j)
 
--- the line of a past look is read back
-pub past-read : (n1 n2 : ℕ) → n1 < 65536 → n2 < 65536 → saidBy (spelled 80 (n1 ∷ n2 ∷ [])) .message ≡ Pair pastKind n1 n2
-unfolding noField said fieldsOf pairOf pairs small
-past-read n1 n2 h k =
-    ap (λ (s : Said). s .message)
-    (line-read 80 (n1 ∷ n2 ∷ []) (0 ∷ 0 ∷ 0 ∷ 0 ∷ []) refl (omega arith)
-    (rw (lt-ltb n1 4294967296 (omega arith), lt-ltb n2 4294967296 (omega arith))))
-    ∙ rw (lt-ltb n1 65536 h, lt-ltb n2 65536 k)
+-- the lines of a past look and of the pair are read back
+module _ (n1 n2 : ℕ) (h : n1 < 65536) (k : n2 < 65536) where
+  two-read : (letter : ℕ) → saidBy (spelled letter (n1 ∷ n2 ∷ [])) .message ≡ said letter (fieldsOf (n1 ∷ n2 ∷ []) (0 ∷ 0 ∷ 0 ∷ 0 ∷ []))
+  unfolding noField small
+  two-read letter =
+      ap (λ (s : Said). s .message)
+      (line-read letter (n1 ∷ n2 ∷ []) (0 ∷ 0 ∷ 0 ∷ 0 ∷ []) refl (omega arith)
+      (rw (lt-ltb n1 4294967296 (omega arith), lt-ltb n2 4294967296 (omega arith))))
+
+  pub past-read : saidBy (spelled 80 (n1 ∷ n2 ∷ [])) .message ≡ Pair pastKind n1 n2
+  unfolding said fieldsOf pairOf pairs
+  past-read = two-read 80 ∙ rw (lt-ltb n1 65536 h, lt-ltb n2 65536 k)
+
+  pub pair-read : saidBy (spelled 66 (n1 ∷ n2 ∷ [])) .message ≡ Pair pairKind n1 n2
+  unfolding said fieldsOf pairOf pairs
+  pair-read = two-read 66 ∙ rw (lt-ltb n1 65536 h, lt-ltb n2 65536 k)
+
+-- the line of the end of the pair, a letter alone, is read back
+pub unpair-read : saidBy (spelled 69 []) .message ≡ Bare unpairKind
+unfolding saidBy spelled flat fieldsFrom noField said bareOf
+unpair-read = refl
 
 -- the line of a quote is read back, with its columns
 pub quote-read : (columns behind : List ℕ) → replicate (length columns) 0 ++ behind ≡ noField .numbers → 1 ≤ length columns → length columns ≤ 6 → small columns ≡ true

@@ -6,8 +6,8 @@ use lib.Dec.{ltb, eqb}
 use lib.ListN.{getD}
 use Rattle.head.specs.declared.Refusal.the-variants.{UnknownKind}
 use Rattle.frames.specs.declared.Message.{Message}
-use Rattle.frames.specs.declared.Message.the-variants.{Quote, Sized, Pair, Open, Refused}
-use Rattle.frames.specs.Kinds.{lookKind, watchKind, unwatchKind, pastKind}
+use Rattle.frames.specs.declared.Message.the-variants.{Quote, Sized, Pair, Bare, Open, Refused}
+use Rattle.frames.specs.Kinds.{lookKind, watchKind, unwatchKind, pairKind, unpairKind, pastKind}
 use Rattle.notation.specs.declared.Fields.{Fields}
 use Rattle.notation.specs.declared.Said.{Said}
 use Rattle.notation.specs.Fields.{noField, fieldsFrom}
@@ -37,6 +37,10 @@ pairs f = (eqb (f .count) 2 && ltb (getD (f .numbers) 0 0) 65536) && ltb (getD (
 unfoldable pub pairOf : ℕ → Fields → Message
 pairOf kind f = cond (pairs f) (Pair kind (getD (f .numbers) 0 0) (getD (f .numbers) 1 0)) nothing
 
+-- the message of this kind without numbers
+unfoldable pub bareOf : ℕ → Fields → Message
+bareOf kind f = cond (eqb (f .count) 0) (Bare kind) nothing
+
 -- a single number that fits two bytes
 unfoldable pub fits : Fields → Bool
 fits f = eqb (f .count) 1 && ltb (getD (f .numbers) 0 0) 65536
@@ -48,14 +52,19 @@ ofNumber letter n =
     (cond (eqb letter 87) (Sized watchKind n)
     (cond (eqb letter 85) (Sized unwatchKind n) nothing))
 
--- the message of a letter and its fields: O, Q, P, L, W or U
+-- the message of a letter and its fields, if they are such a number
+unfoldable pub sizedOf : ℕ → Fields → Message
+sizedOf letter f = cond (fits f) (ofNumber letter (getD (f .numbers) 0 0)) nothing
+
+-- the message of a letter and its fields: O, Q, P, B, E, L, W or U
 unfoldable pub said : ℕ → Fields → Message
 said letter f =
     cond (not (f .fair) || f .empty) nothing
     (cond (eqb letter 79) (opening f)
     (cond (eqb letter 81) (quoteOf f)
     (cond (eqb letter 80) (pairOf pastKind f)
-    (cond (fits f) (ofNumber letter (getD (f .numbers) 0 0)) nothing))))
+    (cond (eqb letter 66) (pairOf pairKind f)
+    (cond (eqb letter 69) (bareOf unpairKind f) (sizedOf letter f))))))
 
 -- what a line says
 unfoldable pub saidBy : List ℕ → Said

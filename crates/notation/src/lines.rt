@@ -3,13 +3,15 @@ ghost use mathlib.Core.Path.{_≡_};
 ghost use Prim.Native.Nat.{_+_};
 ghost use lib.ListN.{drop};
 ghost use Rattle.frames.specs.Writing.{Wrote};
-ghost use Rattle.notation.specs.Lines.{opens, opening, quoteOf, pairs, pairOf, fits, said, saidBy, lineLength};
+ghost use Rattle.notation.specs.Lines.{opens, opening, quoteOf, pairs, pairOf, bareOf, fits, sizedOf, said, saidBy, lineLength};
 use crate::Fields;
 use crate::Said;
 use crate::scanning::fields_from;
 use frames::LOOK;
 use frames::Message;
+use frames::PAIR;
 use frames::PAST;
+use frames::UNPAIR;
 use frames::UNWATCH;
 use frames::WATCH;
 use frames::Written;
@@ -67,6 +69,16 @@ fn pair(kind: u8, fields: Fields) -> Message
     Message::Pair(kind, numbers[0] as u16, numbers[1] as u16)
 }
 
+// The message of this kind without numbers.
+fn bare(kind: u8, fields: Fields) -> Message
+    ensures { λ r. ⌜ r ≡ bareOf kind fields ⌝ }
+{
+    if fields.count != 0 {
+        return Message::Refused(Refusal::UnknownKind);
+    }
+    Message::Bare(kind)
+}
+
 // Whether the fields are a single number that fits two bytes.
 fn fits(fields: Fields) -> bool
     ensures { λ r. ⌜ r ≡ fits fields ⌝ }
@@ -75,23 +87,11 @@ fn fits(fields: Fields) -> bool
     (fields.count == 1) & (numbers[0] < 65536)
 }
 
-// The message of a letter and its fields.
-fn message_of(letter: u8, fields: Fields) -> Message
-    ensures { λ r. ⌜ r ≡ said letter fields ⌝ }
+// The message of a letter and its fields, if they are such a number.
+fn sized(letter: u8, fields: Fields) -> Message
+    ensures { λ r. ⌜ r ≡ sizedOf letter fields ⌝ }
 {
     let numbers = fields.numbers;
-    if !fields.fair | fields.empty {
-        return Message::Refused(Refusal::UnknownKind);
-    }
-    if letter == 79 {
-        return opening(fields);
-    }
-    if letter == 81 {
-        return quote(fields);
-    }
-    if letter == 80 {
-        return pair(PAST, fields);
-    }
     if !fits(fields) {
         return Message::Refused(Refusal::UnknownKind);
     }
@@ -101,6 +101,23 @@ fn message_of(letter: u8, fields: Fields) -> Message
         87 => Message::Sized(WATCH, n),
         85 => Message::Sized(UNWATCH, n),
         _ => Message::Refused(Refusal::UnknownKind),
+    }
+}
+
+// The message of a letter and its fields.
+fn message_of(letter: u8, fields: Fields) -> Message
+    ensures { λ r. ⌜ r ≡ said letter fields ⌝ }
+{
+    if !fields.fair | fields.empty {
+        return Message::Refused(Refusal::UnknownKind);
+    }
+    match letter {
+        79 => opening(fields),
+        81 => quote(fields),
+        80 => pair(PAST, fields),
+        66 => pair(PAIR, fields),
+        69 => bare(UNPAIR, fields),
+        _ => sized(letter, fields),
     }
 }
 

@@ -66,6 +66,15 @@ pub fn lay_number(kind: u8, n: u16, out: &mut [u8])
     put_two(n, 1, out);
 }
 
+// Lays a kind and a position of four bytes behind it.
+pub fn lay_position(kind: u8, position: u32, out: &mut [u8])
+    requires { ⌜ 5 ≤ length (now out) ⌝ }
+    ensures { λ r. ⌜ now (out .exit) ≡ laid (kind ∷ bytes4 position) (now (out .entry)) ⌝ }
+{
+    out[0] = kind;
+    put_four(position, 1, out);
+}
+
 // Lays a kind, a number of two bytes behind it, then a position of four.
 pub fn lay_change(kind: u8, n: u16, position: u32, out: &mut [u8])
     requires { ⌜ 7 ≤ length (now out) ⌝ }

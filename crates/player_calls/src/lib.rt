@@ -7,6 +7,7 @@ use player_desk::Seen;
 use player_lines::Command;
 use player_lines::Line;
 use player_reads::read;
+use player_watches::set;
 
 // The first numbers, so many, or all where there are fewer.
 fn front<'a>(numbers: &'a [u32], count: usize) -> &'a [u32] {
@@ -43,15 +44,8 @@ fn opened(desk: Desk, made: Made) -> Desk {
     answered.holding(head, records)
 }
 
-// The desk after a quote.
-fn taken(desk: Desk, reply: Reply) -> Desk {
-    let next = reply.head;
-    let records = desk.records;
-    let answered = desk.answered(reply, Seen::Bytes);
-    answered.holding(next, records)
-}
-
-// Makes the call of a line, where it asks for one: an opening and a quote write the tables, the others read them.
+// Makes the call of a line, where it asks for one: an opening and a quote write the tables, the others read them, with
+// the records or without.
 pub fn call(
     desk: Desk,
     line: Line,
@@ -92,9 +86,9 @@ pub fn call(
                 records,
                 out,
             );
-            taken(desk, reply)
+            desk.answered(reply, Seen::Bytes)
         }
-        _ => read(
+        Command::Watch | Command::End | Command::Pair | Command::Unpair => set(
             desk,
             line,
             columns,
@@ -102,6 +96,14 @@ pub fn call(
             lower_ends,
             upper_ends,
             out,
+        ),
+        _ => read(
+            desk,
+            line,
+            columns,
+            positions,
+            lower_ends,
+            upper_ends,
             cells,
         ),
     }

@@ -9,19 +9,23 @@ use head::Verdict;
 use head::Watch;
 pub use poking::begin;
 pub use poking::poke;
+use sizes::CHANGE_BYTES;
+use sizes::COLUMN_CELLS;
+use sizes::PLACES;
 
-// What is to be printed of a line: nothing, that it cannot be taken, a reply with bytes or with cells, a verdict, or
-// the tables.
+// What is to be printed of a line: nothing, that it cannot be taken, a reply with bytes, with cells or with two cells
+// for each row, a verdict, or the tables.
 pub enum Seen {
     Nothing,
     Unread,
     Bytes,
     Cells,
+    Rows,
     Verdict,
     Tables,
 }
 
-// How many cells of each table are lent, and how many bytes of output, or cells to a look.
+// How many cells of each table are lent, and how many bytes of output, or cells to a look and to what is due.
 pub struct Loan {
     pub columns: usize,
     pub positions: usize,
@@ -48,11 +52,11 @@ impl Desk {
             head: zeros,
             records: [Watch { n: 0 }; 8],
             loan: Loan {
-                columns: 6144,
-                positions: 1024,
-                lower_ends: 1024,
-                upper_ends: 1024,
-                out: 57400,
+                columns: COLUMN_CELLS,
+                positions: PLACES,
+                lower_ends: PLACES,
+                upper_ends: PLACES,
+                out: CHANGE_BYTES,
             },
             seen: Seen::Nothing,
             reply: Reply {
@@ -114,9 +118,9 @@ impl Desk {
         }
     }
 
-    // The desk after a reply that is to be printed so.
+    // The desk after a reply that is to be printed so, with the head that it hands back.
     pub fn answered(self, reply: Reply, seen: Seen) -> Desk {
-        let head = self.head;
+        let head = reply.head;
         let records = self.records;
         let loan = self.loan;
         let verdict = self.verdict;

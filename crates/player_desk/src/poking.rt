@@ -7,15 +7,18 @@ use head::Watch;
 use player_lines::Command;
 use player_lines::Line;
 use player_lines::Name;
+use sizes::CHANGE_BYTES;
+use sizes::COLUMN_CELLS;
+use sizes::PLACES;
 
 // How long a buffer is: the name of none has no length.
 fn full(name: Name) -> usize {
     match name {
-        Name::Columns => 6144,
-        Name::Positions => 1024,
-        Name::Lower => 1024,
-        Name::Upper => 1024,
-        Name::Out => 57400,
+        Name::Columns => COLUMN_CELLS,
+        Name::Positions => PLACES,
+        Name::Lower => PLACES,
+        Name::Upper => PLACES,
+        Name::Out => CHANGE_BYTES,
         _ => 0,
     }
 }
@@ -78,6 +81,8 @@ fn replace_head(desk: Desk, line: Line) -> Desk {
         newest: numbers[3],
         live: numbers[4],
         held: numbers[5],
+        n1: numbers[6],
+        n2: numbers[7],
     };
     desk.holding(head, records)
 }

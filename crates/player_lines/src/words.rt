@@ -93,11 +93,8 @@ fn numbers_from(line: &[u8], place: usize) -> Numbers {
     }
 }
 
-// The command that the bytes up to a place spell.
-fn command_of(line: &[u8], to: usize) -> Command {
-    if spells(line, 0, to, b"open") {
-        return Command::Open;
-    }
+// The call on an opened book that the bytes up to a place spell.
+fn call_of(line: &[u8], to: usize) -> Command {
     if spells(line, 0, to, b"quote") {
         return Command::Quote;
     }
@@ -112,6 +109,23 @@ fn command_of(line: &[u8], to: usize) -> Command {
     }
     if spells(line, 0, to, b"end") {
         return Command::End;
+    }
+    if spells(line, 0, to, b"pair") {
+        return Command::Pair;
+    }
+    if spells(line, 0, to, b"unpair") {
+        return Command::Unpair;
+    }
+    if spells(line, 0, to, b"due") {
+        return Command::Due;
+    }
+    Command::Unread
+}
+
+// The command that the bytes up to a place spell.
+fn command_of(line: &[u8], to: usize) -> Command {
+    if spells(line, 0, to, b"open") {
+        return Command::Open;
     }
     if spells(line, 0, to, b"audit") {
         return Command::Audit;
@@ -128,7 +142,7 @@ fn command_of(line: &[u8], to: usize) -> Command {
     if spells(line, 0, to, b"show") {
         return Command::Show;
     }
-    Command::Unread
+    call_of(line, to)
 }
 
 // The name that the bytes from one place up to another spell.
@@ -172,10 +186,13 @@ fn fits(command: Command, count: usize) -> bool {
         Command::Past => count == 2,
         Command::Watch => count == 1,
         Command::End => count == 1,
+        Command::Pair => count == 2,
+        Command::Unpair => count == 0,
+        Command::Due => count == 0,
         Command::Audit => count == 0,
         Command::Lend => count == 1,
         Command::Cell => count == 2,
-        Command::Head => count == 6,
+        Command::Head => count == 8,
         Command::Show => count == 0,
         _ => false,
     }

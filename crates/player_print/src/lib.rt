@@ -1,112 +1,15 @@
-// What is printed of each line, gathered and written out in large pieces.
+// What is printed of each line of the book player.
 use head::Answer;
 use head::Head;
 use head::Verdict;
 use player_desk::Desk;
 use player_desk::Seen;
-
-// How many lines of input were seen, how many bytes are gathered, and whether the output has failed.
-pub struct Print {
-    pub lines: u32,
-    pub used: usize,
-    pub failed: bool,
-}
-
-// Writes out what is gathered.
-pub fn flush(print: Print, gathered: &[u8]) -> Print {
-    let mut now = print;
-    let used = print.used;
-    now.used = 0;
-    if used <= gathered.len() {
-        if !streams::put_out(&gathered[..used], b"book_player: standard output") {
-            now.failed = true;
-        }
-    }
-    now
-}
-
-// What is gathered where there is this much room behind it; else it is written out.
-fn with_room(print: Print, room: usize, gathered: &[u8]) -> Print {
-    let used = print.used;
-    if used <= gathered.len() {
-        if room <= gathered.len() - used {
-            return print;
-        }
-    }
-    flush(print, gathered)
-}
-
-// Prints a line of at most eight numbers.
-fn put_short(print: Print, letter: u8, numbers: &[u32], gathered: &mut [u8]) -> Print {
-    let mut now = with_room(print, 90, gathered);
-    let used = now.used;
-    if 8 < numbers.len() {
-        return now;
-    }
-    if gathered.len() < used {
-        return now;
-    }
-    if gathered.len() - used < 90 {
-        return now;
-    }
-    let count = text::put_line(letter, numbers, &mut gathered[used..]);
-    now.used = std::num::wrapping_add_u64(used as u64, count as u64) as usize;
-    now
-}
-
-// Prints one byte.
-fn put_byte(print: Print, byte: u8, gathered: &mut [u8]) -> Print {
-    let mut now = with_room(print, 1, gathered);
-    let used = now.used;
-    if used < gathered.len() {
-        gathered[used] = byte;
-        now.used = used + 1;
-    }
-    now
-}
-
-// Prints a space and a number.
-fn put_field(print: Print, n: u32, gathered: &mut [u8]) -> Print {
-    let mut now = put_byte(print, b' ', gathered);
-    now = with_room(now, 10, gathered);
-    let used = now.used;
-    if gathered.len() < used {
-        return now;
-    }
-    if gathered.len() - used < 10 {
-        return now;
-    }
-    let count = text::put_number(n, &mut gathered[used..]);
-    now.used = std::num::wrapping_add_u64(used as u64, count as u64) as usize;
-    now
-}
-
-// Prints the first cells of a table behind a letter.
-fn put_cells(print: Print, letter: u8, cells: &[u32], count: usize, gathered: &mut [u8]) -> Print {
-    let mut now = put_byte(print, letter, gathered);
-    let mut i = 0;
-    while i < cells.len() && i < count {
-        now = put_field(now, cells[i], gathered);
-        i += 1;
-    }
-    put_byte(now, 10, gathered)
-}
-
-// A byte as a number of 32 bits.
-fn wide(byte: u8) -> u32 {
-    byte as u32
-}
-
-// Prints the first bytes of an output behind an X.
-fn put_bytes(print: Print, bytes: &[u8], count: usize, gathered: &mut [u8]) -> Print {
-    let mut now = put_byte(print, b'X', gathered);
-    let mut i = 0;
-    while i < bytes.len() && i < count {
-        now = put_field(now, wide(bytes[i]), gathered);
-        i += 1;
-    }
-    put_byte(now, 10, gathered)
-}
+use player_output::Print;
+use player_output::flush;
+use player_output::put_bytes;
+use player_output::put_cells;
+use player_output::put_short;
+use player_output::put_word;
 
 // The number of an answer: 0 where it accepts.
 fn number(answer: Answer) -> u32 {
@@ -138,6 +41,8 @@ fn put_reply(print: Print, desk: Desk, gathered: &mut [u8]) -> Print {
         head.newest,
         head.live,
         head.held,
+        head.n1,
+        head.n2,
     ];
     put_short(print, b'A', &numbers, gathered)
 }
@@ -153,17 +58,6 @@ fn put_verdict(print: Print, desk: Desk, gathered: &mut [u8]) -> Print {
             put_short(print, b'V', &numbers, gathered)
         }
     }
-}
-
-// Prints a few bytes.
-fn put_word(print: Print, word: &[u8], gathered: &mut [u8]) -> Print {
-    let mut now = print;
-    let mut i = 0;
-    while i < word.len() {
-        now = put_byte(now, word[i], gathered);
-        i += 1;
-    }
-    now
 }
 
 // How many places the tables of a head have: none where its capacity or its dimensions are out of range.
@@ -231,14 +125,24 @@ fn put_bytes_reply(print: Print, desk: Desk, out: &[u8], gathered: &mut [u8]) ->
     put_bytes(now, out, reply.count, gathered)
 }
 
-// Prints a reply with the cells that were written.
-fn put_cells_reply(print: Print, desk: Desk, cells: &[u32], gathered: &mut [u8]) -> Print {
-    let reply = desk.reply;
+// Prints a reply with the first cells that were written, so many.
+fn put_cells_reply(
+    print: Print,
+    desk: Desk,
+    cells: &[u32],
+    count: usize,
+    gathered: &mut [u8],
+) -> Print {
     let now = put_reply(print, desk, gathered);
-    if reply.count == 0 {
+    if count == 0 {
         return now;
     }
-    put_cells(now, b'X', cells, reply.count, gathered)
+    put_cells(now, b'X', cells, count, gathered)
+}
+
+// How many cells as many rows have, two for each.
+fn row_cells(count: usize) -> usize {
+    std::num::wrapping_add_u64(count as u64, count as u64) as usize
 }
 
 // Names a line that cannot be taken.
@@ -266,11 +170,13 @@ pub fn print_line(
     let mut now = print;
     now.lines = std::num::wrapping_add_u32(print.lines, 1);
     let seen = desk.seen;
+    let reply = desk.reply;
     match seen {
         Seen::Nothing => now,
         Seen::Unread => put_unread(now, gathered),
         Seen::Bytes => put_bytes_reply(now, desk, out, gathered),
-        Seen::Cells => put_cells_reply(now, desk, cells, gathered),
+        Seen::Cells => put_cells_reply(now, desk, cells, reply.count, gathered),
+        Seen::Rows => put_cells_reply(now, desk, cells, row_cells(reply.count), gathered),
         Seen::Verdict => put_verdict(now, desk, gathered),
         Seen::Tables => put_tables(
             now,

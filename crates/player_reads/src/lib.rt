@@ -1,27 +1,8 @@
-// The calls that only read the tables: looks, watches and the audit.
-use by_value::Made;
-use head::Reply;
+// The calls that only read the tables and are lent no records: looks, what is due, and the audit.
 use player_desk::Desk;
 use player_desk::Seen;
 use player_lines::Command;
 use player_lines::Line;
-
-// The desk after a look.
-fn seen(desk: Desk, reply: Reply) -> Desk {
-    let next = reply.head;
-    let records = desk.records;
-    let answered = desk.answered(reply, Seen::Cells);
-    answered.holding(next, records)
-}
-
-// The desk after a watch is set or ended.
-fn recorded(desk: Desk, made: Made) -> Desk {
-    let reply = made.reply;
-    let records = made.records;
-    let next = reply.head;
-    let answered = desk.answered(reply, Seen::Bytes);
-    answered.holding(next, records)
-}
 
 // A look.
 fn look(
@@ -44,7 +25,7 @@ fn look(
         upper_ends,
         cells,
     );
-    seen(desk, reply)
+    desk.answered(reply, Seen::Cells)
 }
 
 // A look at a past list.
@@ -69,57 +50,21 @@ fn past(
         upper_ends,
         cells,
     );
-    seen(desk, reply)
+    desk.answered(reply, Seen::Cells)
 }
 
-// A watch.
-fn watch(
+// What is due.
+fn due(
     desk: Desk,
-    line: Line,
     columns: &[u32],
     positions: &[u32],
     lower_ends: &[u32],
     upper_ends: &[u32],
-    out: &mut [u8],
+    cells: &mut [u32],
 ) -> Desk {
-    let n = line.numbers;
     let head = desk.head;
-    let records = desk.records;
-    let made = by_value::watch(
-        head,
-        n[0],
-        columns,
-        positions,
-        lower_ends,
-        upper_ends,
-        records,
-        out,
-    );
-    recorded(desk, made)
-}
-
-// The end of a watch.
-fn end(
-    desk: Desk,
-    line: Line,
-    columns: &[u32],
-    positions: &[u32],
-    lower_ends: &[u32],
-    upper_ends: &[u32],
-) -> Desk {
-    let n = line.numbers;
-    let head = desk.head;
-    let records = desk.records;
-    let made = by_value::end(
-        head,
-        n[0],
-        columns,
-        positions,
-        lower_ends,
-        upper_ends,
-        records,
-    );
-    recorded(desk, made)
+    let reply = book::due(head, columns, positions, lower_ends, upper_ends, cells);
+    desk.answered(reply, Seen::Rows)
 }
 
 // The audit.
@@ -135,7 +80,7 @@ fn audit(
     desk.judged(verdict)
 }
 
-// Makes the call of a line that only reads the tables, where it asks for one. A look writes cells, a watch bytes.
+// Makes the call of a line that only reads the tables and is lent no records, where it asks for one.
 pub fn read(
     desk: Desk,
     line: Line,
@@ -143,7 +88,6 @@ pub fn read(
     positions: &[u32],
     lower_ends: &[u32],
     upper_ends: &[u32],
-    out: &mut [u8],
     cells: &mut [u32],
 ) -> Desk {
     let command = line.command;
@@ -166,8 +110,7 @@ pub fn read(
             upper_ends,
             cells,
         ),
-        Command::Watch => watch(desk, line, columns, positions, lower_ends, upper_ends, out),
-        Command::End => end(desk, line, columns, positions, lower_ends, upper_ends),
+        Command::Due => due(desk, columns, positions, lower_ends, upper_ends, cells),
         Command::Audit => audit(desk, columns, positions, lower_ends, upper_ends),
         _ => desk,
     }

@@ -1,26 +1,24 @@
 -- Changes in print: the line of each change, and the lines of the changes whose frames stand in bytes.
 use Prim.Native.Nat.{ℕ}
-use mathlib.Core.Bool.{Bool, _||_, cond}
+use mathlib.Core.Bool.{cond}
 use mathlib.Core.List.{List, [], _∷_, map}
 use lib.Dec.{eqb}
 use lib.ListN.{length}
 use Rattle.lists.specs.Lists.{flat}
 use Rattle.frames.specs.declared.Message.{Message}
-use Rattle.frames.specs.declared.Message.the-variants.{Quote, Sized, Change, Pair, Open, End, Refused}
-use Rattle.frames.specs.Kinds.{leaveKind, joinKind}
+use Rattle.frames.specs.declared.Message.the-variants.{Quote, Sized, Change, Pair, Bare, Position, Open, End, Refused}
+use Rattle.frames.specs.Kinds.{leaveKind, joinKind, pairLeaveKind, pairJoinKind}
 use Rattle.frames.specs.Frames.{messagesFrom}
-use Rattle.text.specs.Text.{line}
+use Rattle.text.specs.Text.{line, line2}
 
--- a kind whose frames have a line
-unfoldable pub isChange : ℕ → Bool
-isChange kind = eqb kind leaveKind || eqb kind joinKind
-
--- the line of a change, `- n position` or `+ n position`; no line for any other message
+-- the line of a change: `- n position` or `+ n position`, for the pair `-- position` or `++ position`; no line for any other message
 unfoldable pub changeLine : Message → List ℕ
 changeLine (Quote k) = []
 changeLine (Sized k n) = []
 changeLine (Change k n p) = cond (eqb k leaveKind) (line 45 (n ∷ p ∷ [])) (cond (eqb k joinKind) (line 43 (n ∷ p ∷ [])) [])
 changeLine (Pair k n1 n2) = []
+changeLine (Bare k) = []
+changeLine (Position k p) = cond (eqb k pairLeaveKind) (line2 45 45 (p ∷ [])) (cond (eqb k pairJoinKind) (line2 43 43 (p ∷ [])) [])
 changeLine (Open d N directions) = []
 changeLine End = []
 changeLine (Refused k) = []

@@ -1,19 +1,21 @@
 // Changes in print: the frames of changes turned into lines of text.
 ghost use mathlib.Core.Path.{_≡_};
-ghost use mathlib.Core.Bool.{true};
 ghost use mathlib.Core.List.{[], _∷_};
-ghost use Prim.Native.Nat.{_+_, _*_, _/_, _≤_, _<_};
+ghost use Prim.Native.Nat.{_+_, _-_, _*_, _≤_, _<_};
 ghost use lib.ListN.{length, getD, take};
 ghost use Rattle.octets.specs.Bytes.{number2, number4};
 ghost use Rattle.frames.specs.Frames.{messageAt, readAt};
-ghost use Rattle.text.specs.Text.{line, Laid};
-ghost use Rattle.printed.specs.Printed.{isChange, changeLine, changesText};
+ghost use Rattle.text.specs.Text.{line, line2, Laid};
+ghost use Rattle.printed.specs.Printed.{changeLine, changesText};
 use frames::JOIN;
 use frames::LEAVE;
+use frames::PAIR_JOIN;
+use frames::PAIR_LEAVE;
 use frames::body_length;
 use octets::four_at;
 use octets::two_at;
 use text::put_line;
+use text::put_line2;
 
 // The place behind the frame at a place; the place itself where none is read.
 fn frame_end(bytes: &[u8], place: usize) -> usize
@@ -44,10 +46,21 @@ fn put_numbers(letter: u8, bytes: &[u8], place: usize, text: &mut [u8]) -> usize
     put_line(letter, &[n, position], text)
 }
 
-// Lays the line of the frame at a place, and returns how many bytes: none for a frame that is no change.
+// Lays the line of a position, which stands in the frame at a place, behind a letter that stands twice. Returns how many bytes.
+fn put_position(letter: u8, bytes: &[u8], place: usize, text: &mut [u8]) -> usize
+    requires { ⌜ place + 5 ≤ length (now bytes) ⌝ }
+    requires { ⌜ 14 ≤ length (now text) ⌝ }
+    ensures { λ r. ⌜ Laid (line2 letter letter (number4 (now (bytes .entry)) (place + 1) ∷ [])) (now (text .entry)) r (now (text .exit)) ⌝ }
+{
+    let position = four_at(bytes, place + 1);
+    put_line2(letter, letter, &[position], text)
+}
+
+// Lays the line of the frame at a place, and returns how many bytes: none for a frame that is no change. 24 bytes of text suffice for each 7
+// of frames.
 fn put_change(bytes: &[u8], place: usize, text: &mut [u8]) -> usize
     requires { ⌜ place < readAt (now bytes) place .next ⌝ }
-    requires { ⌜ (isChange (getD (now bytes) place 0) ≡ true → 24 ≤ length (now text)) ⌝ }
+    requires { ⌜ 24 * (readAt (now bytes) place .next - place) ≤ 7 * length (now text) ⌝ }
     ensures { λ r. ⌜ Laid (changeLine (messageAt (now (bytes .entry)) (place + 1) (getD (now (bytes .entry)) place 0))) (now (text .entry)) r (now (text .exit)) ⌝ }
 {
     let kind = bytes[place];
@@ -57,12 +70,18 @@ fn put_change(bytes: &[u8], place: usize, text: &mut [u8]) -> usize
     if kind == JOIN {
         return put_numbers(43, bytes, place, text);
     }
+    if kind == PAIR_LEAVE {
+        return put_position(45, bytes, place, text);
+    }
+    if kind == PAIR_JOIN {
+        return put_position(43, bytes, place, text);
+    }
     0
 }
 
 // Lays the lines of the changes whose frames stand in the bytes, and returns how many bytes of text.
 fn put_frames(bytes: &[u8], text: &mut [u8]) -> usize
-    requires { ⌜ 24 * (length (now bytes) / 7) ≤ length (now text) ⌝ }
+    requires { ⌜ 24 * length (now bytes) ≤ 7 * length (now text) ⌝ }
     ensures { λ r. ⌜ Laid (changesText (now (bytes .entry))) (now (text .entry)) r (now (text .exit)) ⌝ }
 {
     let mut at = 0;
@@ -80,7 +99,7 @@ fn put_frames(bytes: &[u8], text: &mut [u8]) -> usize
 // Lays the lines of the changes whose frames are the first count bytes, and returns how many bytes of text.
 pub fn put_changes(bytes: &[u8], count: usize, text: &mut [u8]) -> usize
     requires { ⌜ count ≤ length (now bytes) ⌝ }
-    requires { ⌜ 24 * (count / 7) ≤ length (now text) ⌝ }
+    requires { ⌜ 24 * count ≤ 7 * length (now text) ⌝ }
     ensures { λ r. ⌜ Laid (changesText (take count (now (bytes .entry)))) (now (text .entry)) r (now (text .exit)) ⌝ }
 {
     put_frames(&bytes[..count], text)

@@ -1,9 +1,9 @@
 -- A quote on a book: what is known once its rows are compared with it, and what it leaves.
-use mathlib.Core.Path.{_≡_, refl, sym, ap, _∙_}
-use Prim.Native.Nat.{ℕ, suc, _+_, _-_, _≤_, _<_}
+use mathlib.Core.Path.{_≡_, refl, sym, ap, ap₂, _∙_}
+use Prim.Native.Nat.{ℕ, _+_, _-_, _≤_}
 use native.Mathlib.Omega.{arith}
-use mathlib.Core.Bool.{Bool, true, false}
-use mathlib.Core.List.{List}
+use mathlib.Core.Bool.{false}
+use mathlib.Core.List.{List, _++_}
 use lib.Seq.{take-all}
 use lib.ListN.{length, take, drop, length-drop}
 use borrow.Author.Tests.{leb-false, eqb-true, not-false}
@@ -18,10 +18,12 @@ use Rattle.head.specs.Heads.{lastPosition}
 use Rattle.head.specs.Refusals.{numberOf, granted}
 use Rattle.head.specs.Replies.{Outcome, outcome}
 use Rattle.head.proofs.Numbers.{zero-passed}
-use Rattle.model.specs.Rows.{Tables, filled, expiring, rowsAfter}
-use Rattle.model.specs.Book.{tornWatches, bookRows, watchfulAnswer, quoteRows, quoteHead, quoteBytes, quoteAnswer, quoteReply, quoteTables, quoteOut, replyOf}
+use Rattle.model.specs.Rows.{Row, Tables, filled, rowsAfter}
+use Rattle.model.specs.Changes.{allChanges, pairChanges}
+use Rattle.model.specs.Book.{tornWatches, bookRows, standing, listOf, pairListOf, watchfulAnswer, quoteRows, quoteHead, quoteBytes, quoteAnswer, quoteReply, quoteTables, quoteOut, replyOf}
 use Rattle.model.specs.Promises.{Quoted}
 use Rattle.model.proofs.Replying.{refused-reply, refused-left, accepted-left}
+use Rattle.model.proofs.ChangeFrames.{frames-append}
 use Rattle.model.proofs.ChangesFit.{changes-fit}
 use Rattle.finding.specs.Found.{Rows}
 use Rattle.settling.specs.declared.Finding.{Finding}
@@ -31,11 +33,12 @@ use Rattle.settling.proofs.Findings.{rows-fit, found-lower, found-live, found-h
 use Rattle.settling.specs.Settled.{uppersPut}
 use Rattle.settling.proofs.Settled.{retired-below}
 use Rattle.cells.specs.Marked.{Below}
-use Rattle.changes.specs.Watches.{Full, Outdone, allFrames}
+use Rattle.changes.specs.Watches.{allFrames}
 use Rattle.changes.proofs.Quoting.{quote-frames}
+use Rattle.pair_changes.proofs.Pairs.{pair-frames, paired}
 use Rattle.judging.proofs.Answering.{tested-more, stays, watchful-passed}
 use Rattle.quoting.specs.Answers.{rowAnswer}
-use Rattle.quoting.specs.Stages.{Countable, Writable, SoundIf, roomAnswer, Written}
+use Rattle.writing.specs.Bytes.{changeBytes, Countable, Writable, roomAnswer, Written}
 
 -- what is known where a quote passed every test but the last
 pub admitted : (h : Head) (x : List ℕ) (t : Tables) (ws : List ℕ) → rowAnswer h x t ws ≡ 0 → Admitted h x t × (tornWatches (h .capacity) ws ≡ false)
@@ -69,14 +72,24 @@ module _ {h : Head} {x : List ℕ} {t : Tables} {ws : List ℕ} {f : Finding} {p
   abbrev rows : Rows
   rows = heldRows h x (t .columns) (t .upperEnds)
 
-  -- the changes of every watch, by what was found
+  -- the changes of every watch and of the pair, by what was found
   abbrev bytes : List ℕ
-  bytes = allFrames h (t .lowerEnds) rows (f .lower) ws
+  bytes = changeBytes h (f .lower) (t .lowerEnds) rows ws
 
   bytes-are : bytes ≡ quoteBytes h x t ws
+  unfolding changeBytes quoteBytes
   bytes-are =
-      ap (allFrames h (t .lowerEnds) rows (f .lower)) (sym (take-all 8 ws (omega (arith, v .eight))))
-      ∙ quote-frames h t x (f .lower) (whole book) (book .below) (within book .some-capacity) (found-lower book (v .finds)) ws (admitted h x t ws (v .accepted) .1)
+      ap₂ {C = List ℕ} (λ (k l : List ℕ). k ++ l)
+      (ap (allFrames h (t .lowerEnds) rows (f .lower)) (sym (take-all 8 ws (omega (arith, v .eight))))
+      ∙ quote-frames h t x (f .lower) (whole book) (book .below) (within book .some-capacity) (found-lower book (v .finds)) ws (admitted h x t ws (v .accepted) .1))
+      (pair-frames h t (whole book) (book .passed .pair-fair) (book .below) x ws)
+      ∙ sym (frames-append (allChanges (standing ws) (listOf h (bookRows h t)) (listOf next rest)) (pairChanges (pairListOf h (bookRows h t)) (pairListOf next rest)))
+    where
+      next : Head
+      next = quoteHead h x t ws
+
+      rest : List Row
+      rest = quoteRows h x t ws
 
   -- the rows fill the window of N
   window-filled : (h .newest + 1 ≡ windowStart (h .newest) (h .capacity) + h .held) × (windowStart (h .newest) (h .capacity) + expiredPlaces h ≡ windowStart (h .newest + 1) (h .capacity))
@@ -93,7 +106,8 @@ module _ {h : Head} {x : List ℕ} {t : Tables} {ws : List ℕ} {f : Finding} {p
       filled = window-filled .0;
       space = book .below;
     };
-    most = rw bytes-are (changes-fit h x t ws (book .passed .held) (book .passed .untorn) .bytes-most);
+    paired = paired h t (whole book) (book .passed .pair-fair) (book .below) (few-held book) (omega (arith, places book .2, long book .lowerEnds)) (omega (arith, places book .2, long book .upperEnds));
+    most = rw bytes-are (changes-fit h x t ws (book .passed .held) (book .passed .untorn) (book .passed .pair-fair) .bytes-most);
   }
 
   -- the part of the places that lists the retired rows
@@ -104,11 +118,10 @@ module _ {h : Head} {x : List ℕ} {t : Tables} {ws : List ℕ} {f : Finding} {p
   retired-is = take-all (length ps - f .at) (drop (f .at) ps) (omega (arith, length-drop (f .at) ps))
 
   -- and before they are written
-  pub writable : {sound : Bool} → SoundIf sound h x t → Writable h sound retired (t .lowerEnds) rows
-  writable s = record {
+  pub writable : Writable h retired (t .lowerEnds) rows
+  writable = record {
     few = omega (arith, within book .small-capacity);
     outdone = record { from = expiredPlaces h; stays = window-filled .1; listed = retired-is ∙ v .finds .listed };
-    named = s .named;
   }
 
   -- the retired places are those of rows held

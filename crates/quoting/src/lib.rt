@@ -2,13 +2,12 @@
 ghost use mathlib.Core.Path.{_≡_};
 ghost use Rattle.model.specs.Calls.{Reached};
 ghost use Rattle.model.specs.Promises.{tables, world, Quoted};
-ghost use Rattle.settling.specs.Findings.{Finds};
+ghost use Rattle.settling.specs.Findings.{heldRows, Finds};
 ghost use Rattle.settling.specs.Settled.{Known};
+ghost use Rattle.writing.specs.Bytes.{SoundIf};
 ghost use Rattle.quoting.specs.Answers.{rowAnswer};
-ghost use Rattle.quoting.specs.Stages.{SoundIf};
 
 mod judged;
-mod writing;
 
 use head::Answer;
 use head::Head;
@@ -25,7 +24,7 @@ use settling::settle_upper_ends;
 use writing::write;
 
 // Enters a quote that passed every test but the last, by what was found. Of the tables' places only those below used may hold anything,
-// lower ends that name the expired position stand below place named, and sound says that lower ends of live rows name live rows.
+// lower ends that name the expired position stand below place named, and sound says that the rows' ends are as calls leave them.
 fn enter(
     head: Head,
     found: Finding,
@@ -44,7 +43,7 @@ fn enter(
     requires { ⌜ rowAnswer head (now quote) (tables (now columns) (now positions) (now «lower_ends») (now «upper_ends»)) watches ≡ 0 ⌝ }
     requires { ⌜ Finds head (now quote) (now columns) (now «upper_ends») (now places) found ⌝ }
     requires { ⌜ Known head used named (tables (now columns) (now positions) (now «lower_ends») (now «upper_ends»)) ⌝ }
-    requires { ⌜ SoundIf sound head (now quote) (tables (now columns) (now positions) (now «lower_ends») (now «upper_ends»)) ⌝ }
+    requires { ⌜ SoundIf sound head (now «lower_ends») (heldRows head (now quote) (now columns) (now «upper_ends»)) ⌝ }
     ensures { λ r. ⌜ Quoted head (now (quote .entry)) (tables (now (columns .entry)) (now (positions .entry)) (now («lower_ends» .entry)) (now («upper_ends» .entry))) watches (now (out .entry)) r (tables (now (columns .exit)) (now (positions .exit)) (now («lower_ends» .exit)) (now («upper_ends» .exit))) (now (out .exit)) ⌝ }
 {
     let at = found.at;

@@ -5,32 +5,31 @@ use mathlib.Core.Logic.{_⊎_, inl, inr}
 use Prim.Native.Nat.{ℕ, suc, _+_, _-_, _*_, _≤_, _<_}
 use native.Mathlib.Nat.{le-refl, mul-le-mul-right}
 use native.Mathlib.Omega.{arith}
-use mathlib.Core.Bool.{Bool, true, false, _&&_, cond}
+use mathlib.Core.Bool.{Bool, true, false, cond}
 use mathlib.Core.List.{List, map}
 use lib.Dec.{eqb}
 use lib.ListN.{length, getD, length-map}
 use borrow.Author.Tests.{eqb-true, eqb-false, eq-eqb}
-use Rattle.lists.specs.Lists.{flat, run, between, padded}
+use Rattle.lists.specs.Lists.{flat, between, padded}
 use Rattle.lists.proofs.Booleans.{either, clash, and-left, and-right}
-use Rattle.lists.proofs.Runs.{length-run, order}
+use Rattle.lists.proofs.Runs.{order}
 use Rattle.dominance.specs.Dominance.{dominates}
 use Rattle.dominance.proofs.Laws.{dominates-irreflexive, dominates-transitive}
 use Rattle.skyline.specs.Skyline.{windowStart}
 use Rattle.skyline.specs.Past.{lowerEnd, upperEnd}
-use Rattle.skyline.proofs.Ends.{NoneOrYounger, upper-spec, lower-below, upper-within}
+use Rattle.skyline.proofs.Ends.{NoneOrYounger, upper-spec, lower-below, upper-most}
 use Rattle.head.specs.declared.Head.{Head}
-use Rattle.head.specs.Heads.{freshHead}
 use Rattle.model.specs.Rows.{Row, Tables, rowAt, rowsIn, filled, expiring, renamed}
 use Rattle.model.specs.Reference.{Reference, unopened, quoteAt, dominatesAt, newest, rowOf, rowsOf, headOf}
 use Rattle.model.specs.Reference as reference
 use Rattle.model.specs.Book.{bookRows}
-use Rattle.model.specs.Calls.{Lent, World, Reached}
+use Rattle.model.specs.Calls.{Lent, Reached}
 use Rattle.model.specs.Promises.{world}
 use Rattle.model.proofs.Tables.{cells-counted}
 use Rattle.model.proofs.Torn.{window-length}
 use Rattle.model.proofs.Sound.{rows-few, rows-wide}
 use Rattle.model.proofs.Simulation.{Invariant, some-capacity, rows-read}
-use Rattle.model.proofs.Sought.{named-before-upper, named-live-on}
+use Rattle.model.proofs.Sought.{named-before-upper, named-behind-lower, named-live-on}
 use Rattle.model.proofs.Reached.{reached-by}
 use Rattle.cells.specs.Blank.{Blank}
 use Rattle.cells.proofs.Blanks.{blank-padded}
@@ -48,6 +47,25 @@ renamed-same g y n = go (eqb y g) refl
     go : (b : Bool) → eqb y g ≡ b → cond b 0 y ≡ y
     go true e = let z = eqb-true y g e in let w : (0 < g → ⊥) = λ k. n k z in omega (arith, w)
     go false e = refl
+
+-- the lower end of a live row, if it is held, is that of a live row
+abbrev LiveNamed : Head → Tables → Type 0
+LiveNamed h t =
+    let S = windowStart (h .newest) (h .capacity) in
+    (i : ℕ) → i < h .held → live (t .upperEnds) i ≡ true → S ≤ getD (t .lowerEnds) i 0 → live (t .upperEnds) (getD (t .lowerEnds) i 0 - S) ≡ true
+
+-- a row on a list up to b, as far as its upper end goes, has its lower end on it too, if it is held
+abbrev Lasting : Head → Tables → Type 0
+Lasting h t =
+    let S = windowStart (h .newest) (h .capacity) in
+    (i b : ℕ) → i < h .held → S ≤ getD (t .lowerEnds) i 0 → S + i ≤ b → (getD (t .upperEnds) i 0 ≡ 0) ⊎ (b < getD (t .upperEnds) i 0)
+    → (getD (t .upperEnds) (getD (t .lowerEnds) i 0 - S) 0 ≡ 0) ⊎ (b < getD (t .upperEnds) (getD (t .lowerEnds) i 0 - S) 0)
+
+-- a row lies behind the lower end of the row that its upper end names
+abbrev Behind : Head → Tables → Type 0
+Behind h t =
+    let S = windowStart (h .newest) (h .capacity) in
+    (i j : ℕ) → i < h .held → j < h .held → getD (t .upperEnds) i 0 ≡ S + j → getD (t .lowerEnds) j 0 < S + i
 
 module _ (s : Reference) (l : Lent) (f : Invariant s l) where
   abbrev M : ℕ
@@ -209,38 +227,45 @@ module _ (s : Reference) (l : Lent) (f : Invariant s l) where
     unnamed = unnamed;
   }
 
-  -- ---- lower ends of live rows name live rows
+  -- ---- what the ends of rows say of one another
 
   window-one : 1 ≤ S
   unfolding windowStart
   window-one = omega arith
 
-  live-named : (i : ℕ) → i < h .held → live (t .upperEnds) i ≡ true → S ≤ getD (t .lowerEnds) i 0 → live (t .upperEnds) (getD (t .lowerEnds) i 0 - S) ≡ true
-  unfolding live rowOf
-  live-named i k e m =
-      let q = S + i in
+  -- the row that a lower end names is held
+  named-held : (i : ℕ) → i < h .held → S ≤ getD (t .lowerEnds) i 0 → getD (t .lowerEnds) i 0 - S < h .held
+  unfolding rowOf
+  named-held i k m =
+      let low : getD (t .lowerEnds) i 0 < S + i = rw (lower-at i k) (lower-below (reference.over s) S (S + i) (omega (arith, window-one))) in
+      omega arith
+
+  -- it lasts on every list on which the row below it does
+  lasting : Lasting h t
+  unfolding rowOf headOf
+  lasting i b k m e u =
       let p = getD (t .lowerEnds) i 0 in
-      let j = p - S in
-      let low : p < q = rw (lower-at i k) (lower-below (reference.over s) S q (omega (arith, one))) in
-      let high : j < h .held = omega arith in
-      let at : S + j ≡ p = omega arith in
-      let free : upperEnd (reference.over s) M q ≡ 0 = sym (upper-at i k) ∙ eqb-true (getD (t .upperEnds) i 0) 0 e in
-      rw (upper-at j high, at) (go p (upper-within (reference.over s) M p) (named-live-on s M p q (omega (arith, one)) (sym (lower-at i k)) (omega (arith, held-is)) (inl free)))
+      let high = named-held i k m in
+      let at : S + (p - S) ≡ p = omega arith in
+      rw (upper-at (p - S) high, at) (named-live-on s b p (S + i) (omega (arith, window-one)) (sym (lower-at i k)) e (rw (upper-at i k) at u))
+
+  -- so the lower end of a live row names a live row
+  live-named : LiveNamed h t
+  unfolding live headOf
+  live-named i k e m =
+      let j = getD (t .lowerEnds) i 0 - S in
+      go (getD (t .upperEnds) j 0) (rw (upper-at j (named-held i k m)) (upper-most (reference.over s) M (S + j)))
+      (lasting i M k m (omega (arith, held-is)) (inl (eqb-true (getD (t .upperEnds) i 0) 0 e)))
     where
-      one : 1 ≤ S
-      one = window-one
+      go : (u : ℕ) → u ≤ M → (u ≡ 0) ⊎ (M < u) → eqb u 0 ≡ true
+      go u w (inl z) = eq-eqb u 0 z
+      go u w (inr z) = absurd (omega arith)
 
-      go : (p : ℕ) → (upperEnd (reference.over s) M p ≡ 0) ⊎ ((p < upperEnd (reference.over s) M p) × (upperEnd (reference.over s) M p ≤ M))
-          → (upperEnd (reference.over s) M p ≡ 0) ⊎ (M < upperEnd (reference.over s) M p) → eqb (upperEnd (reference.over s) M p) 0 ≡ true
-      go p u (inl z) = eq-eqb (upperEnd (reference.over s) M p) 0 z
-      go p (inl z) (inr w) = eq-eqb (upperEnd (reference.over s) M p) 0 z
-      go p (inr u) (inr w) = absurd (omega (arith, u .1))
-
--- the same, by the head
-named-of : (s : Reference) (l : Lent) → Invariant s l → (i : ℕ) → i < headOf s .held → live (l .tables .upperEnds) i ≡ true → windowStart (headOf s .newest) (headOf s .capacity) ≤ getD (l .tables .lowerEnds) i 0
-    → live (l .tables .upperEnds) (getD (l .tables .lowerEnds) i 0 - windowStart (headOf s .newest) (headOf s .capacity)) ≡ true
-unfolding headOf
-named-of s l f = live-named s l f
+  -- a row lies behind the lower end of the row that its upper end names
+  behind : Behind h t
+  unfolding rowOf headOf
+  behind i j k l e =
+      rw (lower-at j l) (named-behind-lower s (S + j) (S + i) (omega (arith, window-one)) (omega (arith, window-one)) (sym (upper-at i k) ∙ e))
 
 -- before any opening no settings hold
 no-capacity : {A : Type 0} → 1 ≤ headOf unopened .capacity → A
@@ -260,11 +285,16 @@ reached-known {h} {t} {ws} =
     (λ l k. no-capacity k) (λ s l f k. known s l f)
 
 -- and the lower end of a live row, if it is held, is that of a live row
-pub reached-live : {h : Head} {t : Tables} {ws : List ℕ} → Reached (world h t ws) → 1 ≤ h .capacity → (i : ℕ) → i < h .held → live (t .upperEnds) i ≡ true
-    → windowStart (h .newest) (h .capacity) ≤ getD (t .lowerEnds) i 0 → live (t .upperEnds) (getD (t .lowerEnds) i 0 - windowStart (h .newest) (h .capacity)) ≡ true
+pub reached-live : {h : Head} {t : Tables} {ws : List ℕ} → Reached (world h t ws) → 1 ≤ h .capacity → LiveNamed h t
 reached-live {h} {t} {ws} =
-    reached-by
-    (λ w.
-    1 ≤ w .head .capacity → (i : ℕ) → i < w .head .held → live (w .lent .tables .upperEnds) i ≡ true → windowStart (w .head .newest) (w .head .capacity) ≤ getD (w .lent .tables .lowerEnds) i 0
-    → live (w .lent .tables .upperEnds) (getD (w .lent .tables .lowerEnds) i 0 - windowStart (w .head .newest) (w .head .capacity)) ≡ true)
-    (λ l k. no-capacity k) (λ s l f k. named-of s l f)
+    reached-by (λ w. 1 ≤ w .head .capacity → LiveNamed (w .head) (w .lent .tables)) (λ l k. no-capacity k) (λ s l f k. live-named s l f)
+
+-- which lasts on every list on which that row does
+pub reached-lasting : {h : Head} {t : Tables} {ws : List ℕ} → Reached (world h t ws) → 1 ≤ h .capacity → Lasting h t
+reached-lasting {h} {t} {ws} =
+    reached-by (λ w. 1 ≤ w .head .capacity → Lasting (w .head) (w .lent .tables)) (λ l k. no-capacity k) (λ s l f k. lasting s l f)
+
+-- and a row lies behind the lower end of the row that its upper end names
+pub reached-behind : {h : Head} {t : Tables} {ws : List ℕ} → Reached (world h t ws) → 1 ≤ h .capacity → Behind h t
+reached-behind {h} {t} {ws} =
+    reached-by (λ w. 1 ≤ w .head .capacity → Behind (w .head) (w .lent .tables)) (λ l k. no-capacity k) (λ s l f k. behind s l f)

@@ -1,14 +1,16 @@
--- Members of a skyline: those that no position of the window dominates.
+-- Members of a skyline: those that no position of the window dominates, rising.
 use mathlib.Core.Path.{_≡_}
 use Prim.Native.Nat.{ℕ, suc, _-_, _≤_}
 use native.Mathlib.Omega.{arith}
-use mathlib.Core.Bool.{Bool, false, not}
+use native.Mathlib.Decide.{decLe}
+use mathlib.Core.Bool.{Bool, true, false, not}
 use mathlib.Core.List.{List·Memᴰ}
 use borrow.Author.Tests.{not-true}
-use Rattle.lists.specs.Lists.{run, between}
+use Rattle.lists.specs.Lists.{run, between, rising}
 use Rattle.lists.proofs.Booleans.{not-of}
 use Rattle.lists.proofs.Members.{into-filter, of-filter}
 use Rattle.lists.proofs.Runs.{into-run, of-run, any-none, none-any}
+use Rattle.lists.proofs.Rising.{rising-run, rising-filter}
 use Rattle.skyline.specs.Skyline.{dominatedIn, skyline}
 
 module _ (dom : ℕ → ℕ → Bool) where
@@ -37,3 +39,12 @@ module _ (dom : ℕ → ℕ → Bool) where
       let r = of-run a (suc b - a) p (t .0) in
       let k : p ≤ b = omega arith in
       (r .0, k, free-of a b p (omega arith) (not-true (dominatedIn dom a b p) (t .1)))
+
+  -- a skyline rises within its window
+  pub skyline-rises : (a b lo hi : ℕ) → lo ≤ a → b ≤ hi → rising lo hi (skyline dom a b) ≡ true
+  unfolding skyline between run rising
+  skyline-rises a b lo hi h k = rising-filter (λ p. not (dominatedIn dom a b p)) lo hi (run a (suc b - a)) (go (decLe a (suc b)))
+    where
+      go : Dec (a ≤ suc b) → rising lo hi (run a (suc b - a)) ≡ true
+      go (yes w) = rising-run lo hi a (suc b - a) h (omega arith)
+      go (no w) = let z : suc b - a ≡ 0 = omega arith in rw z

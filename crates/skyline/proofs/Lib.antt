@@ -4,4 +4,5 @@ pub mod Ends
 pub mod Past
 pub mod Sought
 pub mod Moved
+pub mod Shifted
 pub mod Due

@@ -11,13 +11,14 @@ use Rattle.frames.specs.Frames.{readAt}
 use Rattle.model.specs.Rows.{Tables}
 use Rattle.model.specs.Reference.{opened, unopened}
 use Rattle.model.specs.Calls.{lengthsOf}
-use Rattle.turns.specs.Turns.{Player, bookMake, player}
+use Rattle.asking.specs.Asking.{Asked, finished, unread, misplaced, request, asked}
+use Rattle.tape_model.specs.Play.{playAsked, playAt, print, referenceMake, Player, bookMake, begun, bookPlay}
+use Rattle.tape_model.specs.Streams.{Streams, plays, stops, drops, fills}
+use Rattle.tape_model.proofs.Streaming.{streamed-agrees}
+use Rattle.turn_lines.specs.Turns.{player}
 use Rattle.tape.specs.declared.Step.{Step}
-use Rattle.tape.specs.Play.{Asked, finished, unread, misplaced, request, asked, playAsked, playAt, print, referenceMake, begun, bookPlay}
 use Rattle.tape.specs.Steps.{Stepped}
-use Rattle.tape.specs.Streams.{Streams, plays, stops, drops, fills}
 use Rattle.tape.specs.Prints.{left, Prints, goes-on, ends, forgets, reads}
-use Rattle.tape.proofs.Streaming.{streamed-agrees}
 
 -- a player keeps its cells for positions
 asked-cells : (a : Asked) (next : ℕ) (k : Player) → playAsked begun bookMake a next k .state .outputs .cells ≡ k .outputs .cells

@@ -9,7 +9,7 @@ use lib.ListN.{length, getD}
 use borrow.Author.Tests.{ltb-true, lt-ltb, le-ltb, leb-true, le-leb}
 use Rattle.lists.proofs.Booleans.{agree}
 use Rattle.frames.specs.Kinds.{bodyLength}
-use Rattle.tape.specs.Steps.{ready}
+use Rattle.tape_model.specs.Streams.{ready}
 
 module _ (tape : List ℕ) (place : ℕ) where
   -- nothing stands at the end or beyond it

@@ -7,9 +7,10 @@ use mathlib.Core.List.{List, [], _++_}
 use lib.ListN.{length, take}
 use Rattle.model.specs.Rows.{Tables}
 use Rattle.model.specs.Promises.{world}
-use Rattle.turns.specs.Turns.{Player}
+use Rattle.tape_model.specs.Play.{Player}
+use Rattle.tape_model.specs.Streams.{ready}
 use Rattle.tape.specs.declared.Step.{Step}
-use Rattle.tape.specs.Steps.{Stepped, ready}
+use Rattle.tape.specs.Steps.{Stepped}
 
 -- the player that a step leaves: it keeps its cells for positions
 abbrev pub left : Player → Step → Tables → List ℕ → Player

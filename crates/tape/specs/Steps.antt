@@ -1,17 +1,18 @@
 -- One frame played on lent tables, bytes and text: what the player hands back and what it leaves.
 use mathlib.Core.Path.{_≡_}
-use Prim.Native.Nat.{ℕ, _+_}
-use mathlib.Core.Bool.{Bool, _&&_, _||_}
+use Prim.Native.Nat.{ℕ}
 use mathlib.Core.List.{List}
-use lib.Dec.{ltb, leb, eqb}
-use lib.ListN.{length, getD}
+use lib.ListN.{length, take}
 use Rattle.lists.specs.Lists.{laid}
 use Rattle.head.specs.Refusals.{numberOf}
-use Rattle.frames.specs.Kinds.{bodyLength}
 use Rattle.model.specs.Rows.{Tables}
-use Rattle.turns.specs.Turns.{Player}
+use Rattle.model.specs.Calls.{Call}
+use Rattle.asking.specs.declared.Wanted.{Wanted}
+use Rattle.asking.specs.declared.Wanted.the-variants.{Quote, Look, Past, Watch, End, Pair, Unpair, Open, Nothing, Refused, Misplaced}
+use Rattle.tape_model.specs.Play.{Player, bookPlay}
+use Rattle.turn_lines.specs.Turns.{Effect, made}
+use Rattle.turns.specs.Wishes.{unquoted}
 use Rattle.tape.specs.declared.Step.{Step}
-use Rattle.tape.specs.Play.{bookPlay}
 
 -- what playing the frame at a place hands back, and leaves of tables, bytes and text
 pub record Stepped (tape : List ℕ) (place : ℕ) (k : Player) (before : List ℕ) (r : Step) (t' : Tables) (bytes' after : List ℕ) : Type 0 where
@@ -25,8 +26,16 @@ pub record Stepped (tape : List ℕ) (place : ℕ) (k : Player) (before : List �
   pub bytes : bytes' ≡ bookPlay tape place k .state .outputs .bytes
   pub text : after ≡ laid (bookPlay tape place k .text) before
 
--- what is read at a place stays the same however the tape goes on: a whole frame stands there, or a kind that is unknown
-unfoldable pub ready : List ℕ → ℕ → Bool
-ready tape place =
-    let body = bodyLength (getD tape place 0) in
-    ltb place (length tape) && (eqb body 255 || leb (place + 1 + body) (length tape))
+-- what is wanted comes to this
+unfoldable pub taken : Wanted → List ℕ → Player → Effect
+taken (Quote n) columns k = made (Call.Quote (take n columns)) k
+taken (Look n) columns k = unquoted (Look n) k
+taken (Past n1 n2) columns k = unquoted (Past n1 n2) k
+taken (Watch n) columns k = unquoted (Watch n) k
+taken (End n) columns k = unquoted (End n) k
+taken (Pair n1 n2) columns k = unquoted (Pair n1 n2) k
+taken Unpair columns k = unquoted Unpair k
+taken (Open d N directions) columns k = unquoted (Open d N directions) k
+taken Nothing columns k = unquoted Nothing k
+taken (Refused refusal) columns k = unquoted (Refused refusal) k
+taken Misplaced columns k = unquoted Misplaced k

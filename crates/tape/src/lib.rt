@@ -6,27 +6,18 @@ use head::Answer;
 use head::Head;
 pub use playing::play;
 pub use playing::play_reached;
+pub use sizes::CHANGE_BYTES;
+use sizes::CHANGE_FRAME;
+use sizes::PLACES;
 pub use waiting::ready;
-
-// How many watch records a book has.
-pub const WATCHES: usize = 8;
-
-// How many positions the longest list has.
-pub const LIST: usize = 1024;
-
-// How many bytes the frame of a change has.
-pub const CHANGE_FRAME: usize = 7;
 
 // How many bytes the line of a change has at most: its letter and newline, and a space and ten digits for n and the position.
 pub const CHANGE_LINE: usize = 2 + 11 * 2;
 
 // How many bytes the line of the longest list has at most: as that of a change, with n1, n2 and all positions.
-pub const LIST_LINE: usize = 2 + 11 * (2 + LIST);
+pub const LIST_LINE: usize = 2 + 11 * (2 + PLACES);
 
-// How many bytes the changes of any call have at most: from each watched list every position may go, and one may come.
-pub const CHANGE_BYTES: usize = WATCHES * (LIST + 1) * CHANGE_FRAME;
-
-// How many bytes the lines of any frame have room in: the longest list, and a line for each change.
+// How many bytes the lines of any frame have room in: the longest list, and for every seven bytes of changes a line.
 pub const TEXT_BYTES: usize = LIST_LINE + CHANGE_LINE * (CHANGE_BYTES / CHANGE_FRAME);
 
 // What playing a frame hands back: the frame's answer, as its line says it (Accepted at the end of the tape), whether the

@@ -1,6 +1,6 @@
 // Whether the frame at a place can be played before more of the tape has come.
 ghost use mathlib.Core.Path.{_≡_};
-ghost use Rattle.tape.specs.Steps.{ready};
+ghost use Rattle.tape_model.specs.Streams.{ready};
 use frames::body_length;
 
 // Whether a whole frame, or an unknown kind, stands at a place of what has come of a tape.

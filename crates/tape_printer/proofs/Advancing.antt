@@ -8,8 +8,9 @@ use lib.ListN.{length, getD, drop, length-append, length-drop}
 use Rattle.lists.specs.Lists.{laid}
 use Rattle.frames.specs.Frames.{messageAt, columnsAt, told, Reading, stays, readAt}
 use Rattle.frames.proofs.Reading.{Found, beyond, at-end, unknown, cut, whole, found}
-use Rattle.turns.specs.Turns.{textBytes, Player, bookMake}
-use Rattle.tape.specs.Play.{Asked, finished, unread, misplaced, request, asked, playAsked, playAt, begun, bookPlay}
+use Rattle.asking.specs.Asking.{Asked, finished, unread, misplaced, request, asked}
+use Rattle.tape_model.specs.Play.{playAsked, playAt, Player, bookMake, begun, bookPlay}
+use Rattle.turn_lines.specs.Turns.{textBytes}
 use Rattle.head.specs.declared.Head.{Head}
 use Rattle.model.specs.Rows.{Tables}
 use Rattle.model.specs.Calls.{Reached}

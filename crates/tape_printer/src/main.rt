@@ -5,8 +5,8 @@ ghost use mathlib.Core.Bool.{_&&_, _||_, not};
 ghost use lib.ListN.{length};
 ghost use Rattle.model.specs.Calls.{Reached};
 ghost use Rattle.model.specs.Promises.{tables, world};
-ghost use Rattle.turns.specs.Turns.{textBytes};
-ghost use Rattle.tape.specs.Steps.{ready};
+ghost use Rattle.tape_model.specs.Streams.{ready};
+ghost use Rattle.turn_lines.specs.Turns.{textBytes};
 use head::Head;
 
 // How many bytes of text are gathered before they are written out.

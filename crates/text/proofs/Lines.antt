@@ -13,7 +13,7 @@ use Rattle.lists.proofs.Filters.{flat-append, map-append, map-map}
 use Rattle.lists.proofs.Runs.{run-append}
 use Rattle.lists.proofs.Cells.{cells-part}
 use Rattle.lists.proofs.Laying.{Front, grows, front-none, front-store, front-more, Laying, laying-more}
-use Rattle.text.specs.Text.{field, line, Laid}
+use Rattle.text.specs.Text.{field, line, line2, Laid}
 use Rattle.text.proofs.Digits.{at-most-ten}
 
 -- a first byte
@@ -118,3 +118,8 @@ module _ (letter : ℕ) (numbers : List ℕ) where
       let short : length (begun i ++ (10 ∷ [])) ≤ length (set before 0 letter) = rw length-append (omega (arith, begun-short i)) in
       let done : Front (line letter numbers) (set before 0 letter) (set text at 10) (at + 1) = rw (whole-line, e) (front-store (v .fields .front) 10 short) in
       record { long = done .long ∙ length-set before 0 letter; place = done .place; cells = done .cells ∙ over-first letter (line letter numbers) before (omega (arith, done .place)) }
+
+-- how long a line of two letters is at most
+pub line2-short : (first second : ℕ) (numbers : List ℕ) → length (line2 first second numbers) ≤ 3 + 11 * length numbers
+unfolding line2
+line2-short first second numbers = omega (arith, line-short second numbers)

@@ -1,4 +1,4 @@
--- Lines of print: a letter, numbers in decimal with one space before each, and a newline.
+-- Lines of print: a letter or two, numbers in decimal with one space before each, and a newline.
 use Prim.Native.Nat.{ℕ, zero, suc, _+_, _/_, _%_}
 use mathlib.Core.Bool.{cond}
 use mathlib.Core.List.{List, [], _∷_, _++_, map}
@@ -23,6 +23,10 @@ field n = 32 ∷ digits n
 -- a line: its letter, its fields and a newline
 unfoldable pub line : ℕ → List ℕ → List ℕ
 line letter numbers = letter ∷ (flat (map field numbers) ++ (10 ∷ []))
+
+-- a line of two letters
+unfoldable pub line2 : ℕ → ℕ → List ℕ → List ℕ
+line2 first second numbers = first ∷ line second numbers
 
 -- bytes laid at the start of a text: how many, and the text after
 pub record Laid (bytes before : List ℕ) (count : ℕ) (after : List ℕ) : Type 0 where

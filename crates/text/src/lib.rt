@@ -2,7 +2,7 @@
 ghost use mathlib.Core.Path.{_≡_};
 ghost use Prim.Native.Nat.{_+_, _*_, _≤_};
 ghost use lib.ListN.{length};
-ghost use Rattle.text.specs.Text.{digits, field, line, Laid};
+ghost use Rattle.text.specs.Text.{digits, field, line, line2, Laid};
 
 // How many decimal digits a number has.
 fn digit_count(n: u32) -> usize
@@ -58,4 +58,14 @@ pub fn put_line(letter: u8, numbers: &[u32], text: &mut [u8]) -> usize
     }
     text[at] = 10;
     at + 1
+}
+
+// Lays a line of two letters at the start of the text. Returns how many bytes.
+pub fn put_line2(first: u8, second: u8, numbers: &[u32], text: &mut [u8]) -> usize
+    requires { ⌜ 3 + 11 * length (now numbers) ≤ length (now text) ⌝ }
+    ensures { λ r. ⌜ Laid (line2 first second (now (numbers .entry))) (now (text .entry)) r (now (text .exit)) ⌝ }
+{
+    text[0] = first;
+    let used = put_line(second, numbers, &mut text[1..]);
+    used + 1
 }

@@ -1,5 +1,3 @@
 -- The laws of the crate.
 pub mod Rooms
-pub mod Behind
-pub mod Turning
 pub mod Wishes

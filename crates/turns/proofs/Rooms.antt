@@ -2,7 +2,9 @@
 use mathlib.Core.Path.{_≡_, refl, ap}
 use Prim.Native.Nat.{ℕ, zero, suc, _+_, _≤_}
 use native.Mathlib.Omega.{arith}
-use mathlib.Core.List.{List, [], _++_, append-nil}
+use mathlib.Core.Bool.{Bool}
+use mathlib.Core.List.{List, [], _∷_, _++_, append-nil}
+use lib.Dec.{ltb}
 use lib.ListN.{length}
 use borrow.Author.Tests.{ltb-false}
 use Rattle.head.specs.declared.Head.{Head}
@@ -11,8 +13,8 @@ use Rattle.head.specs.Refusals.{granted}
 use Rattle.head.specs.Replies.{Outcome}
 use Rattle.head.proofs.Numbers.{zero-passed}
 use Rattle.model.specs.Rows.{Tables}
-use Rattle.model.specs.Book.{replyOf, quoteBytes, quoteAnswer, quoteReply, lookCells, lookAnswer, lookReply, pastCells, pastAnswer, pastReply, watchBytes, watchAnswer, watchReply}
-use Rattle.model.specs.Promises.{Quoted, Looked, PastLooked, Watched}
+use Rattle.model.specs.Book.{replyOf, quoteBytes, quoteAnswer, quoteReply, lookCells, lookAnswer, lookReply, pastCells, pastAnswer, pastReply, watchBytes, watchAnswer, watchReply, pairBytes, pairAnswer, pairReply, watchfulAnswer}
+use Rattle.model.specs.Promises.{Quoted, Looked, PastLooked, Watched, Paired}
 use Rattle.judging.proofs.Answering.{answer-passed, watchful-passed}
 
 -- a count that fits if the call is accepted fits
@@ -24,6 +26,13 @@ counted (suc k) count room h = omega arith
 -- the same outcome has the same count
 same-count : {a b : Outcome} → a ≡ b → a .count ≡ b .count
 same-count e = ap (λ (o : Outcome). o .count) e
+
+-- what a call writes fits, where that is the fourth test that it adds
+fourth-fits : (h : Head) (t : Tables) (ws : List ℕ) (a b c : Bool) (i j k l : ℕ) (room count : ℕ)
+    → watchfulAnswer h t ws ((a, suc i) ∷ (b, suc j) ∷ (c, suc k) ∷ (ltb room count, suc l) ∷ []) ≡ 0 → count ≤ room
+fourth-fits h t ws a b c i j k l room count e =
+    ltb-false room count
+    (zero-passed _ _ _ (zero-passed _ _ _ (zero-passed _ _ _ (zero-passed _ _ _ (watchful-passed h t ws _ e .2) .1) .1) .1) .0)
 
 -- ---- the calls
 module _ {h : Head} {t : Tables} {r : Reply} {before after : List ℕ} where
@@ -71,19 +80,19 @@ module _ {h : Head} {t : Tables} {r : Reply} {before after : List ℕ} where
   unfolding watchReply replyOf watchAnswer
   watch-fits {n} {ws} w =
       let room = length before in
-      let bytes = length (watchBytes h n t ws) in
-      omega (
-        arith,
-        same-count (w .reply),
-        counted (watchAnswer h n t ws room) bytes room
-            (λ e. ltb-false room bytes
-            (zero-passed _ _ _ (zero-passed _ _ _ (zero-passed _ _ _ (zero-passed _ _ _ (watchful-passed h t ws _ e .2) .1) .1) .1) .0)),
-      )
+      omega (arith, same-count (w .reply), counted (watchAnswer h n t ws room) (length (watchBytes h n t ws)) room (fourth-fits h t ws _ _ _ _ _ _ _ room _))
+
+  -- and so do those of a pair
+  pub pair-fits : {n1 n2 : ℕ} {ws : List ℕ} → Paired h n1 n2 t ws before r after → r .count ≤ length before
+  unfolding pairReply replyOf pairAnswer
+  pair-fits {n1} {n2} {ws} p =
+      let room = length before in
+      omega (arith, same-count (p .reply), counted (pairAnswer h n1 n2 t ws room) (length (pairBytes h n1 n2 t ws)) room (fourth-fits h t ws _ _ _ _ _ _ _ room _))
 
 -- n and the positions of a look fit its cells
 pub cells-room : {count room : ℕ} (cells : List ℕ) → count ≤ room → length cells ≡ room → count + 1 ≤ suc (length (cells ++ []))
 cells-room cells h e = rw (append-nil cells) (omega arith)
 
 -- and n1, n2 and those of a past look
-pub pair-room : {count room : ℕ} (cells : List ℕ) → count ≤ room → length cells ≡ room → count + 2 ≤ suc (suc (length (cells ++ [])))
-pair-room cells h e = rw (append-nil cells) (omega arith)
+pub past-cells-room : {count room : ℕ} (cells : List ℕ) → count ≤ room → length cells ≡ room → count + 2 ≤ suc (suc (length (cells ++ [])))
+past-cells-room cells h e = rw (append-nil cells) (omega arith)

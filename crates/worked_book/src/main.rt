@@ -1,8 +1,9 @@
-// A worked book: opens, quotes, looks, looks back, watches, ends and audits on real buffers, and judges and prints each answer; then it draws the
-// refusals that the calls give, writes and reads a frame, and plays one.
+// A worked book: opens, quotes, looks, looks back, watches, ends and audits on real buffers, and judges and prints each
+// answer; then it works a pair, draws the refusals that the calls give, writes and reads a frame, and plays one.
 use drawn_refusals::limits;
 use drawn_refusals::refusals;
 use drawn_refusals::refuse_opening;
+use drawn_refusals::short_lists;
 use head::Watch;
 use judged_calls::open;
 use judged_calls::take_all;
@@ -13,6 +14,8 @@ use judged_reads::look;
 use judged_reads::past;
 use judged_reads::tell;
 use judged_reads::watch;
+use sizes::CHANGE_BYTES;
+use worked_pair::show_pair;
 
 // Plays 01's worked example, audits the book that it leaves, and draws the refusals.
 fn main() {
@@ -20,9 +23,10 @@ fn main() {
     let mut positions = [0u32; 5];
     let mut lower_ends = [0u32; 5];
     let mut upper_ends = [0u32; 5];
-    let mut out = [0u8; 57400];
+    let mut out = [0u8; CHANGE_BYTES];
     let none = [Watch { n: 0 }; 8];
     let opened = open(
+        5,
         &mut columns,
         &mut positions,
         &mut lower_ends,
@@ -89,6 +93,8 @@ fn main() {
     );
     refuse_opening();
     limits();
+    short_lists();
+    show_pair();
     there_and_back(2);
     play_opening();
 }

@@ -44,7 +44,7 @@ all-zero-requires : tie.Need-all-zero-requires
 all-zero-requires c κs = search needs
 
 all-zero-requires-2 : tie.Need-all-zero-requires-2
-all-zero-requires-2 c κs = search needs
+all-zero-requires-2 c κs = c .before .before .before .before .before .before .before .before .before .before .before .pre .1 .1 .0
 
 all-zero-requires-3 : tie.Need-all-zero-requires-3
 all-zero-requires-3 c κs = c .before .before .before .before .before .before .before .before .before .before .before .before .pre .1 .1 .1 .0

@@ -62,7 +62,7 @@ use Rattle.model.specs.Promises.{tables as lent-tables, Ended}
 use Rattle.lending.specs.declared.Judgement.{Judgement}
 use Rattle.lending.specs.Lent.{Judged}
 use Rattle.book.proofs.Fronts.{end-left, end-enough, end-removed}
-use Rattle.book.proofs.Machines.{headed, machines, replied}
+use Rattle.shared_records.proofs.Machines.{headed, machines, replied}
 use Rattle.book.proofs.Deciding.{decides, stays-last}
 use Rattle.book.proofs.Calling.{Remove, removes, changes-last}
 use Rattle.lending.proofs.Judgement as J

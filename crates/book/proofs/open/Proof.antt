@@ -57,7 +57,7 @@ use Rattle.model.specs.Promises.{tables as lent-tables, Opened}
 use Rattle.lending.specs.declared.Judgement.{Judgement}
 use Rattle.lending.specs.Lent.{OpenJudged}
 use Rattle.book.proofs.Fronts.{open-left, open-emptied}
-use Rattle.book.proofs.Machines.{machines, replied}
+use Rattle.shared_records.proofs.Machines.{machines, replied}
 use Rattle.book.proofs.Deciding.{decides, stays-last}
 use Rattle.book.proofs.Calling.{stores, changes-last}
 use Rattle.lending.proofs.Judgement as J

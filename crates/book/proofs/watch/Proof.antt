@@ -62,7 +62,7 @@ use Rattle.model.specs.Promises.{tables as lent-tables, Watched}
 use Rattle.lending.specs.declared.Judgement.{Judgement}
 use Rattle.lending.specs.Lent.{WatchJudged}
 use Rattle.book.proofs.Fronts.{watch-left, watch-asks, watch-inserted}
-use Rattle.book.proofs.Machines.{headed, machines, replied}
+use Rattle.shared_records.proofs.Machines.{headed, machines, replied}
 use Rattle.book.proofs.Deciding.{decides, stays-last}
 use Rattle.book.proofs.Calling.{Insert, inserts, changes-last}
 use Rattle.lending.proofs.Judgement as J

@@ -1,15 +1,20 @@
 -- `main` meets its contract: each call leaves the buffers as long as they were.
 use mathlib.Core.Path.{_≡_, refl, sym}
+use Prim.Native.Nat.{ℕ}
 use native.Mathlib.Omega.{arith}
 use lib.ListN.{length}
 use borrow.Author.Needs.{needs}
 use Rattle.book_player.proofs.main.Statement.{statement}
 use Rattle.book_player.proofs.main.Tie as tie
 
+-- how many bytes, and how many cells, an output has
+abbrev room : ℕ
+room = 62520
+
 abbrev Inv-loop : tie.InvT-loop
 Inv-loop columns₀ positions₀ lower-ends₀ upper-ends₀ out₀ cells₀ text₀ lines₀ desk₀ print₀ stand₀ turns₀ columns positions lower-ends upper-ends out cells text lines desk print stand turns =
     (length columns ≡ 6144) × (length positions ≡ 1024) × (length lower-ends ≡ 1024) × (length upper-ends ≡ 1024)
-    × (length out ≡ 57400) × (length cells ≡ 57400) × (length text ≡ 65536) × (length lines ≡ 65536)
+    × (length out ≡ room) × (length cells ≡ room) × (length text ≡ 65536) × (length lines ≡ 65536)
 
 abbrev μ-loop : tie.MeasureT-loop
 μ-loop columns₀ positions₀ lower-ends₀ upper-ends₀ out₀ cells₀ text₀ lines₀ desk₀ print₀ stand₀ turns₀ columns positions lower-ends upper-ends out cells text lines desk print stand turns =
@@ -18,8 +23,8 @@ abbrev μ-loop : tie.MeasureT-loop
 -- how long the buffers of a line are once it is played
 played : (c : tie.After-play Inv-loop μ-loop)
     → (6144 ≡ length (c .play .last .1 .1 .0)) × (1024 ≡ length (c .play .last .1 .1 .1 .0)) × (1024 ≡ length (c .play .last .1 .1 .1 .1 .0))
-    × (1024 ≡ length (c .play .last .1 .1 .1 .1 .1 .0)) × (57400 ≡ length (c .play .last .1 .1 .1 .1 .1 .1 .0))
-    × (57400 ≡ length (c .play .last .1 .1 .1 .1 .1 .1 .1 .0))
+    × (1024 ≡ length (c .play .last .1 .1 .1 .1 .1 .0)) × (room ≡ length (c .play .last .1 .1 .1 .1 .1 .1 .0))
+    × (room ≡ length (c .play .last .1 .1 .1 .1 .1 .1 .1 .0))
 played c = let i = c .before .before .before .before .before .before .before .before .before .before .before .before .before .before .before .before .loop .inv in let k = c .play .kept in (
   omega (arith, i .0, k .1 .1 .0),
   omega (arith, i .1, k .1 .1 .1 .0),

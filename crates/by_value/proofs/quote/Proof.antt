@@ -52,12 +52,12 @@ use Rattle.model.specs.Rows.{Tables as Lent}
 use Rattle.model.specs.Promises.{tables as lent-tables, Quoted}
 use Rattle.watches.specs.Records.{watched}
 use Rattle.watches.proofs.Lending.{at-name}
-use Rattle.book.proofs.Machines.{headed, machines, spelled}
+use Rattle.shared_records.proofs.Machines.{headed, machines, spelled}
 use Rattle.by_value.proofs.LocalRecords.{recorded, recorded-tells, shows-records, shown-back}
-use Rattle.book.proofs.quote as callee
-use Rattle.book.proofs.quote.Symbol as callee-def
-use Rattle.book.proofs.quote.Symbol.{name as #book·quote}
-use Rattle.book.proofs.quote.Met as callee-thm
+use Rattle.shared_records.proofs.quote as callee
+use Rattle.shared_records.proofs.quote.Symbol as callee-def
+use Rattle.shared_records.proofs.quote.Symbol.{name as #shared-records·quote}
+use Rattle.shared_records.proofs.quote.Met as callee-thm
 use Rattle.by_value.proofs.quote.Key.{name as #by-value·quote}
 use Rattle.by_value.proofs.quote as f
 use Rattle.by_value.proofs.quote.Statement as stated
@@ -135,7 +135,7 @@ module _ {M : Type 1} (𝓤 : URA M) (H : Heap 𝓤) (A : Atoms 𝓤) (W : Given
       nothing ! $ move ! (6 ∷ 0 ∷ []) $ join ! $ move ! (5 ∷ 0 ∷ []) $ join ! $ move ! (4 ∷ 0 ∷ []) $ join ! $ move ! (3 ∷ 0 ∷ []) $ join ! $ move ! (2 ∷ 0 ∷ []) $ join ! $ move ! (1 ∷ 0 ∷ []) $ join ! $ frame ! $ nothing ! $ move ! (5 ∷ 0 ∷ []) $ fjoin ! $ nothing ! $ fjoin ! $ move ! (4 ∷ 0 ∷ []) $ fjoin ! $ move ! (3 ∷ 0 ∷ []) $ fjoin ! $ move ! (2 ∷ 0 ∷ []) $ fjoin ! $ move ! (1 ∷ 0 ∷ []) $ fjoin ! $ nothing ! $ fjoin ! $ nothing ! $ fjoin ! $ frame ! $ owned ! R.the-row (Is R.the-row) ((LL.makes R.the-type R′.the-plain) 𝓤 H A) j (machines j) is $ done !
 
   module _ (is-head : Is Hd.the-row head (headed head)) (quoted-fits : length (quoted .now) < 2 ^ 64) (columns-fits : length (columns .now) < 2 ^ 64) (positions-fits : length (positions .now) < 2 ^ 64) (lowerEnds-fits : length (lowerEnds .now) < 2 ^ 64) (upperEnds-fits : length (upperEnds .now) < 2 ^ 64) (is-records : Is (Array T.the-row 8) records (recorded records)) (out-fits : length (out .now) < 2 ^ 64)
-      (C : Calls 𝓤 H) (Λ : Loops 𝓤 H) (fm : FmC 𝓤 H (W .laws) C) (known : Triple 𝓤 (C #book·quote) (Callee 𝓤 H A mem run)) where
+      (C : Calls 𝓤 H) (Λ : Loops 𝓤 H) (fm : FmC 𝓤 H (W .laws) C) (known : Triple 𝓤 (C #shared-records·quote) (Callee 𝓤 H A mem run)) where
     eight : length records ≡ 8
     eight = is-records .1 .0 .1
 
@@ -174,7 +174,7 @@ module _ {M : Type 1} (𝓤 : URA M) (H : Heap 𝓤) (A : Atoms 𝓤) (W : Given
         move ! (57 ∷ 58 ∷ []) $ free1 ! $ move ! (55 ∷ 56 ∷ []) $ free1 ! $ move ! (53 ∷ 54 ∷ []) $ free1 ! $ move ! (51 ∷ 52 ∷ []) $ free1 ! $ move ! (49 ∷ 50 ∷ []) $ free1 ! $ move ! (47 ∷ 48 ∷ []) $ free1 ! $ move ! (45 ∷ 46 ∷ []) $ free1 ! $ move ! (43 ∷ 44 ∷ []) $ free1 ! $ move ! (41 ∷ 42 ∷ []) $ free1 ! $ move ! (0 ∷ 40 ∷ []) $ free1 ! $ move ! (37 ∷ 38 ∷ []) $ free1 ! $ move ! (35 ∷ 36 ∷ []) $ free1 ! $ move ! (33 ∷ 34 ∷ []) $ free1 ! $ move ! (31 ∷ 32 ∷ []) $ free1 ! $ move ! (29 ∷ 30 ∷ []) $ free1 ! $ move ! (27 ∷ 28 ∷ []) $ free1 ! $ move ! (25 ∷ 26 ∷ []) $ free1 ! $ move ! (23 ∷ 24 ∷ []) $ free1 ! $ move ! (21 ∷ 22 ∷ []) $ free1 ! $ move ! (19 ∷ 20 ∷ []) $ free1 ! $ move ! (17 ∷ 18 ∷ []) $ free1 ! $ move ! (15 ∷ 16 ∷ []) $ free1 ! $ free0 ! $
         keep ! (6 ∷ 5 ∷ 4 ∷ 3 ∷ 2 ∷ 1 ∷ 11 ∷ 10 ∷ 9 ∷ 8 ∷ 7 ∷ []) $ by ! (exits (zs .1 .1 .0) (zs .1 .1 .1 .0) (zs .1 .1 .1 .1 .0) (zs .1 .1 .1 .1 .1 .0) (zs .1 .1 .1 .1 .1 .1 .1 .0) j (spelled j c has) columns-same positions-same lowerEnds-same upperEnds-same out-same kept)))))))))))))))))))))))))))))))))))
 
-module _ {M : Type 1} (𝓤 : URA M) (H : Heap 𝓤) (A : Atoms 𝓤) (W : Given 𝓤 H A) (mem : Memory → SProp 𝓤) (run : Routine → Fun 𝓤) (𝓣 : Tables 𝓤 H) (known : Triple 𝓤 (𝓣 .C #book·quote) (Callee 𝓤 H A mem run)) where
+module _ {M : Type 1} (𝓤 : URA M) (H : Heap 𝓤) (A : Atoms 𝓤) (W : Given 𝓤 H A) (mem : Memory → SProp 𝓤) (run : Routine → Fun 𝓤) (𝓣 : Tables 𝓤 H) (known : Triple 𝓤 (𝓣 .C #shared-records·quote) (Callee 𝓤 H A mem run)) where
   quote-walks : Walks 𝓤 H A f.ended stayed (WpFn 𝓤 H (𝓣 .C) (𝓣 .Λ) code.function) (f.clauses 𝓤 H A mem run)
   quote-walks =
       walked 𝓤 H A f.ended stayed (f.clauses 𝓤 H A mem run) (WpFn 𝓤 H (𝓣 .C) (𝓣 .Λ) code.function) (λ κs. (headed, (slice-vals, (slice-vals, (slice-vals, (slice-vals, (slice-vals, (recorded, (slice-vals, tt)))))))))
@@ -194,4 +194,4 @@ quote-spec 𝓤 H 𝓜 𝓖 𝓡 =
     entered 𝓤 H (tripleOf 𝓤 H (𝓖 .A) f.signature (f.spec 𝓤 H (𝓖 .A) (𝓜 .mem) (𝓡 .run)))
     (tables 𝓤 H 𝓜 𝓡 code.env .C) (tables 𝓤 H 𝓜 𝓡 code.env .Λ) #by-value·quote code.function (code.unfolded 𝓤 H 𝓜 𝓡)
     (quote-meets 𝓤 H (𝓖 .A) (givenOf 𝓤 H 𝓜 𝓖) (𝓜 .mem) (𝓡 .run) (tablesOf 𝓤 H 𝓜 (tables 𝓤 H 𝓜 𝓡 code.env))
-    (cited 𝓤 H (Callee 𝓤 H (𝓖 .A) (𝓜 .mem) (𝓡 .run)) 𝓜 𝓡 code.env #book·quote callee-def.routine code.calls-book·quote (callee-thm.met 𝓤 H 𝓜 𝓖 𝓡)))
+    (cited 𝓤 H (Callee 𝓤 H (𝓖 .A) (𝓜 .mem) (𝓡 .run)) 𝓜 𝓡 code.env #shared-records·quote callee-def.routine code.calls-shared-records·quote (callee-thm.met 𝓤 H 𝓜 𝓖 𝓡)))

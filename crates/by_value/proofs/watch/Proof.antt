@@ -53,7 +53,7 @@ use Rattle.model.specs.Rows.{Tables as Lent}
 use Rattle.model.specs.Promises.{tables as lent-tables, Watched}
 use Rattle.watches.specs.Records.{watched}
 use Rattle.watches.proofs.Lending.{at-name}
-use Rattle.book.proofs.Machines.{headed, machines, spelled}
+use Rattle.shared_records.proofs.Machines.{headed, machines, spelled}
 use Rattle.by_value.proofs.LocalRecords.{recorded, recorded-tells, lends-records, records-back}
 use Rattle.by_value.proofs.MadeValues.{made, made-value, is-made}
 use Rattle.by_value.proofs.Made as Md

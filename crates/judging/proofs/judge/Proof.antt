@@ -1,5 +1,6 @@
--- `judge` meets its contract: torn rows are sought where the settings and lengths pass.
-use mathlib.Core.Path.{refl, _∙_}
+-- `judge` meets its contract: torn rows and a torn pair are sought where the settings and lengths pass.
+use mathlib.Core.Path.{refl, ap₂, _∙_}
+use mathlib.Core.Bool.{_||_}
 use borrow.Author.Needs.{needs}
 use Rattle.head.proofs.Numbers.{accepted-number}
 use Rattle.model.specs.Book.{answerOf}
@@ -27,13 +28,17 @@ torn-rows-requires c κs =
     let loan = loan-passed _ _ (accepted-number _ (c .before .before .judge-loan .ensures) (c .enum-told .given .1)) in
     (loan .0 .some-capacity, (loan .1 .positions, (loan .1 .lowerEnds, loan .1 .upperEnds)))
 
+torn-pair-requires : tie.Need-torn-pair-requires
+torn-pair-requires c κs = search needs
+
 with-test-requires : tie.Need-with-test-requires
 with-test-requires c κs = search needs
 
 returns-2 : tie.Need-returns-2
 unfolding loanAnswer answerOf
 returns-2 c =
-    tested _ _ _ (c .before .before .before .before .judge-loan .ensures) (c .before .torn-rows .ensures ∙ torn-columns _ _ _ _ _ _) (c .with-test .ensures) refl
+    tested _ _ _ (c .before .before .before .before .before .judge-loan .ensures)
+    (ap₂ _||_ (c .before .before .torn-rows .ensures ∙ torn-columns _ _ _ _ _ _) (c .before .torn-pair .ensures)) (c .with-test .ensures) refl
 
 pub judge-spec : {M : Type 1} → statement M
 judge-spec =
@@ -44,5 +49,6 @@ judge-spec =
     enum-told-2
     returns
     torn-rows-requires
+    torn-pair-requires
     with-test-requires
     returns-2)

@@ -1,15 +1,16 @@
 -- `count_listed` meets its contract: each turn counts the row at one place of the window.
 use Prim.Native.Nat.{_-_}
 use native.Mathlib.Omega.{arith}
-use Rattle.listing.specs.Picked.{listedIn}
+use Rattle.listing.specs.Picked.{listedAt, listedIn}
 use Rattle.listing.proofs.Picking.{byte-small, counted-all}
-use Rattle.listing.proofs.Listing.{Counting, counting-start, counting-more}
+use Rattle.listing.proofs.Windows.{Counting, counting-start, counting-more}
+use Rattle.listing.proofs.Listing.{listed-inside, listed-early}
 use borrow.Author.Needs.{needs}
 use Rattle.listing.proofs.count_listed.Statement.{statement}
 use Rattle.listing.proofs.count_listed.Tie as tie
 
 abbrev Inv-loop : tie.InvT-loop
-Inv-loop lower-ends upper-ends first a b end n₀ i₀ n i = Counting first a b lower-ends upper-ends n i
+Inv-loop lower-ends upper-ends first a b end n₀ i₀ n i = Counting (listedAt a b first lower-ends upper-ends) first a b n i
 
 abbrev μ-loop : tie.MeasureT-loop
 μ-loop lower-ends upper-ends first a b end n₀ i₀ n i = end - i
@@ -27,7 +28,9 @@ cast-i : tie.Need-cast-i Inv-loop μ-loop
 cast-i c = search needs
 
 loop-holds : tie.Need-loop-holds Inv-loop μ-loop
-loop-holds c = counting-start _ _ _ _ _ (c .before .before .pre)
+loop-holds c =
+    let within = c .before .before .pre in
+    counting-start _ _ _ _ (within .low) (within .near) (listed-early _ _ _ _ _)
 
 mul-is-listed : tie.Need-mul-is-listed Inv-loop μ-loop
 mul-is-listed c = search needs
@@ -57,7 +60,10 @@ loop-less : tie.Need-loop-less Inv-loop μ-loop
 loop-less c = search needs
 
 loop-again : tie.Need-loop-again Inv-loop μ-loop
-loop-again c = counting-more _ _ _ _ _ (c .before .before .before .before .loop .inv) (c .before .before .before .loop-test .taken) (c .is-listed .result) (c .is-listed .ensures)
+loop-again c =
+    let turn = c .before .before .before .before .loop in
+    counting-more _ _ _ _ (turn .inv) (c .before .before .before .loop-test .taken) (c .is-listed .result)
+    (listed-inside _ _ _ _ _ _ (turn .inv .reached) (omega arith) (c .is-listed .ensures))
 
 cast-result : tie.Need-cast-result Inv-loop μ-loop
 cast-result c = search needs

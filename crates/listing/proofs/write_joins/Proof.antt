@@ -1,24 +1,25 @@
 -- `write_joins` meets its contract: each turn writes the join of the row at one place of the window, if it is listed.
 use Prim.Native.Nat.{_+_, _-_, _≤_}
+use mathlib.Core.List.{[]}
 use native.Mathlib.Omega.{arith}
 use lib.ListN.{length, length-take, length-drop}
-use Rattle.frames.specs.Kinds.{joinKind}
 use Rattle.frames.specs.Frames.{frame}
-use Rattle.frames.proofs.RoundTrips.{change-length}
-use Rattle.model.specs.Changes.{join}
-use Rattle.listing.specs.Picked.{listedIn}
-use Rattle.listing.proofs.Writing.{writing-pass, writing-all}
-use Rattle.listing.proofs.Framing.{framing, frames-cells, joins-length, frame-fits, frame-laid}
-use Rattle.listing.proofs.Listing.{Listing, listing-start, listed-inside}
+use Rattle.listing.specs.Picked.{listedAt, listedIn}
+use Rattle.listing.specs.Joins.{joinOf}
+use Rattle.listing.proofs.Writing.{writing-fits, writing-more, writing-pass, writing-all}
+use Rattle.listing.proofs.Framing.{framing, frames-cells}
+use Rattle.listing.proofs.Windows.{Listing, listing-start}
+use Rattle.listing.proofs.Listing.{listed-inside, listed-early}
 use borrow.Author.Needs.{needs}
 use Rattle.listing.proofs.write_joins.Statement.{statement}
 use Rattle.listing.proofs.write_joins.Tie as tie
 
 abbrev Inv-loop : tie.InvT-loop
-Inv-loop n lower-ends upper-ends first a b out₀ end at₀ i₀ out at i = Listing first a b lower-ends upper-ends (framing (join n)) out₀ out at i
+Inv-loop follower lower-ends upper-ends first a b out₀ end at₀ i₀ out at i =
+    Listing (listedAt a b first lower-ends upper-ends) first a b (framing (joinOf follower)) out₀ out at i
 
 abbrev μ-loop : tie.MeasureT-loop
-μ-loop n lower-ends upper-ends first a b out₀ end at₀ i₀ out at i = end - i
+μ-loop follower lower-ends upper-ends first a b out₀ end at₀ i₀ out at i = end - i
 
 add-end : tie.Need-add-end Inv-loop μ-loop
 add-end c = search needs
@@ -33,7 +34,10 @@ cast-i : tie.Need-cast-i Inv-loop μ-loop
 cast-i c = search needs
 
 loop-holds : tie.Need-loop-holds Inv-loop μ-loop
-loop-holds c = let n = c .before .before .before .args .n in listing-start _ _ _ _ _ _ _ (c .before .before .before .pre .0) (rw (← frames-cells (join n), joins-length n) (c .before .before .before .pre .1))
+unfolding listedIn
+loop-holds c =
+    let within = c .before .before .before .pre .0 in
+    listing-start _ _ _ _ (within .low) (within .near) (listed-early _ _ _ _ _) _ _ (rw (← frames-cells) (c .before .before .before .pre .1))
 
 cast-position : tie.Need-cast-position Inv-loop μ-loop
 cast-position c = search needs
@@ -60,36 +64,48 @@ add-i : tie.Need-add-i Inv-loop μ-loop
 add-i c = search needs
 
 -- a position that is listed has room for its frame
-fits : (c : tie.Then1 Inv-loop μ-loop) → c .before .before .before .before .before .loop .at + 7 ≤ length (c .before .before .before .before .before .loop .out)
-fits c = frame-fits (join (c .before .before .before .before .before .before .before .before .before .args .n)) (change-length joinKind _) (c .before .before .before .before .before .loop .inv .writing) (c .before .before .before .before .loop-test .taken) (listed-inside _ _ _ _ _ _ (c .before .before .before .before .before .loop .inv .reached) (omega arith) (c .before .is-listed .ensures)) (c .if1 .taken)
+fits : (c : tie.Then1 Inv-loop μ-loop)
+    → c .before .before .before .before .before .loop .at + length (frame (joinOf (c .before .before .before .before .before .before .before .before .before .args .follower) (c .before .before .before .before .before .before .before .before .before .args .first + c .before .before .before .before .before .loop .i)) []) ≤ length (c .before .before .before .before .before .loop .out)
+fits c =
+    let turn = c .before .before .before .before .before .loop in
+    writing-fits (turn .inv .writing) (c .before .before .before .before .loop-test .taken) (listed-inside _ _ _ _ _ _ (c .before .before .before .before .before .loop .inv .reached) (omega arith) (c .before .is-listed .ensures)) (c .if1 .taken)
 
-sub-lay-change : tie.Need-sub-lay-change Inv-loop μ-loop
-sub-lay-change c = omega (arith, fits c)
+sub-lay-join : tie.Need-sub-lay-join Inv-loop μ-loop
+sub-lay-join c = omega (arith, fits c)
 
-part-lay-change-start : tie.Need-part-lay-change-start Inv-loop μ-loop
-part-lay-change-start c = omega (arith, fits c)
+part-lay-join-start : tie.Need-part-lay-join-start Inv-loop μ-loop
+part-lay-join-start c = omega (arith, fits c)
 
-part-lay-change-end : tie.Need-part-lay-change-end Inv-loop μ-loop
-part-lay-change-end c = search needs
+part-lay-join-end : tie.Need-part-lay-join-end Inv-loop μ-loop
+part-lay-join-end c = search needs
 
-lay-change-requires : tie.Need-lay-change-requires Inv-loop μ-loop
-lay-change-requires c κs = simp (length-take, length-drop) (omega (arith, fits (c .before)))
+lay-join-requires : tie.Need-lay-join-requires Inv-loop μ-loop
+lay-join-requires c κs = simp (length-take, length-drop) (omega (arith, fits (c .before)))
 
 add-at : tie.Need-add-at Inv-loop μ-loop
-add-at c = omega (arith, fits (c .before .before .before .before))
+add-at c = omega (arith, fits (c .before .before .before .before), c .before .before .lay-join .ensures .0)
 
 loop-less : tie.Need-loop-less Inv-loop μ-loop
 loop-less c = search needs
 
 loop-again : tie.Need-loop-again Inv-loop μ-loop
-unfolding frame
-loop-again c = record { reached = omega (arith, c .before .before .before .before .before .before .before .before .before .loop .inv .reached); writing = frame-laid (join (c .before .before .before .before .before .before .before .before .before .before .before .before .before .args .n)) (change-length joinKind _) (c .before .before .before .before .before .before .before .before .before .loop .inv .writing) (c .before .before .before .before .before .before .before .before .loop-test .taken) (listed-inside _ _ _ _ _ _ (c .before .before .before .before .before .before .before .before .before .loop .inv .reached) (omega arith) (c .before .before .before .before .before .is-listed .ensures)) (c .before .before .lay-change .ensures) (c .before .before .before .before .if1 .taken) }
+loop-again c =
+    record {
+      reached = omega (arith, c .before .before .before .before .before .before .before .before .before .loop .inv .reached);
+      writing =
+          writing-more (c .before .before .before .before .before .before .before .before .before .loop .inv .writing) (c .before .before .before .before .before .before .before .before .loop-test .taken) (listed-inside _ _ _ _ _ _ (c .before .before .before .before .before .before .before .before .before .loop .inv .reached) (omega arith) (c .before .before .before .before .before .is-listed .ensures))
+          (c .before .before .lay-join .ensures .0) (c .before .before .lay-join .ensures .1) (c .before .before .before .before .if1 .taken);
+    }
 
 loop-less-2 : tie.Need-loop-less-2 Inv-loop μ-loop
 loop-less-2 c = search needs
 
 loop-again-2 : tie.Need-loop-again-2 Inv-loop μ-loop
-loop-again-2 c = record { reached = omega (arith, c .before .before .before .before .before .loop .inv .reached); writing = writing-pass (c .before .before .before .before .before .loop .inv .writing) (c .before .before .before .before .loop-test .taken) (listed-inside _ _ _ _ _ _ (c .before .before .before .before .before .loop .inv .reached) (omega arith) (c .before .is-listed .ensures)) (c .if1 .left) }
+loop-again-2 c =
+    record {
+      reached = omega (arith, c .before .before .before .before .before .loop .inv .reached);
+      writing = writing-pass (c .before .before .before .before .before .loop .inv .writing) (c .before .before .before .before .loop-test .taken) (listed-inside _ _ _ _ _ _ (c .before .before .before .before .before .loop .inv .reached) (omega arith) (c .before .is-listed .ensures)) (c .if1 .left);
+    }
 
 same-length : tie.Need-same-length Inv-loop μ-loop
 same-length c = c .before .loop .inv .writing .laying .front .long
@@ -99,32 +115,4 @@ unfolding listedIn
 returns c = rw frames-cells (writing-all (c .before .loop .inv .writing) (c .loop-test .left))
 
 pub write-joins-spec : {M : Type 1} → statement M
-write-joins-spec =
-    tie.close
-    (tie.spec
-    Inv-loop
-    μ-loop
-    add-end
-    sub-end
-    sub-i
-    cast-i
-    loop-holds
-    cast-position
-    add-position
-    mul-is-listed
-    shared-slice-read-is-listed
-    mul-is-listed-2
-    shared-slice-read-is-listed-2
-    is-listed-requires
-    add-i
-    sub-lay-change
-    part-lay-change-start
-    part-lay-change-end
-    lay-change-requires
-    add-at
-    loop-less
-    loop-again
-    loop-less-2
-    loop-again-2
-    same-length
-    returns)
+write-joins-spec = tie.close (tie.spec Inv-loop μ-loop add-end sub-end sub-i cast-i loop-holds cast-position add-position mul-is-listed shared-slice-read-is-listed mul-is-listed-2 shared-slice-read-is-listed-2 is-listed-requires add-i sub-lay-join part-lay-join-start part-lay-join-end lay-join-requires add-at loop-less loop-again loop-less-2 loop-again-2 same-length returns)

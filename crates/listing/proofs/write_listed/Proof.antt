@@ -3,15 +3,16 @@ use Prim.Native.Nat.{_+_, _-_, _≤_}
 use mathlib.Core.Path.{refl}
 use native.Mathlib.Omega.{arith}
 use lib.ListN.{length}
-use Rattle.listing.specs.Picked.{listedIn}
+use Rattle.listing.specs.Picked.{listedAt, listedIn}
 use Rattle.listing.proofs.Writing.{one, cells-same, writing-fits, writing-store, writing-pass, writing-all}
-use Rattle.listing.proofs.Listing.{Listing, listing-start, listed-inside}
+use Rattle.listing.proofs.Windows.{Listing, listing-start}
+use Rattle.listing.proofs.Listing.{listed-inside, listed-early}
 use borrow.Author.Needs.{needs}
 use Rattle.listing.proofs.write_listed.Statement.{statement}
 use Rattle.listing.proofs.write_listed.Tie as tie
 
 abbrev Inv-loop : tie.InvT-loop
-Inv-loop lower-ends upper-ends first a b out₀ end at₀ i₀ out at i = Listing first a b lower-ends upper-ends one out₀ out at i
+Inv-loop lower-ends upper-ends first a b out₀ end at₀ i₀ out at i = Listing (listedAt a b first lower-ends upper-ends) first a b one out₀ out at i
 
 abbrev μ-loop : tie.MeasureT-loop
 μ-loop lower-ends upper-ends first a b out₀ end at₀ i₀ out at i = end - i
@@ -29,7 +30,10 @@ cast-i : tie.Need-cast-i Inv-loop μ-loop
 cast-i c = search needs
 
 loop-holds : tie.Need-loop-holds Inv-loop μ-loop
-loop-holds c = listing-start _ _ _ _ _ _ _ (c .before .before .before .pre .0) (rw cells-same (c .before .before .before .pre .1))
+unfolding listedIn
+loop-holds c =
+    let within = c .before .before .before .pre .0 in
+    listing-start _ _ _ _ (within .low) (within .near) (listed-early _ _ _ _ _) _ _ (rw cells-same (c .before .before .before .pre .1))
 
 cast-position : tie.Need-cast-position Inv-loop μ-loop
 cast-position c = search needs

@@ -1,11 +1,11 @@
 -- `past` meets its contract: refused, it leaves everything as it was; accepted, it writes the list if there is room.
-use Rattle.looking.proofs.Listing.{window-in, pair-in, pair-passed, past-refused, past-done}
+use Rattle.looking.proofs.Listing.{window-in, pair-in, sizes-passed, past-refused, past-done}
 use borrow.Author.Needs.{needs}
 use Rattle.looking.proofs.past.Statement.{statement}
 use Rattle.looking.proofs.past.Tie as tie
 
-judge-pair-requires : tie.Need-judge-pair-requires
-judge-pair-requires c κs = search needs
+judge-sizes-requires : tie.Need-judge-sizes-requires
+judge-sizes-requires c κs = search needs
 
 enum-told : tie.Need-enum-told
 enum-told c = search needs
@@ -14,28 +14,28 @@ enum-told-2 : tie.Need-enum-told-2
 enum-told-2 c = search needs
 
 returns : tie.Need-returns
-returns c = past-refused _ _ _ _ _ (c .before .before .judge-pair .ensures) (c .enum-told2 .given .1)
+returns c = past-refused _ _ _ _ _ (c .before .before .judge-sizes .ensures) (c .enum-told2 .given .1)
 
 start-of-requires : tie.Need-start-of-requires
-start-of-requires c κs = pair-passed _ _ _ _ (c .before .before .judge-pair .ensures) (c .enum-told .given .1) .0 .whole .low-newest
+start-of-requires c κs = sizes-passed _ _ _ _ (c .before .before .judge-sizes .ensures) (c .enum-told .given .1) .0 .whole .low-newest
 
 end-of-requires : tie.Need-end-of-requires
-end-of-requires c κs = pair-passed _ _ _ _ (c .before .before .before .judge-pair .ensures) (c .before .enum-told .given .1) .0 .whole .low-newest
+end-of-requires c κs = sizes-passed _ _ _ _ (c .before .before .before .judge-sizes .ensures) (c .before .enum-told .given .1) .0 .whole .low-newest
 
 write-list-requires : tie.Need-write-list-requires
-write-list-requires c κs = let p = pair-passed _ _ _ _ (c .before .before .before .before .before .judge-pair .ensures) (c .before .before .before .enum-told .given .1) in let w = pair-in _ _ (p .0) (p .1) (p .2) (p .3) (c .before .before .start-of .ensures) (c .before .end-of .ensures) in (p .0 .whole .low-newest, window-in _ _ (p .0) _ _ (w .0) (w .1) (w .2))
+write-list-requires c κs = let p = sizes-passed _ _ _ _ (c .before .before .before .before .before .judge-sizes .ensures) (c .before .before .before .enum-told .given .1) in let w = pair-in _ _ (p .0) (p .1) (p .2) (p .3) (c .before .before .start-of .ensures) (c .before .end-of .ensures) in (p .0 .whole .low-newest, window-in _ _ (p .0) _ _ (w .0) (w .1) (w .2))
 
 same-length : tie.Need-same-length
 same-length c = search needs
 
 returns-2 : tie.Need-returns-2
-returns-2 c = past-done _ _ _ _ _ (c .before .before .before .before .before .before .before .before .judge-pair .ensures) (c .before .before .before .before .before .before .enum-told .given .1) (c .before .before .before .before .before .start-of .ensures) (c .before .before .before .before .end-of .ensures) (c .before .before .write-list .ensures)
+returns-2 c = past-done _ _ _ _ _ (c .before .before .before .before .before .before .before .before .judge-sizes .ensures) (c .before .before .before .before .before .before .enum-told .given .1) (c .before .before .before .before .before .start-of .ensures) (c .before .before .before .before .end-of .ensures) (c .before .before .write-list .ensures)
 
 pub past-spec : {M : Type 1} → statement M
 past-spec =
     tie.close
     (tie.spec
-    judge-pair-requires
+    judge-sizes-requires
     enum-told
     enum-told-2
     returns

@@ -12,7 +12,7 @@ count-listed-requires : tie.Need-count-listed-requires
 count-listed-requires c κs = rw (c .start-of .ensures) (c .before .before .before .before .pre .1)
 
 returns : tie.Need-returns
-returns c = rw (← c .before .before .start-of .ensures) (shown-none _ _ _ (omega (arith, c .if1 .taken, c .before .count-listed .ensures)))
+returns c = rw (← c .before .before .start-of .ensures) (shown-none _ _ _ _ (omega (arith, c .if1 .taken, c .before .count-listed .ensures)))
 
 write-listed-requires : tie.Need-write-listed-requires
 write-listed-requires c κs = (rw (c .before .before .before .start-of .ensures) (c .before .before .before .before .before .before .before .pre .1), omega (arith, c .before .if1 .left, c .before .before .count-listed .ensures))

@@ -30,7 +30,7 @@ part-put-change-end : tie.Need-part-put-change-end Inv-loop μ-loop
 part-put-change-end c = search needs
 
 put-change-requires : tie.Need-put-change-requires Inv-loop μ-loop
-put-change-requires c κs = (omega (arith, c .before .before .loop .inv .ahead), λ t. simp (length-take, length-drop) (omega (arith, printing-room _ (c .before .before .loop .inv) (omega arith) t)))
+put-change-requires c κs = (omega (arith, c .before .before .loop .inv .ahead), simp (length-take, length-drop) (omega (arith, printing-room _ (c .before .before .loop .inv) (omega arith))))
 
 add-at : tie.Need-add-at Inv-loop μ-loop
 add-at c = omega (arith, printing-used _ (c .before .before .before .before .before .loop .inv) (omega arith) (c .before .before .put-change .ensures) refl)

@@ -27,7 +27,7 @@ part-write-end : tie.Need-part-write-end
 part-write-end c = search needs
 
 write-requires : tie.Need-write-requires
-write-requires c κs = (countable (entering (c .before .before .before .before .before .before .before .before .before .before .before .before)), writable (entering (c .before .before .before .before .before .before .before .before .before .before .before .before)) (c .before .before .before .before .before .before .before .before .before .before .before .before .pre .1 .1 .1))
+write-requires c κs = (countable (entering (c .before .before .before .before .before .before .before .before .before .before .before .before)), (writable (entering (c .before .before .before .before .before .before .before .before .before .before .before .before)), c .before .before .before .before .before .before .before .before .before .before .before .before .pre .1 .1 .1))
 
 enum-told : tie.Need-enum-told
 enum-told c = search needs

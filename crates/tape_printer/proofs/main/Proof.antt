@@ -12,7 +12,7 @@ use Rattle.tape_printer.proofs.main.Statement.{statement}
 use Rattle.tape_printer.proofs.main.Tie as tie
 
 abbrev Inv-loop : tie.InvT-loop
-Inv-loop columns₀ positions₀ lower-ends₀ upper-ends₀ bytes₀ tape₀ text₀ stand₀ turns₀ columns positions lower-ends upper-ends bytes tape text stand turns = (stand .used ≤ length text) × (stand .place ≤ stand .end) × (stand .end ≤ length tape) × (length tape ≡ 65536) × (length text ≡ 273624) × Reached (world (stand .head) (tables columns positions lower-ends upper-ends) (stand .watches))
+Inv-loop columns₀ positions₀ lower-ends₀ upper-ends₀ bytes₀ tape₀ text₀ stand₀ turns₀ columns positions lower-ends upper-ends bytes tape text stand turns = (stand .used ≤ length text) × (stand .place ≤ stand .end) × (stand .end ≤ length tape) × (length tape ≡ 65536) × (length text ≡ 291168) × Reached (world (stand .head) (tables columns positions lower-ends upper-ends) (stand .watches))
 
 abbrev μ-loop : tie.MeasureT-loop
 μ-loop columns₀ positions₀ lower-ends₀ upper-ends₀ bytes₀ tape₀ text₀ stand₀ turns₀ columns positions lower-ends upper-ends bytes tape text stand turns = turns

@@ -6,7 +6,7 @@ use denote.Ref.{now}
 use Prim.Native.Nat.{_-_}
 use lib.ListN.{length, length-take, length-drop}
 use borrow.Rule.Slice.PartMut.{same-len-mid}
-use Rattle.tape.specs.Steps.{ready}
+use Rattle.tape_model.specs.Streams.{ready}
 use Rattle.tape.proofs.Reached.{step-reached}
 use Rattle.tape_printer.specs.Stands.{left}
 use Rattle.tape_printer.proofs.Advancing.{stepped-on, stepped-fits, Playing, fits-as, same-reached, less-left}

@@ -1,8 +1,8 @@
 -- `end` meets its contract: refused, it leaves everything as it was; accepted, it removes n.
 use mathlib.Core.Path.{refl}
-use borrow.Author.Needs.{needs}
 use Rattle.model.specs.Book.{endReply, endWatches}
 use Rattle.model.proofs.Replying.{refused-reply, refused-left, accepted-reply, accepted-left}
+use borrow.Author.Needs.{needs}
 use Rattle.watching.proofs.end.Statement.{statement}
 use Rattle.watching.proofs.end.Tie as tie
 
@@ -22,27 +22,15 @@ returns c =
     let f = c .enum-told2 .given .1 in
     record { reply = refused-reply e f _ _ _; watches = refused-left e f _ _ }
 
-after-watch-requires : tie.Need-after-watch-requires
-after-watch-requires c κs = search needs
-
 remove-requires : tie.Need-remove-requires
 remove-requires c κs = search needs
 
 returns-2 : tie.Need-returns-2
 unfolding endReply endWatches
 returns-2 c =
-    let e = c .before .before .before .before .judge-end .ensures in
-    let f = c .before .before .enum-told .given .1 in
-    record { reply = accepted-reply e f _ (c .before .after-watch .ensures) refl; watches = accepted-left e f _ (c .remove .ensures) }
+    let e = c .before .before .before .judge-end .ensures in
+    let f = c .before .enum-told .given .1 in
+    record { reply = accepted-reply e f _ refl refl; watches = accepted-left e f _ (c .remove .ensures) }
 
 pub end-spec : {M : Type 1} → statement M
-end-spec =
-    tie.close
-    (tie.spec
-    judge-end-requires
-    enum-told
-    enum-told-2
-    returns
-    after-watch-requires
-    remove-requires
-    returns-2)
+end-spec = tie.close (tie.spec judge-end-requires enum-told enum-told-2 returns remove-requires returns-2)

@@ -1,8 +1,8 @@
 -- `message_at` meets its contract: the shape says which numbers stand within the body.
 use mathlib.Core.Path.{sym, _∙_}
 use native.Mathlib.Omega.{arith}
-use Rattle.frames.proofs.Shapes.{size-body, change-body, pair-body, open-body}
-use Rattle.frames.proofs.ReadCases.{quote-message, size-message, change-message, pair-message, open-message, unknown-message}
+use Rattle.frames.proofs.Shapes.{size-body, change-body, pair-body, position-body, open-body}
+use Rattle.frames.proofs.ReadCases.{quote-message, size-message, change-message, pair-message, bare-message, position-message, open-message, unknown-message}
 use borrow.Author.Needs.{needs}
 use Rattle.frames.proofs.reader.message_at.Statement.{statement}
 use Rattle.frames.proofs.reader.message_at.Tie as tie
@@ -46,23 +46,32 @@ two-at-requires-4 c κs = omega (arith, pair-body _ (sym (c .before .before .bef
 enum-told-5 : tie.Need-enum-told-5
 enum-told-5 c = search needs
 
-shared-slice-read-t14 : tie.Need-shared-slice-read-t14
-shared-slice-read-t14 c = omega (arith, open-body _ (sym (c .before .before .before .shape-of .ensures) ∙ c .before .enum-told5 .given .1))
+enum-told-6 : tie.Need-enum-told-6
+enum-told-6 c = search needs
+
+four-at-requires-2 : tie.Need-four-at-requires-2
+four-at-requires-2 c κs = omega (arith, position-body _ (sym (c .before .before .shape-of .ensures) ∙ c .enum-told6 .given .1))
+
+enum-told-7 : tie.Need-enum-told-7
+enum-told-7 c = search needs
+
+shared-slice-read-t15 : tie.Need-shared-slice-read-t15
+shared-slice-read-t15 c = omega (arith, open-body _ (sym (c .before .before .before .shape-of .ensures) ∙ c .before .enum-told7 .given .1))
 
 add-two-at-2 : tie.Need-add-two-at-2
 add-two-at-2 c = search needs
 
 two-at-requires-5 : tie.Need-two-at-requires-5
-two-at-requires-5 c κs = omega (arith, open-body _ (sym (c .before .before .before .shape-of .ensures) ∙ c .before .enum-told5 .given .1))
+two-at-requires-5 c κs = omega (arith, open-body _ (sym (c .before .before .before .shape-of .ensures) ∙ c .before .enum-told7 .given .1))
 
-add-t17 : tie.Need-add-t17
-add-t17 c = search needs
+add-t18 : tie.Need-add-t18
+add-t18 c = search needs
 
-shared-slice-read-t19 : tie.Need-shared-slice-read-t19
-shared-slice-read-t19 c = omega (arith, open-body _ (sym (c .before .before .before .before .before .shape-of .ensures) ∙ c .before .before .before .enum-told5 .given .1))
+shared-slice-read-t20 : tie.Need-shared-slice-read-t20
+shared-slice-read-t20 c = omega (arith, open-body _ (sym (c .before .before .before .before .before .shape-of .ensures) ∙ c .before .before .before .enum-told7 .given .1))
 
-enum-told-6 : tie.Need-enum-told-6
-enum-told-6 c = search needs
+enum-told-8 : tie.Need-enum-told-8
+enum-told-8 c = search needs
 
 returns : tie.Need-returns
 returns c = quote-message _ _ _ (sym (c .before .before .shape-of .ensures) ∙ c .enum-told .given .1)
@@ -77,10 +86,16 @@ returns-4 : tie.Need-returns-4
 returns-4 c = pair-message _ _ _ (sym (c .before .before .before .before .shape-of .ensures) ∙ c .before .before .enum-told4 .given .1) (c .before .two-at3 .ensures) (c .two-at4 .ensures)
 
 returns-5 : tie.Need-returns-5
-returns-5 c = open-message _ _ _ (sym (c .before .before .before .before .before .shape-of .ensures) ∙ c .before .before .before .enum-told5 .given .1) (c .before .two-at5 .ensures)
+returns-5 c = bare-message _ _ _ (sym (c .before .before .shape-of .ensures) ∙ c .enum-told5 .given .1)
 
 returns-6 : tie.Need-returns-6
-returns-6 c = unknown-message _ _ _ (sym (c .before .before .shape-of .ensures) ∙ c .enum-told6 .given .1)
+returns-6 c = position-message _ _ _ (sym (c .before .before .before .shape-of .ensures) ∙ c .before .enum-told6 .given .1) (c .four-at2 .ensures)
+
+returns-7 : tie.Need-returns-7
+returns-7 c = open-message _ _ _ (sym (c .before .before .before .before .before .shape-of .ensures) ∙ c .before .before .before .enum-told7 .given .1) (c .before .two-at5 .ensures)
+
+returns-8 : tie.Need-returns-8
+returns-8 c = unknown-message _ _ _ (sym (c .before .before .shape-of .ensures) ∙ c .enum-told8 .given .1)
 
 pub message-at-spec : {M : Type 1} → statement M
 message-at-spec =
@@ -99,15 +114,20 @@ message-at-spec =
     add-two-at
     two-at-requires-4
     enum-told-5
-    shared-slice-read-t14
+    enum-told-6
+    four-at-requires-2
+    enum-told-7
+    shared-slice-read-t15
     add-two-at-2
     two-at-requires-5
-    add-t17
-    shared-slice-read-t19
-    enum-told-6
+    add-t18
+    shared-slice-read-t20
+    enum-told-8
     returns
     returns-2
     returns-3
     returns-4
     returns-5
-    returns-6)
+    returns-6
+    returns-7
+    returns-8)

@@ -29,6 +29,18 @@ enum-known-message-4 c = search needs
 has-shape-requires-4 : tie.Need-has-shape-requires-4
 has-shape-requires-4 c κs = search needs
 
+enum-known-message-5 : tie.Need-enum-known-message-5
+enum-known-message-5 c = search needs
+
+has-shape-requires-5 : tie.Need-has-shape-requires-5
+has-shape-requires-5 c κs = search needs
+
+enum-known-message-6 : tie.Need-enum-known-message-6
+enum-known-message-6 c = search needs
+
+has-shape-requires-6 : tie.Need-has-shape-requires-6
+has-shape-requires-6 c κs = search needs
+
 enum-told : tie.Need-enum-told
 enum-told c = search needs
 
@@ -56,15 +68,23 @@ returns-4 c = rw (c .before .before .message4 .given .1) (c .has-shape4 .ensures
 
 returns-5 : tie.Need-returns-5
 unfolding framed
-returns-5 c = rw (c .enum-told .given .1)
+returns-5 c = rw (c .before .before .message5 .given .1) (c .has-shape5 .ensures)
 
 returns-6 : tie.Need-returns-6
 unfolding framed
-returns-6 c = rw (c .enum-told2 .given .1)
+returns-6 c = rw (c .before .before .message6 .given .1) (c .has-shape6 .ensures)
 
 returns-7 : tie.Need-returns-7
 unfolding framed
-returns-7 c = rw (c .enum-told3 .given .1)
+returns-7 c = rw (c .enum-told .given .1)
+
+returns-8 : tie.Need-returns-8
+unfolding framed
+returns-8 c = rw (c .enum-told2 .given .1)
+
+returns-9 : tie.Need-returns-9
+unfolding framed
+returns-9 c = rw (c .enum-told3 .given .1)
 
 pub framed-spec : {M : Type 1} → statement M
 framed-spec =
@@ -78,6 +98,10 @@ framed-spec =
     has-shape-requires-3
     enum-known-message-4
     has-shape-requires-4
+    enum-known-message-5
+    has-shape-requires-5
+    enum-known-message-6
+    has-shape-requires-6
     enum-told
     enum-told-2
     enum-told-3
@@ -87,4 +111,6 @@ framed-spec =
     returns-4
     returns-5
     returns-6
-    returns-7)
+    returns-7
+    returns-8
+    returns-9)

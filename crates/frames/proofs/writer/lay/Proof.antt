@@ -1,7 +1,8 @@
 -- `lay` meets its contract: each message by the function that lays its frame.
 use Rattle.lists.specs.Lists.{laid}
+use Rattle.octets.proofs.Laying.{laid-one}
 use Rattle.frames.specs.Frames.{frame}
-use Rattle.frames.proofs.WriteCases.{quote-fits, size-fits, change-fits, pair-fits, open-fits}
+use Rattle.frames.proofs.WriteCases.{quote-fits, size-fits, change-fits, pair-fits, bare-fits, position-fits, open-fits}
 use borrow.Author.Needs.{needs}
 use Rattle.frames.proofs.writer.lay.Statement.{statement}
 use Rattle.frames.proofs.writer.lay.Tie as tie
@@ -33,8 +34,20 @@ lay-pair-requires c κs = pair-fits _ _ (c .before .before .before .before .befo
 enum-known-message-5 : tie.Need-enum-known-message-5
 enum-known-message-5 c = search needs
 
+slice-write-out : tie.Need-slice-write-out
+slice-write-out c = bare-fits _ _ (c .before .before .before .before .pre .0) (c .before .before .before .before .pre .1)
+
+enum-known-message-6 : tie.Need-enum-known-message-6
+enum-known-message-6 c = search needs
+
+lay-position-requires : tie.Need-lay-position-requires
+lay-position-requires c κs = position-fits _ _ (c .before .before .before .before .before .pre .0) (c .before .before .before .before .before .pre .1) _ _ (c .before .before .message6 .given .1)
+
+enum-known-message-7 : tie.Need-enum-known-message-7
+enum-known-message-7 c = search needs
+
 lay-open-requires : tie.Need-lay-open-requires
-lay-open-requires c κs = open-fits _ _ (c .before .before .before .before .before .pre .0) (c .before .before .before .before .before .pre .1) _ _ _ (c .before .before .message5 .given .1)
+lay-open-requires c κs = open-fits _ _ (c .before .before .before .before .before .pre .0) (c .before .before .before .before .before .pre .1) _ _ _ (c .before .before .message7 .given .1)
 
 enum-told : tie.Need-enum-told
 enum-told c = search needs
@@ -75,15 +88,30 @@ same-length-5 c = search needs
 
 returns-5 : tie.Need-returns-5
 unfolding frame
-returns-5 c = rw (c .before .before .before .before .before .message5 .given .1) (c .before .before .lay-open .ensures)
+returns-5 c =
+    rw (c .before .message5 .given .1) (laid-one _ _ (bare-fits _ _ (c .before .before .before .before .pre .0) (c .before .before .before .before .pre .1)))
+
+same-length-6 : tie.Need-same-length-6
+same-length-6 c = search needs
 
 returns-6 : tie.Need-returns-6
-unfolding frame laid
-returns-6 c = rw (c .enum-told .given .1)
+unfolding frame
+returns-6 c = rw (c .before .before .before .before .before .message6 .given .1) (c .before .before .lay-position .ensures)
+
+same-length-7 : tie.Need-same-length-7
+same-length-7 c = search needs
 
 returns-7 : tie.Need-returns-7
+unfolding frame
+returns-7 c = rw (c .before .before .before .before .before .message7 .given .1) (c .before .before .lay-open .ensures)
+
+returns-8 : tie.Need-returns-8
 unfolding frame laid
-returns-7 c = rw (c .enum-told2 .given .1)
+returns-8 c = rw (c .enum-told .given .1)
+
+returns-9 : tie.Need-returns-9
+unfolding frame laid
+returns-9 c = rw (c .enum-told2 .given .1)
 
 pub lay-spec : {M : Type 1} → statement M
 lay-spec =
@@ -98,6 +126,10 @@ lay-spec =
     enum-known-message-4
     lay-pair-requires
     enum-known-message-5
+    slice-write-out
+    enum-known-message-6
+    lay-position-requires
+    enum-known-message-7
     lay-open-requires
     enum-told
     enum-told-2
@@ -111,5 +143,9 @@ lay-spec =
     returns-4
     same-length-5
     returns-5
+    same-length-6
     returns-6
-    returns-7)
+    same-length-7
+    returns-7
+    returns-8
+    returns-9)

@@ -2,7 +2,8 @@
 use native.Mathlib.Omega.{arith}
 use lib.ListN.{length-take}
 use Rattle.turns.proofs.Rooms.{quote-fits}
-use Rattle.tape.proofs.Plays.{quote-few, columns-six, quote-played, other-played}
+use Rattle.asking.proofs.Places.{quote-few}
+use Rattle.tape.proofs.Plays.{columns-six, quote-played, other-played}
 use borrow.Author.Needs.{needs}
 use Rattle.tape.proofs.playing.play.Statement.{statement}
 use Rattle.tape.proofs.playing.play.Tie as tie

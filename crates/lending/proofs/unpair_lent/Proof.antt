@@ -1,0 +1,27 @@
+-- `unpair_lent` meets its contract: fewer than eight records are refused, and of more only eight are asked.
+use native.Mathlib.Omega.{arith}
+use Rattle.lending.proofs.Fewer.{unpair-eight, unpair-few}
+use borrow.Author.Needs.{needs}
+use Rattle.lending.proofs.unpair_lent.Statement.{statement}
+use Rattle.lending.proofs.unpair_lent.Tie as tie
+
+few-requires : tie.Need-few-requires
+few-requires c κs = search needs
+
+returns : tie.Need-returns
+returns c =
+    let a = c .before .before .before .before .before .before .args in
+    unpair-few (a .watches) (a .lent) (omega arith) _ _ (c .few .ensures)
+
+unpair-requires : tie.Need-unpair-requires
+unpair-requires c κs = search needs
+
+returns-2 : tie.Need-returns-2
+returns-2 c =
+    let s = c .before .before .before .before .before .before in
+    let a = s .args in
+    let g = s .good .1 .1 .1 .1 .1 .0 in
+    unpair-eight (a .watches) (a .lent) _ _ (omega (arith, g)) (c .unpair .ensures)
+
+pub unpair-lent-spec : {M : Type 1} → statement M
+unpair-lent-spec = tie.close (tie.spec few-requires returns unpair-requires returns-2)

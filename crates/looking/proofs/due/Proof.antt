@@ -1,0 +1,35 @@
+-- `due` meets its contract: refused, or with no pair, it leaves everything as it was; else it writes the rows that are due if there is room.
+use native.Mathlib.Omega.{arith}
+use Rattle.looking.proofs.DueLooks.{due-passed, due-window, due-refused, due-none, due-done}
+use borrow.Author.Needs.{needs}
+use Rattle.looking.proofs.due.Statement.{statement}
+use Rattle.looking.proofs.due.Tie as tie
+
+judge-requires : tie.Need-judge-requires
+judge-requires c κs = search needs
+
+enum-told : tie.Need-enum-told
+enum-told c = search needs
+
+enum-told-2 : tie.Need-enum-told-2
+enum-told-2 c = search needs
+
+returns : tie.Need-returns
+returns c = due-refused _ _ _ (c .before .before .judge .ensures) (c .enum-told2 .given .1)
+
+returns-2 : tie.Need-returns-2
+returns-2 c = due-none _ _ _ (c .before .before .before .before .judge .ensures) (c .before .before .enum-told .given .1) (c .if1 .taken)
+
+write-rows-requires : tie.Need-write-rows-requires
+write-rows-requires c κs =
+    let s = due-passed _ _ (c .before .before .before .before .before .judge .ensures) (c .before .before .before .enum-told .given .1) (c .before .if1 .left) in
+    (s .passed .whole .low-newest, (omega (arith, s .pair), (omega (arith, s .pair, s .passed .settings), due-window _ _ s)))
+
+same-length : tie.Need-same-length
+same-length c = search needs
+
+returns-3 : tie.Need-returns-3
+returns-3 c = due-done _ _ _ (c .before .before .before .before .before .before .before .before .judge .ensures) (c .before .before .before .before .before .before .enum-told .given .1) (due-passed _ _ (c .before .before .before .before .before .before .before .before .judge .ensures) (c .before .before .before .before .before .before .enum-told .given .1) (c .before .before .before .before .if1 .left)) (c .before .before .write-rows .ensures)
+
+pub due-spec : {M : Type 1} → statement M
+due-spec = tie.close (tie.spec judge-requires enum-told enum-told-2 returns returns-2 write-rows-requires same-length returns-3)

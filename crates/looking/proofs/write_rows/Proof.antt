@@ -1,0 +1,49 @@
+-- `write_rows` meets its contract: nothing is written where the rows' cells do not fit.
+use native.Mathlib.Omega.{arith}
+use Rattle.skyline.specs.Skyline.{windowStart}
+use Rattle.listing.proofs.DueRows.{due-few}
+use Rattle.looking.proofs.DueLooks.{rows-none, rows-all}
+use borrow.Author.Needs.{needs}
+use Rattle.looking.proofs.write_rows.Statement.{statement}
+use Rattle.looking.proofs.write_rows.Tie as tie
+
+start-of-requires : tie.Need-start-of-requires
+start-of-requires c κs = search needs
+
+sub-start-of : tie.Need-sub-start-of
+sub-start-of c = search needs
+
+start-of-requires-2 : tie.Need-start-of-requires-2
+start-of-requires-2 c κs = search needs
+
+start-of-requires-3 : tie.Need-start-of-requires-3
+start-of-requires-3 c κs = search needs
+
+count-due-requires : tie.Need-count-due-requires
+count-due-requires c κs = search needs
+
+mul-cells : tie.Need-mul-cells
+mul-cells c =
+    let known = c .before .before .before .before .before .before .before .args in
+    let few = due-few (c .before .before .before .before .start-of .result) (c .before .before .start-of2 .result) (known .head .newest) (c .before .start-of3 .result) (known .lower-ends .now) in
+    omega (arith, few, c .count-due .ensures)
+
+returns : tie.Need-returns
+returns c = rows-none _ _ _ (c .before .before .before .before .before .start-of .ensures) (c .before .before .before .start-of2 .ensures) (c .before .before .start-of3 .ensures) (c .before .count-due .ensures) (c .if1 .taken)
+
+write-due-requires : tie.Need-write-due-requires
+unfolding windowStart
+write-due-requires c κs =
+    let pre = c .before .before .before .before .before .before .before .before .before .pre in (
+      rw (c .before .before .before .before .before .before .start-of .ensures, c .before .before .before .before .start-of2 .ensures) (pre .1 .1 .1),
+      (omega (arith, c .before .before .before .before .start-of2 .ensures, pre), (omega (arith, pre), omega (arith, c .before .if1 .left, c .before .before .count-due .ensures))),
+    )
+
+same-length : tie.Need-same-length
+same-length c = search needs
+
+returns-2 : tie.Need-returns-2
+returns-2 c = rows-all _ _ _ (c .before .before .before .before .before .before .before .before .before .start-of .ensures) (c .before .before .before .before .before .before .before .start-of2 .ensures) (c .before .before .before .before .before .before .start-of3 .ensures) (c .before .before .before .before .before .count-due .ensures) (c .before .before .before .before .if1 .left) (c .before .before .write-due .ensures)
+
+pub write-rows-spec : {M : Type 1} → statement M
+write-rows-spec = tie.close (tie.spec start-of-requires sub-start-of start-of-requires-2 start-of-requires-3 count-due-requires mul-cells returns write-due-requires same-length returns-2)

@@ -1,0 +1,53 @@
+-- `sized` meets its contract: the number fits, and the letter says which message.
+use mathlib.Core.Path.{_≡_, sym, _∙_}
+use native.Mathlib.Omega.{arith}
+use lib.ListN.{getD}
+use borrow.Author.Needs.{needs}
+use borrow.Author.Tests.{not-true, not-false}
+use Rattle.notation.proofs.Reading.{fits-two, of-look, of-watch, of-end, of-other, sized-not, sized-of}
+use Rattle.notation.specs.Lines.{nothing, ofNumber, sizedOf}
+use Rattle.notation.proofs.lines.sized.Statement.{statement}
+use Rattle.notation.proofs.lines.sized.Tie as tie
+
+fits-requires : tie.Need-fits-requires
+fits-requires c κs = search needs
+
+returns : tie.Need-returns
+unfolding nothing
+returns c = sized-not _ _ (sym (c .before .fits2 .ensures) ∙ not-true _ (c .if1 .taken))
+
+array-read-n : tie.Need-array-read-n
+array-read-n c = search needs
+
+cast-n : tie.Need-cast-n
+cast-n c = omega (arith, fits-two _ (sym (c .before .fits2 .ensures) ∙ not-false _ (c .if1 .left)))
+
+-- the message of the number
+by-number : (c : tie.Else1) → let a = c .before .before .before .args in ofNumber (a .letter) (getD (a .fields .numbers) 0 0) ≡ sizedOf (a .letter) (a .fields)
+by-number c = sized-of _ _ (sym (c .before .fits2 .ensures) ∙ not-false _ (c .if1 .left))
+
+returns-2 : tie.Need-returns-2
+returns-2 c = of-look _ _ (c .match .keys1) ∙ by-number (c .before)
+
+returns-3 : tie.Need-returns-3
+returns-3 c = of-watch _ _ (c .match .keys2) ∙ by-number (c .before)
+
+returns-4 : tie.Need-returns-4
+returns-4 c = of-end _ _ (c .match .keys3) ∙ by-number (c .before)
+
+returns-5 : tie.Need-returns-5
+unfolding nothing
+returns-5 c = of-other _ _ (c .match .rest .0 .0 .1) (c .match .rest .0 .1) (c .match .rest .1) ∙ by-number (c .before)
+
+pub sized-spec : {M : Type 1} → statement M
+sized-spec =
+    tie.close
+    (tie.spec
+    fits-requires
+    returns
+    array-read-n
+    cast-n
+    returns-2
+    returns-3
+    returns-4
+    returns-5)

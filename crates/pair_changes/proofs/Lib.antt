@@ -1,0 +1,5 @@
+-- The laws of the crate.
+pub mod Seeking
+pub mod Sliding
+pub mod Tallying
+pub mod Pairs

@@ -1,0 +1,28 @@
+-- `falls` meets its contract: nothing is read where the window does not move on.
+use native.Mathlib.Omega.{arith}
+use Rattle.pair_changes.proofs.Sliding.{falls-none, falls-is}
+use borrow.Author.Needs.{needs}
+use Rattle.pair_changes.proofs.windows.falls.Statement.{statement}
+use Rattle.pair_changes.proofs.windows.falls.Tie as tie
+
+returns : tie.Need-returns
+returns c = falls-none _ _ _ _ (c .if1 .taken)
+
+sub-upper : tie.Need-sub-upper
+sub-upper c = search needs
+
+cast-upper : tie.Need-cast-upper
+cast-upper c = search needs
+
+mul-upper : tie.Need-mul-upper
+mul-upper c = search needs
+
+shared-slice-read-upper : tie.Need-shared-slice-read-upper
+shared-slice-read-upper c = omega (arith, c .before .before .before .before .pre .0, c .before .before .before .before .pre .1 (c .before .before .if1 .left))
+
+returns-2 : tie.Need-returns-2
+returns-2 c = falls-is _ _ _ _ (c .before .before .before .if1 .left)
+
+pub falls-spec : {M : Type 1} → statement M
+falls-spec =
+    tie.close (tie.spec returns sub-upper cast-upper mul-upper shared-slice-read-upper returns-2)

@@ -1,0 +1,88 @@
+-- What a call that changes no record leaves is told by the first eight of them.
+use mathlib.Core.Path.{_≡_, refl, sym, _∙_, ap}
+use Prim.Native.Nat.{ℕ, zero, suc}
+use native.Mathlib.Omega.{arith}
+use mathlib.Core.Bool.{Bool}
+use mathlib.Core.List.{List, [], _∷_, _++_, map}
+use lib.Dec.{ltb, leb·suc-zero, leb·suc-suc}
+use lib.ListN.{length, take, replicate, length-map}
+use lib.Seq.{take-take, take-nil}
+use Rattle.head.specs.declared.Head.{Head}
+use Rattle.head.specs.declared.Reply.{Reply}
+use Rattle.head.specs.declared.Watch.{Watch}
+use Rattle.model.specs.Rows.{Tables}
+use Rattle.model.specs.Book.{shortLoan, standing, tornWatches, watchfulAnswer, quoteRows, quoteHead, quoteBytes, quoteAnswer, quoteReply, quoteTables, quoteOut, pairBytes, pairAnswer, pairReply, pairOut, unpairAnswer, unpairReply}
+use Rattle.watches.specs.Records.{watched, firstEight}
+use Rattle.model.specs.Promises.{Quoted, Paired, Unpaired}
+
+-- as many numbers as there are records, of eight that are read off them
+pub lent-front : (ws : List ℕ) → take (length ws) (firstEight ws) ≡ take 8 ws
+unfolding firstEight
+lent-front ws = go 8 ws (replicate 8 0)
+  where
+    go : (n : ℕ) (xs ys : List ℕ) → take (length xs) (take n (xs ++ ys)) ≡ take n xs
+    go zero xs ys = take-nil (length xs)
+    go (suc n) [] ys = refl
+    go (suc n) (x ∷ xs) ys = ap (λ (l : List ℕ). x ∷ l) (go n xs ys)
+
+-- a list is too short exactly if its front is
+few-in : (n : ℕ) (ws : List ℕ) → ltb (length (take n ws)) n ≡ ltb (length ws) n
+few-in zero ws = sym (leb·suc-zero (length ws))
+few-in (suc n) [] = refl
+few-in (suc n) (w ∷ ws) = leb·suc-suc (suc (length (take n ws))) n ∙ few-in n ws ∙ sym (leb·suc-suc (suc (length ws)) n)
+
+module _ (ws : List ℕ) where
+  torn-front : (N : ℕ) → tornWatches N (take 8 ws) ≡ tornWatches N ws
+  unfolding tornWatches
+  torn-front N = rw (take-take 8 8 ws (omega arith))
+
+  pub standing-front : standing (take 8 ws) ≡ standing ws
+  unfolding standing
+  standing-front = rw (take-take 8 8 ws (omega arith))
+
+  pub short-front : (t : Tables) (d N : ℕ) → shortLoan t (take 8 ws) d N ≡ shortLoan t ws d N
+  unfolding shortLoan
+  short-front t d N = rw (few-in 8 ws)
+
+  pub watchful-front : (h : Head) (t : Tables) (more : List (Bool × ℕ)) → watchfulAnswer h t (take 8 ws) more ≡ watchfulAnswer h t ws more
+  unfolding watchfulAnswer
+  watchful-front h t more = rw (short-front t (h .dimensions) (h .capacity), torn-front (h .capacity))
+
+  quote-front : (h : Head) (x : List ℕ) (t : Tables) (room : ℕ) → quoteAnswer h x t (take 8 ws) room ≡ quoteAnswer h x t ws room
+  unfolding quoteAnswer quoteBytes quoteHead quoteRows
+  quote-front h x t room = rw (standing-front, watchful-front h t)
+
+  bytes-front : (h : Head) (x : List ℕ) (t : Tables) → quoteBytes h x t (take 8 ws) ≡ quoteBytes h x t ws
+  unfolding quoteBytes quoteHead quoteRows
+  bytes-front h x t = rw standing-front
+
+-- ---- the records ys, of which the numbers are read off
+module _ (ys : List Watch) where
+  abbrev ws : List ℕ
+  ws = watched ys
+
+  pub front : {ns : List ℕ} → ns ≡ firstEight ws → take (length ys) ns ≡ take 8 ws
+  unfolding watched
+  front e = rw (e, ← length-map ys Watch.n) (lent-front (map Watch.n ys))
+
+  -- a quote on as many numbers as records are lent is one on the records
+  pub quote-records : (h : Head) (x : List ℕ) (t : Tables) {ns : List ℕ} → ns ≡ firstEight ws → {before : List ℕ} {r : Reply} {t' : Tables} {after : List ℕ} → Quoted h x t (take (length ys) ns) before r t' after → Quoted h x t ws before r t' after
+  unfolding quoteReply quoteTables quoteOut quoteHead quoteRows
+  quote-records h x t e m =
+      record {
+        reply = m .reply ∙ rw (front e, quote-front ws h x t, bytes-front ws h x t);
+        lent = m .lent ∙ rw (front e, quote-front ws h x t);
+        out = m .out ∙ rw (front e, quote-front ws h x t, bytes-front ws h x t);
+      }
+
+  -- so is a watch of the pair
+  pub pair-records : (h : Head) (n1 n2 : ℕ) (t : Tables) {ns : List ℕ} → ns ≡ firstEight ws → {before : List ℕ} {r : Reply} {after : List ℕ}
+      → Paired h n1 n2 t (take (length ys) ns) before r after → Paired h n1 n2 t ws before r after
+  unfolding pairReply pairOut pairAnswer pairBytes
+  pair-records h n1 n2 t e m = record { reply = m .reply ∙ rw (front e, watchful-front ws h t); out = m .out ∙ rw (front e, watchful-front ws h t) }
+
+  -- and its end
+  pub unpair-records : (h : Head) (t : Tables) {ns : List ℕ} → ns ≡ firstEight ws → {r : Reply}
+      → Unpaired h t (take (length ys) ns) r → Unpaired h t ws r
+  unfolding unpairReply unpairAnswer
+  unpair-records h t e m = record { reply = m .reply ∙ rw (front e, watchful-front ws h t) }

@@ -1,0 +1,101 @@
+// The calls that read the lent watch records and change none: the quote, the watch of the pair and its end.
+ghost use Rattle.watches.specs.Records.{watched};
+ghost use Rattle.model.specs.Promises.{tables, Quoted, Paired, Unpaired};
+use head::Head;
+use head::Reply;
+use head::Watch;
+use lending::pair_lent;
+use lending::quote_lent;
+use lending::unpair_lent;
+use watches::numbers;
+
+// Takes a quote: writes the changes of every watch, puts the quote's row into the tables, and hands back the next head
+// and how many bytes were written.
+pub fn quote(
+    head: Head,
+    quote: &[u32],
+    columns: &mut [u32],
+    positions: &mut [u32],
+    lower_ends: &mut [u32],
+    upper_ends: &mut [u32],
+    watches: &[Watch],
+    out: &mut [u8],
+) -> Reply
+    ensures { λ r. ⌜ Quoted head (now (quote .entry))
+        (tables (now (columns .entry)) (now (positions .entry)) (now («lower_ends» .entry)) (now («upper_ends» .entry)))
+        (watched (now (watches .entry))) (now (out .entry)) r
+        (tables (now (columns .exit)) (now (positions .exit)) (now («lower_ends» .exit)) (now («upper_ends» .exit))) (now (out .exit)) ⌝ }
+{
+    let before = numbers(watches);
+    let lent = watches.len();
+    quote_lent(
+        head,
+        quote,
+        columns,
+        positions,
+        lower_ends,
+        upper_ends,
+        before,
+        lent,
+        out,
+    )
+}
+
+// Sets the watch of the pair n1 and n2 and writes a join for each position of its past list; hands back the head with the pair and how many bytes.
+pub fn pair(
+    head: Head,
+    n1: u32,
+    n2: u32,
+    columns: &[u32],
+    positions: &[u32],
+    lower_ends: &[u32],
+    upper_ends: &[u32],
+    watches: &[Watch],
+    out: &mut [u8],
+) -> Reply
+    ensures { λ r. ⌜ Paired head n1 n2
+        (tables (now (columns .entry)) (now (positions .entry)) (now («lower_ends» .entry)) (now («upper_ends» .entry)))
+        (watched (now (watches .entry)))
+        (now (out .entry)) r (now (out .exit)) ⌝ }
+{
+    let before = numbers(watches);
+    let lent = watches.len();
+    pair_lent(
+        head,
+        n1,
+        n2,
+        columns,
+        positions,
+        lower_ends,
+        upper_ends,
+        before,
+        lent,
+        out,
+    )
+}
+
+// Ends the watch of the pair.
+pub fn unpair(
+    head: Head,
+    columns: &[u32],
+    positions: &[u32],
+    lower_ends: &[u32],
+    upper_ends: &[u32],
+    watches: &[Watch],
+) -> Reply
+    ensures { λ r. ⌜ Unpaired head
+        (tables (now (columns .entry)) (now (positions .entry)) (now («lower_ends» .entry)) (now («upper_ends» .entry)))
+        (watched (now (watches .entry))) r ⌝ }
+{
+    let before = numbers(watches);
+    let lent = watches.len();
+    unpair_lent(
+        head,
+        columns,
+        positions,
+        lower_ends,
+        upper_ends,
+        before,
+        lent,
+    )
+}

@@ -1,0 +1,350 @@
+-- The print of every tape by the book model is the print by the reference model, which is lent nothing but lengths.
+use mathlib.Core.Path.{_≡_, refl, sym, ap, ap₂, _∙_}
+use mathlib.Core.Logic.{_⊎_, inl, inr}
+use Prim.Native.Nat.{ℕ, zero, suc, _*_, _≤_, zero-le}
+use native.Mathlib.Nat.{mul-le-mul-right, le-refl}
+use mathlib.Core.Bool.{Bool, true, false, _||_, cond}
+use mathlib.Core.List.{List, [], _++_, map}
+use lib.Dec.{ltb}
+use lib.ListN.{length, take, drop, replicate, length-map, length-replicate}
+use lib.Seq.{take-append-seam, take-all}
+use borrow.Author.Tests.{ltb-false}
+use Rattle.lists.specs.Lists.{flat, laid}
+use Rattle.lists.proofs.Booleans.{none-left, none-right, clash}
+use Rattle.lists.proofs.Writing.{length-laid, length-padded}
+use Rattle.head.specs.Refusals.{granted}
+use Rattle.head.specs.Heads.{settingsHold}
+use Rattle.head.proofs.Numbers.{zero-passed}
+use Rattle.frames.specs.Frames.{readAt}
+use Rattle.model.specs.Rows.{Row, Tables, filled}
+use Rattle.model.specs.Reference.{Reference, Lengths, unopened, opened, rowsOf, headOf, withQuote, withWatched, withPairOf, opening, tooShort, tells, referenceStep}
+use Rattle.model.specs.Book.{shortTables, shortLoan}
+use Rattle.model.specs.Calls.{Call, Open, Quote, Look, Watch, End, Past, Pair, Unpair, Due, Outputs, Lent, bookStep, lengthsOf, shown, expectedStep, runs, worldFirst}
+use Rattle.model.proofs.Tables.{cells-counted}
+use Rattle.model.proofs.Sound.{rows-few, rows-wide}
+use Rattle.model.proofs.Simulation.{Invariant, Simulation, Agree, referenceWith, some-capacity, shown-opened, long-tables, long-records}
+use Rattle.model.proofs.Replay.{call-agrees, replay-ends}
+use Rattle.asking.specs.Asking.{Asked, finished, unread, misplaced, request, asked}
+use Rattle.tape_model.specs.Print.{Answered, linesOf, textOf}
+use Rattle.tape_model.specs.Play.{Played, playAsked, playAt, printFrom, print, referenceMake, Player, bookMake, begun}
+use Rattle.tape_model.specs.Ample.{Reaches, start, onward}
+
+-- ---- lengths
+
+-- what holds where a call is accepted, and where it is refused, holds of what is granted
+either-way : {A : Type 0} (P : A → Type 0) (n : ℕ) (x y : A) → (n ≡ 0 → P x) → P y → P (granted n x y)
+unfolding granted
+either-way P zero x y f g = f refl
+either-way P (suc k) x y f g = g
+
+-- what is lent is long enough for the settings that were taken
+abbrev Long : Lent → Reference → Type 0
+Long l s = opened s ≡ true → shortLoan (l .tables) (l .watches) (s .dimensions) (s .capacity) ≡ false
+
+-- it still is after a call: only an accepted opening takes settings, and it is refused where something is too short
+long-after : (l : Lent) (o : Outputs) (c : Call) (s : Reference) → Long l s → Long l (referenceStep c (lengthsOf l o) s .next)
+unfolding referenceStep tells lengthsOf opening opened withQuote withWatched withPairOf tooShort shortLoan shortTables
+long-after l o (Open d N directions) s h =
+    either-way (Long l) _ (opening d N directions) s (λ e _. zero-passed _ _ _ (zero-passed _ _ _ e .1) .0) h
+long-after l o (Quote x) s h = either-way (Long l) _ (withQuote s x) s (λ _. h) h
+long-after l o (Look n) s h = either-way (Long l) _ s s (λ _. h) h
+long-after l o (Watch n) s h = either-way (Long l) _ (withWatched s _) s (λ _. h) h
+long-after l o (End n) s h = either-way (Long l) _ (withWatched s _) s (λ _. h) h
+long-after l o (Past n1 n2) s h = either-way (Long l) _ s s (λ _. h) h
+long-after l o (Pair n1 n2) s h = either-way (Long l) _ (withPairOf s n1 n2) s (λ _. h) h
+long-after l o Unpair s h = either-way (Long l) _ (withPairOf s 0 0) s (λ _. h) h
+long-after l o Due s h = either-way (Long l) _ s s (λ _. h) h
+
+module _ (s : Reference) (l kept : Lent) (o : Outputs) (f : Invariant s kept) (enough : shortLoan (l .tables) (l .watches) (s .dimensions) (s .capacity) ≡ false) where
+  -- the rows are at most N
+  few : length (rowsOf s) ≤ s .capacity
+  few = rows-few s (some-capacity s kept f)
+
+  -- tables that are long enough keep their lengths when they are filled with the rows of a reference model
+  filled-lengths : lengthsOf (shown s l) o ≡ lengthsOf l o
+  unfolding filled shortTables lengthsOf
+  filled-lengths =
+      let long = long-tables t (l .watches) d N enough in
+      let one = ltb (length (t .columns)) (N * d) in
+      let two = ltb (length (t .positions)) N in
+      let three = ltb (length (t .lowerEnds)) N in
+      let four = ltb (length (t .upperEnds)) N in
+      let first-three = none-left ((one || two) || three) four long in
+      let first-two = none-left (one || two) three first-three in
+      rw (
+        shown-opened s l (f .settings),
+        length-padded (N * d) (flat (map Row.columns rs)) (t .columns) (rw (cells-counted d rs (rows-wide s (f .wide))) (mul-le-mul-right d few))
+            (ltb-false (length (t .columns)) (N * d) (none-left one two first-two)),
+        length-padded N (map Row.position rs) (t .positions) (rw length-map few) (ltb-false (length (t .positions)) N (none-right one two first-two)),
+        length-padded N (map Row.lowerEnd rs) (t .lowerEnds) (rw length-map few) (ltb-false (length (t .lowerEnds)) N (none-right (one || two) three first-three)),
+        length-padded N (map Row.upperEnd rs) (t .upperEnds) (rw length-map few) (ltb-false (length (t .upperEnds)) N (none-right ((one || two) || three) four long)),
+        length-padded 8 (s .watched) (l .watches) (f .eight) (long-records t (l .watches) d N enough),
+      )
+    where
+      t : Tables
+      t = l .tables
+
+      d : ℕ
+      d = s .dimensions
+
+      N : ℕ
+      N = s .capacity
+
+      rs : List Row
+      rs = rowsOf s
+
+-- what is lent keeps its lengths
+lengths-kept : (s : Reference) (l kept : Lent) (o : Outputs) → Long l s → (s ≡ unopened) ⊎ Invariant s kept → lengthsOf (shown s l) o ≡ lengthsOf l o
+unfolding shown opened settingsHold
+lengths-kept s l kept o h (inl e) = rw e
+lengths-kept s l kept o h (inr f) = filled-lengths s l kept o f (h (f .settings))
+
+-- what is written as bytes is no longer than their output
+bytes-fit : (c : Call) (lengths : Lengths) (s : Reference) → length (referenceStep c lengths s .bytes) ≤ lengths .bytes
+unfolding referenceStep tells
+bytes-fit (Open d N directions) lengths s = either-way (λ (w : List ℕ). length w ≤ lengths .bytes) _ [] [] (λ _. zero-le) zero-le
+bytes-fit (Quote x) lengths s =
+    either-way (λ (w : List ℕ). length w ≤ lengths .bytes) _ _ []
+    (λ e. ltb-false (lengths .bytes) _ (zero-passed _ _ _ (zero-passed _ _ _ (zero-passed _ _ _ (zero-passed _ _ _ e .1) .1) .1) .0)) zero-le
+bytes-fit (Look n) lengths s = either-way (λ (w : List ℕ). length w ≤ lengths .bytes) _ [] [] (λ _. zero-le) zero-le
+bytes-fit (Watch n) lengths s =
+    either-way (λ (w : List ℕ). length w ≤ lengths .bytes) _ _ []
+    (λ e. ltb-false (lengths .bytes) _ (zero-passed _ _ _ (zero-passed _ _ _ (zero-passed _ _ _ (zero-passed _ _ _ (zero-passed _ _ _ e .1) .1) .1) .1) .0)) zero-le
+bytes-fit (End n) lengths s = either-way (λ (w : List ℕ). length w ≤ lengths .bytes) _ [] [] (λ _. zero-le) zero-le
+bytes-fit (Past n1 n2) lengths s = either-way (λ (w : List ℕ). length w ≤ lengths .bytes) _ [] [] (λ _. zero-le) zero-le
+bytes-fit (Pair n1 n2) lengths s =
+    either-way (λ (w : List ℕ). length w ≤ lengths .bytes) _ _ []
+    (λ e. ltb-false (lengths .bytes) _ (zero-passed _ _ _ (zero-passed _ _ _ (zero-passed _ _ _ (zero-passed _ _ _ (zero-passed _ _ _ e .1) .1) .1) .1) .0)) zero-le
+bytes-fit Unpair lengths s = either-way (λ (w : List ℕ). length w ≤ lengths .bytes) _ [] [] (λ _. zero-le) zero-le
+bytes-fit Due lengths s = either-way (λ (w : List ℕ). length w ≤ lengths .bytes) _ [] [] (λ _. zero-le) zero-le
+
+-- and so no longer than the bytes that are lent
+bytes-room : (l : Lent) (o : Outputs) (c : Call) (s : Reference) → length (referenceStep c (lengthsOf l o) s .bytes) ≤ length (o .bytes)
+unfolding lengthsOf
+bytes-room l o c s = bytes-fit c (lengthsOf l o) s
+
+-- outputs with bytes of the same length, and the same cells
+outputs-alike : (l : Lent) (o : Outputs) (bytes : List ℕ) → length bytes ≡ length (o .bytes) → lengthsOf l (record { bytes = bytes; cells = o .cells }) ≡ lengthsOf l o
+unfolding lengthsOf
+outputs-alike l o bytes e = rw e
+
+-- ---- one call
+
+-- what is granted has this length
+granted-length : (n : ℕ) (w : List ℕ) → granted n (length w) 0 ≡ length (granted n w [])
+unfolding granted
+granted-length zero w = refl
+granted-length (suc k) w = refl
+
+-- what a call wrote, read from the output that it was laid into
+read-laid : {count : ℕ} (written out : List ℕ) → count ≡ length written → take count (laid written out) ≡ take count written
+unfolding laid
+read-laid written out e =
+    rw e (take-append-seam written (drop (length written) out) ∙ sym (take-all (length written) written (le-refl (length written))))
+
+module _ (lengths : Lengths) (s : Reference) where
+  -- the count of a quote, of a watch, of the two looks and of a pair is that of what it wrote
+  quote-count : (x : List ℕ) → referenceStep (Quote x) lengths s .count ≡ length (referenceStep (Quote x) lengths s .bytes)
+  unfolding referenceStep tells
+  quote-count x = granted-length _ _
+
+  watch-count : (n : ℕ) → referenceStep (Watch n) lengths s .count ≡ length (referenceStep (Watch n) lengths s .bytes)
+  unfolding referenceStep tells
+  watch-count n = granted-length _ _
+
+  look-count : (n : ℕ) → referenceStep (Look n) lengths s .count ≡ length (referenceStep (Look n) lengths s .cells)
+  unfolding referenceStep tells
+  look-count n = granted-length _ _
+
+  past-count : (n1 n2 : ℕ) → referenceStep (Past n1 n2) lengths s .count ≡ length (referenceStep (Past n1 n2) lengths s .cells)
+  unfolding referenceStep tells
+  past-count n1 n2 = granted-length _ _
+
+  pair-count : (n1 n2 : ℕ) → referenceStep (Pair n1 n2) lengths s .count ≡ length (referenceStep (Pair n1 n2) lengths s .bytes)
+  unfolding referenceStep tells
+  pair-count n1 n2 = granted-length _ _
+
+  -- what a call answered, with its writing laid into these outputs
+  abbrev laidInto : Call → Outputs → Answered
+  laidInto c o =
+      let told = referenceStep c lengths s in record {
+        outcome = record { number = told .number; head = told .head; count = told .count };
+        outputs = record { bytes = laid (told .bytes) (o .bytes); cells = laid (told .cells) (o .cells) };
+      }
+
+  -- prints the same lines
+  laid-text : (c : Call) (o : Outputs) → textOf c (laidInto c o) ≡ textOf c (referenceMake lengths c s .0)
+  unfolding textOf linesOf referenceMake
+  laid-text (Open d N directions) o = refl
+  laid-text (Quote x) o = rw (read-laid (referenceStep (Quote x) lengths s .bytes) (o .bytes) (quote-count x))
+  laid-text (Look n) o = rw (read-laid (referenceStep (Look n) lengths s .cells) (o .cells) (look-count n))
+  laid-text (Watch n) o = rw (read-laid (referenceStep (Watch n) lengths s .bytes) (o .bytes) (watch-count n))
+  laid-text (End n) o = refl
+  laid-text (Past n1 n2) o = rw (read-laid (referenceStep (Past n1 n2) lengths s .cells) (o .cells) (past-count n1 n2))
+  laid-text (Pair n1 n2) o = rw (read-laid (referenceStep (Pair n1 n2) lengths s .bytes) (o .bytes) (pair-count n1 n2))
+  laid-text Unpair o = refl
+  laid-text Due o = refl
+
+-- between two frames: the book simulates the reference model, and what it is lent has the lengths that the reference model is lent
+pub record Alike (lengths : Lengths) (s : Reference) (k : Player) : Type 0 where
+  pub simulation : Simulation (referenceWith s (k .world .lent)) (k .world)
+  pub lent : lengthsOf (k .world .lent) (k .outputs) ≡ lengths
+
+-- what is lent is then long enough
+alike-long : (s : Reference) (l : Lent) → (s ≡ unopened) ⊎ Invariant s l → Long l s
+unfolding opened settingsHold
+alike-long s l (inl e) t = absurd (clash false (rw e at t) refl)
+alike-long s l (inr f) t = f .long
+
+module _ (lengths : Lengths) (c : Call) (s : Reference) (k : Player) (v : Alike lengths s k) where
+  -- what is lent
+  abbrev l : Lent
+  l = k .world .lent
+
+  -- the reference model tells the same
+  told-alike : referenceStep c (lengthsOf l (k .outputs)) s ≡ referenceStep c lengths s
+  told-alike = ap (λ (n : Lengths). referenceStep c n s) (v .lent)
+
+  -- the call is seen alike, and the book simulates the reference model after it
+  agree : Agree c (k .outputs) (referenceWith s l) (k .world)
+  agree = call-agrees c (k .outputs) (referenceWith s l) (k .world) (v .simulation)
+
+  -- what the book answered
+  answered : bookMake c k .0 ≡ laidInto lengths s c (k .outputs)
+  unfolding bookMake expectedStep
+  answered = rw (agree .0, told-alike)
+
+  -- a call has the same number in both models
+  pub number-alike : bookMake c k .0 .outcome .number ≡ referenceMake lengths c s .0 .outcome .number
+  unfolding referenceMake
+  number-alike = ap (λ (a : Answered). a .outcome .number) answered
+
+  -- and prints the same lines
+  pub text-alike : textOf c (bookMake c k .0) ≡ textOf c (referenceMake lengths c s .0)
+  text-alike = ap (textOf c) answered ∙ laid-text lengths s c (k .outputs)
+
+  -- and leaves them alike
+  pub left-alike : Alike lengths (referenceMake lengths c s .1) (bookMake c k .1)
+  unfolding bookMake referenceMake expectedStep
+  left-alike = rw (← told-alike) record {
+    simulation = record { head = j .head; lent = refl; since = rw (j .lent) (j .since) };
+    lent =
+        rw (j .lent, agree .0)
+        (outputs-alike (shown next l) (k .outputs) _ (length-laid (referenceStep c (lengthsOf l (k .outputs)) s .bytes) (k .outputs .bytes) (bytes-room l (k .outputs) c s))
+        ∙ lengths-kept next l (shown next l) (k .outputs) (long-after l (k .outputs) c s (alike-long s l (v .simulation .since))) (j .since))
+        ∙ v .lent;
+  }
+    where
+      next : Reference
+      next = referenceStep c (lengthsOf l (k .outputs)) s .next
+
+      j : Simulation (expectedStep c (k .outputs) (referenceWith s l) .1) (bookStep c (k .outputs) (k .world) .1)
+      j = agree .1
+
+-- ---- one frame, and all of them
+
+-- an opening was accepted by both models or by neither
+begun-alike : {lengths : Lengths} (s : Reference) (k : Player) → Alike lengths s k → begun k ≡ opened s
+unfolding begun opened headOf
+begun-alike s k v = rw (v .simulation .head)
+
+-- two players after one frame: the same number, the same lines and the same place, both over or neither, and the models alike
+pub record Matches (lengths : Lengths) (one : Played Player) (other : Played Reference) : Type 0 where
+  pub number : one .number ≡ other .number
+  pub text : one .text ≡ other .text
+  pub next : one .next ≡ other .next
+  pub over : one .over ≡ other .over
+  pub state : Alike lengths (other .state) (one .state)
+
+module _ (lengths : Lengths) where
+  -- what is asked at a place is played alike
+  asked-matches : (a : Asked) (next : ℕ) (s : Reference) (k : Player) → Alike lengths s k
+      → Matches lengths (playAsked begun bookMake a next k) (playAsked opened (referenceMake lengths) a next s)
+  unfolding playAsked
+  asked-matches finished next s k v = record { number = refl; text = refl; next = refl; over = refl; state = v }
+  asked-matches (unread e) next s k v = record { number = refl; text = refl; next = refl; over = refl; state = v }
+  asked-matches misplaced next s k v = record { number = refl; text = refl; next = refl; over = refl; state = v }
+  asked-matches (request c) next s k v =
+      record { number = number-alike lengths c s k v; text = text-alike lengths c s k v; next = refl; over = refl; state = left-alike lengths c s k v }
+
+  -- one frame is played alike by both models
+  pub frame-agrees : (tape : List ℕ) (place : ℕ) (s : Reference) (k : Player) → Alike lengths s k
+      → Matches lengths (playAt begun bookMake tape place k) (playAt opened (referenceMake lengths) tape place s)
+  unfolding playAt
+  frame-agrees tape place s k v =
+      let read = readAt tape place in
+      rw (begun-alike s k v) (asked-matches (asked (opened s) (read .says) (read .columns)) (read .next) s k v)
+
+  -- and so is any number of frames
+  pub frames-agree : (frames : ℕ) (tape : List ℕ) (place : ℕ) (s : Reference) (k : Player) → Alike lengths s k
+      → printFrom begun bookMake frames tape place k ≡ printFrom opened (referenceMake lengths) frames tape place s
+  unfolding printFrom
+  frames-agree zero tape place s k v = refl
+  frames-agree (suc frames) tape place s k v =
+      let m = frame-agrees tape place s k v in
+      let rest = frames-agree frames tape _ _ _ (m .state) in
+      ap₂ {C = List ℕ} (λ (x y : List ℕ). x ++ y) (m .text) (ap₂ {C = List ℕ} (λ (o : Bool) (x : List ℕ). cond o [] x) (m .over) (rw (m .next) rest))
+
+-- a book that has not been opened: a head of zeros, with anything lent
+abbrev pub atFirst : Lent → Outputs → Player
+atFirst l o = record { world = worldFirst l; outputs = o }
+
+-- it stands alike with the reference model before any opening
+at-first : (l : Lent) (o : Outputs) → Alike (lengthsOf l o) unopened (atFirst l o)
+unfolding runs
+at-first l o = record { simulation = replay-ends [] l; lent = refl }
+
+-- the print of every tape by the book is the print by the reference model, whatever the tables, the watch records and the outputs hold
+-- and however long they are
+pub print-agrees : (tape : List ℕ) (l : Lent) (o : Outputs)
+    → print begun bookMake tape (record { world = worldFirst l; outputs = o }) ≡ print opened (referenceMake (lengthsOf l o)) tape unopened
+unfolding print
+print-agrees tape l o = frames-agree (lengthsOf l o) (suc (length tape)) tape 0 unopened (atFirst l o) (at-first l o)
+
+-- the lines of the first frames of a tape are the reference model's too
+pub prefix-agrees : (frames : ℕ) (tape : List ℕ) (l : Lent) (o : Outputs)
+    → printFrom begun bookMake frames tape 0 (record { world = worldFirst l; outputs = o }) ≡ printFrom opened (referenceMake (lengthsOf l o)) frames tape 0 unopened
+prefix-agrees frames tape l o = frames-agree (lengthsOf l o) frames tape 0 unopened (atFirst l o) (at-first l o)
+
+-- ---- where a tape comes to
+
+-- tables and watch records of zeros with these lengths
+abbrev blank : Lengths → Lent
+blank lengths = record {
+  tables = record {
+    columns = replicate (lengths .columns) 0;
+    positions = replicate (lengths .positions) 0;
+    lowerEnds = replicate (lengths .lowerEnds) 0;
+    upperEnds = replicate (lengths .upperEnds) 0;
+  };
+  watches = replicate (lengths .watches) 0;
+}
+
+-- and such outputs
+abbrev blankOutputs : Lengths → Outputs
+blankOutputs lengths = record { bytes = replicate (lengths .bytes) 0; cells = replicate (lengths .cells) 0 }
+
+module _ (lengths : Lengths) where
+  blank-lengths : lengthsOf (blank lengths) (blankOutputs lengths) ≡ lengths
+  unfolding lengthsOf
+  blank-lengths =
+      rw (
+        length-replicate {A = ℕ} (lengths .columns) 0,
+        length-replicate {A = ℕ} (lengths .positions) 0,
+        length-replicate {A = ℕ} (lengths .lowerEnds) 0,
+        length-replicate {A = ℕ} (lengths .upperEnds) 0,
+        length-replicate {A = ℕ} (lengths .watches) 0,
+        length-replicate {A = ℕ} (lengths .bytes) 0,
+        length-replicate {A = ℕ} (lengths .cells) 0,
+      )
+
+  -- for all lengths there is a book that begins alike
+  pub begins-alike : (k : Player) × Alike lengths unopened k
+  begins-alike = (atFirst (blank lengths) (blankOutputs lengths), rw blank-lengths at (at-first (blank lengths) (blankOutputs lengths)))
+
+  -- and wherever a tape comes to, the book has come to stand alike
+  pub reached-alike : (tape : List ℕ) {place : ℕ} {s : Reference} → Reaches opened (referenceMake lengths) tape unopened place s → (k : Player) × Alike lengths s k
+  reached-alike tape start = begins-alike
+  reached-alike tape (onward {place} {s} h o) =
+      let t = reached-alike tape h in
+      (playAt begun bookMake tape place (t .0) .state, frame-agrees lengths tape place s (t .0) (t .1) .state)

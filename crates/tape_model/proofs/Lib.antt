@@ -1,0 +1,6 @@
+-- The laws of the crate.
+pub mod Agrees
+pub mod Streaming
+pub mod Changed
+pub mod NeverShort
+pub mod Worked

@@ -1,0 +1,270 @@
+-- With ample lengths no call of a tape is refused with 11 or 13, and the print does not depend on the lengths.
+use mathlib.Core.Path.{_≡_, refl, sym, ap, _∙_}
+use Prim.Native.Nat.{ℕ, zero, suc, _+_, _-_, _*_, _≤_}
+use native.Mathlib.Nat.{mul-le-mul-right, zero-mul, suc-mul}
+use native.Mathlib.Omega.{arith}
+use mathlib.Core.Bool.{Bool, true, false, not, cond}
+use mathlib.Core.List.{List, [], _∷_, _++_, map}
+use lib.Dec.{ltb, leb, eqb}
+use lib.ListN.{length, replicate, length-append, length-replicate}
+use borrow.Author.Tests.{le-ltb, eq-eqb, not-false}
+use Rattle.lists.specs.Lists.{any, flat, contains, between}
+use Rattle.lists.proofs.Booleans.{clash, none-left, none-right}
+use Rattle.lists.proofs.Filters.{length-filter}
+use Rattle.lists.proofs.Runs.{length-run}
+use Rattle.skyline.specs.Skyline.{windowStart, dominatedIn, skyline}
+use Rattle.head.specs.declared.Refusal.the-variants.{Settings, ColumnCount, WindowSize, TapeFull, AlreadyWatched, NoFreeRecord, ShortLoan, ShortOutput, WindowOrder}
+use Rattle.head.specs.Refusals.{number, firstOf}
+use Rattle.head.specs.Heads.{settingsHold, lastPosition}
+use Rattle.head.proofs.Numbers.{firstOf-alike, firstOf-fails}
+use Rattle.head.proofs.Settings.{settings-within}
+use Rattle.octets.specs.Bytes.{bytes2, bytes4}
+use Rattle.frames.specs.declared.Message.{Message}
+use Rattle.frames.specs.Frames.{frame, readAt}
+use Rattle.model.specs.Changes.{join, pairJoin, frames}
+use Rattle.model.specs.Reference.{Reference, Lengths, unopened, newest, over, skylineOf, pastOf, paired, opened, outside, outsidePast, outsidePair, tooShort, tells, referenceStep}
+use Rattle.model.specs.Book.{watchfulAnswer, quoteAnswer, quoteReply, replyOf}
+use Rattle.model.specs.Calls.{Call, Open, Quote, Look, Watch, End, Past, Pair, Unpair, Due, Outputs, Lent, Seen, World, bookSeen, bookStep, lengthsOf, worldFirst, expectedStep}
+use Rattle.model.proofs.Simulation.{Simulation, referenceWith, in-range, in-past-range, in-pair-range}
+use Rattle.model.proofs.Replay.{call-agrees}
+use Rattle.model.proofs.ChangesFit.{room-suffices}
+use Rattle.asking.specs.Asking.{Asked, finished, unread, misplaced, request, asked, playable}
+use Rattle.asking.proofs.Places.{asksPlayable, asked-playable}
+use Rattle.tape_model.specs.Play.{playAsked, playAt, printFrom, print, referenceMake, Player, bookMake, begun}
+use Rattle.tape_model.specs.Ample.{Reaches, Ample, Unshort}
+use Rattle.tape_model.proofs.Agrees.{print-agrees, Alike, frame-agrees, begins-alike, reached-alike}
+
+-- ---- an opening
+
+-- settings that hold find ample lengths long enough
+roomy : (lengths : Lengths) (d N directions : ℕ) → Ample lengths → settingsHold d N directions ≡ true → tooShort lengths d N ≡ false
+unfolding tooShort
+roomy lengths d N directions a e =
+    let w = settings-within d N directions e in
+    let few = w .few-columns in
+    let small = w .small-capacity in
+    rw (
+      le-ltb (lengths .columns) (N * d) (omega (arith, a .columns, mul-le-mul-right d small)),
+      le-ltb (lengths .positions) N (omega (arith, a .positions)),
+      le-ltb (lengths .lowerEnds) N (omega (arith, a .lowerEnds)),
+      le-ltb (lengths .upperEnds) N (omega (arith, a .upperEnds)),
+      le-ltb (lengths .watches) 8 (a .watches),
+    )
+
+-- ---- a look, a watch and a pair
+
+-- a skyline of positions from a to b has at most as many
+skyline-few : (dom : ℕ → ℕ → Bool) (a b : ℕ) → length (skyline dom a b) ≤ suc b - a
+unfolding skyline between
+skyline-few dom a b = omega (arith, length-filter (λ p. not (dominatedIn dom a b p)) (between a b), length-run a (suc b - a))
+
+-- a skyline of a window of n has at most n positions
+skyline-short : (s : Reference) (n : ℕ) → 1 ≤ n → length (skylineOf s n) ≤ n
+unfolding skylineOf windowStart
+skyline-short s n h = omega (arith, skyline-few (over s) (windowStart (newest s) n) (newest s))
+
+-- and so has one that begins there and ended before the newest
+past-short : (s : Reference) (n1 n2 : ℕ) → 1 ≤ n1 → n1 ≤ n2 → length (pastOf s n1 n2) ≤ n2
+unfolding pastOf windowStart
+past-short s n1 n2 h k = omega (arith, skyline-few (over s) (windowStart (newest s) n2) (newest s + 1 - n1))
+
+-- the list of an n in range fits into 1,024 cells
+list-short : (s : Reference) (n : ℕ) → opened s ≡ true → outside s n ≡ false → length (skylineOf s n) ≤ 1024
+unfolding opened
+list-short s n o e =
+    let r = in-range s n e in
+    let some = r .0 in
+    let most = r .1 in
+    let small = settings-within (s .dimensions) (s .capacity) (s .directions) o .small-capacity in
+    omega (arith, skyline-short s n some)
+
+-- and so does the past list of n1 and n2 in range
+past-list-short : (s : Reference) (n1 n2 : ℕ) → opened s ≡ true → 1 ≤ n1 → n1 ≤ n2 → n2 ≤ s .capacity → length (pastOf s n1 n2) ≤ 1024
+unfolding opened
+past-list-short s n1 n2 o some order most =
+    let small = settings-within (s .dimensions) (s .capacity) (s .directions) o .small-capacity in
+    omega (arith, past-short s n1 n2 some order)
+
+-- the frames of a join for each position have as many bytes as the frame of one, so many times
+joins-bytes : (joins : ℕ → Message) (each : ℕ) → ((p : ℕ) → length (frame (joins p) []) ≡ each) → (l : List ℕ) → length (frames (map joins l)) ≡ length l * each
+unfolding frames flat
+joins-bytes joins each one [] = sym (zero-mul each)
+joins-bytes joins each one (p ∷ l) =
+    length-append (frame (joins p) []) (frames (map joins l)) ∙ omega (arith, one p, joins-bytes joins each one l, suc-mul (length l) each)
+
+-- a join has seven bytes, so those of a watch are 7,168 bytes at most
+joins-short : (s : Reference) (n : ℕ) → opened s ≡ true → outside s n ≡ false → length (frames (map (join n) (skylineOf s n))) ≤ 7168
+unfolding frame bytes2 bytes4
+joins-short s n o e = omega (arith, joins-bytes (join n) 7 (λ p. refl) (skylineOf s n), list-short s n o e)
+
+-- one of the pair has five, so those of a pair are 5,120 bytes at most
+pair-joins-short : (s : Reference) (n1 n2 : ℕ) → opened s ≡ true → outsidePair s n1 n2 ≡ false → ltb n2 n1 ≡ false → length (frames (map pairJoin (pastOf s n1 n2))) ≤ 5120
+unfolding frame bytes4
+pair-joins-short s n1 n2 o e f =
+    let r = in-pair-range s n1 n2 e f in
+    let two = r .two in
+    omega (arith, joins-bytes pairJoin 5 (λ p. refl) (pastOf s n1 n2), past-list-short s n1 n2 o (omega arith) (r .order) (r .most))
+
+-- ---- a quote
+
+-- the reference model's answer to a quote is the book's
+quote-answered : (s : Reference) (w : World) → Simulation (referenceWith s (w .lent)) w → (x : List ℕ) (lengths : Lengths)
+    → referenceStep (Quote x) lengths s .number ≡ quoteAnswer (w .head) x (w .lent .tables) (w .lent .watches) (lengths .bytes)
+unfolding bookSeen bookStep expectedStep referenceStep tells lengthsOf quoteReply replyOf
+quote-answered s w j x lengths =
+    let e = length-replicate {A = ℕ} (lengths .bytes) 0 in
+    rw e at (sym (ap (λ (seen : Seen). seen .outcome .number) (call-agrees (Quote x) (record { bytes = replicate (lengths .bytes) 0; cells = [] }) (referenceWith s (w .lent)) w j .0)))
+
+-- ---- the answers with ample lengths
+
+module _ (lengths : Lengths) (a : Ample lengths) (s : Reference) where
+  -- an opening is judged by its settings alone
+  open-plain : (d N directions : ℕ) → referenceStep (Open d N directions) lengths s .number ≡ firstOf ((not (settingsHold d N directions), number Settings) ∷ [])
+  unfolding referenceStep tells
+  open-plain d N directions =
+      firstOf-alike (not (settingsHold d N directions)) (number Settings) _ []
+      (λ e. firstOf-fails (tooShort lengths d N) (number ShortLoan) [] (roomy lengths d N directions a (not-false (settingsHold d N directions) e)))
+
+  -- a look by its n alone
+  look-plain : (n : ℕ) → referenceStep (Look n) lengths s .number ≡ firstOf ((not (opened s), number Settings) ∷ (outside s n, number WindowSize) ∷ [])
+  unfolding referenceStep tells
+  look-plain n =
+      firstOf-alike (not (opened s)) (number Settings) _ _
+      (λ o. firstOf-alike (outside s n) (number WindowSize) _ [] (λ e. firstOf-fails (ltb (lengths .cells) (length (skylineOf s n))) (number ShortOutput) [] (le-ltb (lengths .cells) (length (skylineOf s n)) (omega (arith, a .cells, list-short s n (not-false (opened s) o) e)))))
+
+  -- a past look by its n1 and n2 alone
+  past-plain : (n1 n2 : ℕ)
+      → referenceStep (Past n1 n2) lengths s .number
+      ≡ firstOf ((not (opened s), number Settings) ∷ (outsidePast s n1 n2, number WindowSize) ∷ (ltb n2 n1, number WindowOrder) ∷ [])
+  unfolding referenceStep tells
+  past-plain n1 n2 =
+      firstOf-alike (not (opened s)) (number Settings) _ _
+      (λ o. firstOf-alike (outsidePast s n1 n2) (number WindowSize) _ _
+      (λ e. firstOf-alike (ltb n2 n1) (number WindowOrder) _ []
+      (λ f.
+      let r = in-past-range s n1 n2 e f in
+      firstOf-fails (ltb (lengths .cells) (length (pastOf s n1 n2))) (number ShortOutput) []
+      (le-ltb (lengths .cells) (length (pastOf s n1 n2)) (omega (arith, a .cells, past-list-short s n1 n2 (not-false (opened s) o) (r .0) (r .1) (r .2)))))))
+
+  -- a watch by its n and the watches
+  watch-plain : (n : ℕ)
+      → referenceStep (Watch n) lengths s .number
+      ≡ firstOf ((not (opened s), number Settings) ∷ (outside s n, number WindowSize) ∷ (contains n (s .watched), number AlreadyWatched) ∷ (leb 8 (length (s .watched)), number NoFreeRecord) ∷ [])
+  unfolding referenceStep tells
+  watch-plain n =
+      firstOf-alike (not (opened s)) (number Settings) _ _
+      (λ o. firstOf-alike (outside s n) (number WindowSize) _ _
+      (λ e. firstOf-alike (contains n (s .watched)) (number AlreadyWatched) _ _
+      (λ _. firstOf-alike (leb 8 (length (s .watched))) (number NoFreeRecord) _ []
+      (λ _. firstOf-fails (ltb (lengths .bytes) (length (frames (map (join n) (skylineOf s n))))) (number ShortOutput) [] (le-ltb (lengths .bytes) (length (frames (map (join n) (skylineOf s n)))) (omega (arith, a .bytes, joins-short s n (not-false (opened s) o) e)))))))
+
+  -- a pair by its n1 and n2 and whether one stands
+  pair-plain : (n1 n2 : ℕ)
+      → referenceStep (Pair n1 n2) lengths s .number
+      ≡ firstOf ((not (opened s), number Settings) ∷ (outsidePair s n1 n2, number WindowSize) ∷ (ltb n2 n1, number WindowOrder) ∷ (paired s, number NoFreeRecord) ∷ [])
+  unfolding referenceStep tells
+  pair-plain n1 n2 =
+      firstOf-alike (not (opened s)) (number Settings) _ _
+      (λ o. firstOf-alike (outsidePair s n1 n2) (number WindowSize) _ _
+      (λ e. firstOf-alike (ltb n2 n1) (number WindowOrder) _ _
+      (λ f. firstOf-alike (paired s) (number NoFreeRecord) _ []
+      (λ _. firstOf-fails (ltb (lengths .bytes) (length (frames (map pairJoin (pastOf s n1 n2))))) (number ShortOutput) []
+      (le-ltb (lengths .bytes) (length (frames (map pairJoin (pastOf s n1 n2)))) (omega (arith, a .bytes, pair-joins-short s n1 n2 (not-false (opened s) o) e f)))))))
+
+  -- a quote as the book judges it, by all but the length of the output
+  quote-plain : (w : World) → Simulation (referenceWith s (w .lent)) w → (x : List ℕ)
+      → referenceStep (Quote x) lengths s .number
+      ≡ watchfulAnswer (w .head) (w .lent .tables) (w .lent .watches) ((not (eqb (length x) (w .head .dimensions)), number ColumnCount) ∷ (leb lastPosition (w .head .newest), number TapeFull) ∷ [])
+  quote-plain w j x = quote-answered s w j x lengths ∙ room-suffices (w .head) x (w .lent .tables) (w .lent .watches) (lengths .bytes) (a .bytes)
+
+-- ---- never 11, never 13
+
+-- the number is among those of a list
+abbrev named : ℕ → List (Bool × ℕ) → Bool
+named k cs = any (λ c. eqb (c .1) k) cs
+
+-- a number that is not in the list is not the answer
+unnamed : (cs : List (Bool × ℕ)) (k : ℕ) → 1 ≤ k → named k cs ≡ false → firstOf cs ≡ k → ⊥
+unfolding firstOf any
+unnamed [] k some n e = absurd (omega arith)
+unnamed (c ∷ cs) k some n e = go (c .0) e (unnamed cs k some (none-right (eqb (c .1) k) (named k cs) n))
+  where
+    go : (b : Bool) → firstOf ((b, c .1) ∷ cs) ≡ k → (firstOf cs ≡ k → ⊥) → ⊥
+    go true f rest = clash (eqb (c .1) k) (eq-eqb (c .1) k f) (none-left (eqb (c .1) k) (named k cs) n)
+    go false f rest = rest f
+
+-- an answer by conditions of which none gives 11 or 13 is neither
+plainly : (cs : List (Bool × ℕ)) {answer : ℕ} → answer ≡ firstOf cs → named (number ShortLoan) cs ≡ false → named (number ShortOutput) cs ≡ false → Unshort answer
+plainly cs e u v = (λ f. unnamed cs (number ShortLoan) (omega arith) u (sym e ∙ f), λ f. unnamed cs (number ShortOutput) (omega arith) v (sym e ∙ f))
+
+module _ (lengths : Lengths) (a : Ample lengths) where
+  -- no call that a frame asks for is answered with 11 or 13
+  unshort : (c : Call) → playable c ≡ true → (s : Reference) (k : Player) → Alike lengths s k → Unshort (referenceMake lengths c s .0 .outcome .number)
+  unfolding referenceMake referenceStep tells watchfulAnswer any playable
+  unshort (Open d N directions) p s k v = plainly _ (open-plain lengths a s d N directions) refl refl
+  unshort (Quote x) p s k v =
+      let w = k .world in
+      (λ f. unnamed _ (number ShortLoan) (omega arith) refl f, λ f. unnamed _ (number ShortOutput) (omega arith) refl (sym (quote-plain lengths a s w (v .simulation) x) ∙ f))
+  unshort (Look n) p s k v = plainly _ (look-plain lengths a s n) refl refl
+  unshort (Watch n) p s k v = plainly _ (watch-plain lengths a s n) refl refl
+  unshort (End n) p s k v = plainly _ refl refl refl
+  unshort (Past n1 n2) p s k v = plainly _ (past-plain lengths a s n1 n2) refl refl
+  unshort (Pair n1 n2) p s k v = plainly _ (pair-plain lengths a s n1 n2) refl refl
+  unshort Unpair p s k v = plainly _ refl refl refl
+  unshort Due p s k v = absurd (clash false p refl)
+
+  -- wherever a tape comes to, no call that a frame asks for is answered with 11 or 13
+  pub never-short : (tape : List ℕ) (place : ℕ) (s : Reference) → Reaches opened (referenceMake lengths) tape unopened place s
+      → (c : Call) → playable c ≡ true → Unshort (referenceMake lengths c s .0 .outcome .number)
+  never-short tape place s h c p = let t = reached-alike lengths tape h in unshort c p s (t .0) (t .1)
+
+-- ---- the print does not depend on ample lengths
+
+module _ (lengths lengths' : Lengths) (a : Ample lengths) (a' : Ample lengths') where
+  -- a call that a frame asks for is answered alike with other ample lengths
+  made-same : (c : Call) → playable c ≡ true → (s : Reference) (k : Player) → Alike lengths s k → referenceMake lengths c s ≡ referenceMake lengths' c s
+  unfolding referenceMake referenceStep tells playable
+  made-same (Open d N directions) p s k v = rw (open-plain lengths a s d N directions, open-plain lengths' a' s d N directions)
+  made-same (Quote x) p s k v =
+      let w = k .world in
+      rw (quote-plain lengths a s w (v .simulation) x, quote-plain lengths' a' s w (v .simulation) x)
+  made-same (Look n) p s k v = rw (look-plain lengths a s n, look-plain lengths' a' s n)
+  made-same (Watch n) p s k v = rw (watch-plain lengths a s n, watch-plain lengths' a' s n)
+  made-same (End n) p s k v = refl
+  made-same (Past n1 n2) p s k v = rw (past-plain lengths a s n1 n2, past-plain lengths' a' s n1 n2)
+  made-same (Pair n1 n2) p s k v = rw (pair-plain lengths a s n1 n2, pair-plain lengths' a' s n1 n2)
+  made-same Unpair p s k v = refl
+  made-same Due p s k v = absurd (clash false p refl)
+
+  -- what is asked at a place is played alike
+  asked-same : (q : Asked) → asksPlayable q ≡ true → (next : ℕ) (s : Reference) (k : Player) → Alike lengths s k
+      → playAsked opened (referenceMake lengths) q next s ≡ playAsked opened (referenceMake lengths') q next s
+  unfolding playAsked asksPlayable
+  asked-same finished p next s k v = refl
+  asked-same (unread e) p next s k v = refl
+  asked-same misplaced p next s k v = refl
+  asked-same (request c) p next s k v = rw (made-same c p s k v)
+
+  -- and so is any number of frames
+  frames-same : (frames : ℕ) (tape : List ℕ) (place : ℕ) (s : Reference) (k : Player) → Alike lengths s k
+      → printFrom opened (referenceMake lengths) frames tape place s ≡ printFrom opened (referenceMake lengths') frames tape place s
+  unfolding printFrom playAt
+  frames-same zero tape place s k v = refl
+  frames-same (suc frames) tape place s k v =
+      let one = playAt opened (referenceMake lengths) tape place s in
+      let read = readAt tape place in
+      let rest = frames-same frames tape (one .next) (one .state) _ (frame-agrees lengths tape place s k v .state) in
+      rw (← (asked-same (asked (opened s) (read .says) (read .columns)) (asked-playable (opened s) tape place (read .columns)) (read .next) s k v)) (ap (λ (l : List ℕ). one .text ++ cond (one .over) [] l) rest)
+
+-- the print by the reference model is the same for all ample lengths
+pub ample-alike : (lengths lengths' : Lengths) → Ample lengths → Ample lengths' → (tape : List ℕ)
+    → print opened (referenceMake lengths) tape unopened ≡ print opened (referenceMake lengths') tape unopened
+unfolding print
+ample-alike lengths lengths' a a' tape =
+    let first = begins-alike lengths in
+    frames-same lengths lengths' a a' (suc (length tape)) tape 0 unopened (first .0) (first .1)
+
+-- so a book that is lent ample lengths prints of every tape what the reference model prints with any ample lengths
+pub ample-agrees : (tape : List ℕ) (l : Lent) (o : Outputs) (lengths : Lengths) → Ample (lengthsOf l o) → Ample lengths
+    → print begun bookMake tape (record { world = worldFirst l; outputs = o }) ≡ print opened (referenceMake lengths) tape unopened
+ample-agrees tape l o lengths a a' = print-agrees tape l o ∙ ample-alike (lengthsOf l o) lengths a a' tape

@@ -1,0 +1,36 @@
+-- What a call of a tape answered, and the lines that it prints.
+use Prim.Native.Nat.{ℕ}
+use mathlib.Core.List.{List, [], _∷_, _++_}
+use lib.ListN.{take}
+use Rattle.head.specs.Refusals.{granted}
+use Rattle.head.specs.Replies.{Outcome}
+use Rattle.model.specs.Calls.{Call, Open, Quote, Look, Watch, End, Past, Pair, Unpair, Due, Outputs}
+use Rattle.text.specs.Text.{line}
+use Rattle.printed.specs.Printed.{changesText}
+
+-- what a call answered: what it handed back, and what its outputs hold from their start on
+pub record Answered : Type 0 where
+  pub outcome : Outcome
+  pub outputs : Outputs
+
+-- the lines of an accepted call: O d N directions; Q position rows, the live ones, and its changes; L n positions; W n and its joins; U n;
+-- P n1 n2 positions; B n1 n2 and its joins; E; no frame asks for what is due, and it has no line
+unfoldable pub linesOf : Call → Answered → List ℕ
+linesOf (Open d N directions) a = line 79 (d ∷ N ∷ directions ∷ [])
+linesOf (Quote x) a =
+    line 81 (a .outcome .head .newest ∷ a .outcome .head .live ∷ []) ++ changesText (take (a .outcome .count) (a .outputs .bytes))
+linesOf (Look n) a = line 76 (n ∷ take (a .outcome .count) (a .outputs .cells))
+linesOf (Watch n) a = line 87 (n ∷ []) ++ changesText (take (a .outcome .count) (a .outputs .bytes))
+linesOf (End n) a = line 85 (n ∷ [])
+linesOf (Past n1 n2) a = line 80 (n1 ∷ n2 ∷ take (a .outcome .count) (a .outputs .cells))
+linesOf (Pair n1 n2) a = line 66 (n1 ∷ n2 ∷ []) ++ changesText (take (a .outcome .count) (a .outputs .bytes))
+linesOf Unpair a = line 69 []
+linesOf Due a = []
+
+-- R and the number of a refusal
+unfoldable pub refusalLine : ℕ → List ℕ
+refusalLine number = line 82 (number ∷ [])
+
+-- the lines of a call
+unfoldable pub textOf : Call → Answered → List ℕ
+textOf c a = let number = a .outcome .number in granted number (linesOf c a) (refusalLine number)

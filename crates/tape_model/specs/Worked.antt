@@ -1,0 +1,106 @@
+-- 01's tape and its print, and those of a tape with past looks (02, 1/13) and of one with a pair (02, 2/13).
+use Prim.Native.Nat.{ℕ, _+_}
+use mathlib.Core.List.{List, [], _∷_, _++_, map}
+use Rattle.lists.specs.Lists.{flat}
+use Rattle.frames.specs.declared.Message.the-variants.{Open, Quote, Sized, Pair, Bare}
+use Rattle.frames.specs.Kinds.{lookKind, watchKind, pairKind, unpairKind, pastKind}
+use Rattle.frames.specs.Frames.{frame}
+
+-- the frame of a quote of two columns
+abbrev two : ℕ → ℕ → List ℕ
+two a b = frame (Quote 2) (a ∷ b ∷ [])
+
+-- 01's tape
+abbrev pub workedTape : List ℕ
+workedTape =
+    flat (frame (Open 2 5 0) [] ∷ two 5 5 ∷ two 3 8 ∷ two 4 4 ∷ two 7 2 ∷ two 4 4 ∷ frame (Sized watchKind 2) [] ∷ two 6 6 ∷ frame (Sized lookKind 5) [] ∷ two 2 9 ∷ two 4 3 ∷ frame (Sized lookKind 3) [] ∷ [])
+
+-- a line of numbers of one digit each
+abbrev plain : ℕ → List ℕ → List ℕ
+plain letter numbers = letter ∷ (flat (map (λ n. 32 ∷ (48 + n) ∷ []) numbers) ++ (10 ∷ []))
+
+-- 01's print
+abbrev pub workedText : List ℕ
+workedText = flat (
+    plain 79 (2 ∷ 5 ∷ 0 ∷ [])
+    ∷ plain 81 (1 ∷ 1 ∷ [])
+    ∷ plain 81 (2 ∷ 2 ∷ [])
+    ∷ plain 81 (3 ∷ 2 ∷ [])
+    ∷ plain 81 (4 ∷ 3 ∷ [])
+    ∷ plain 81 (5 ∷ 4 ∷ [])
+    ∷ plain 87 (2 ∷ [])
+    ∷ plain 43 (2 ∷ 4 ∷ [])
+    ∷ plain 43 (2 ∷ 5 ∷ [])
+    ∷ plain 81 (6 ∷ 5 ∷ [])
+    ∷ plain 45 (2 ∷ 4 ∷ [])
+    ∷ plain 76 (5 ∷ 2 ∷ 3 ∷ 4 ∷ 5 ∷ [])
+    ∷ plain 81 (7 ∷ 5 ∷ [])
+    ∷ plain 45 (2 ∷ 5 ∷ [])
+    ∷ plain 43 (2 ∷ 6 ∷ [])
+    ∷ plain 43 (2 ∷ 7 ∷ [])
+    ∷ plain 81 (8 ∷ 3 ∷ [])
+    ∷ plain 45 (2 ∷ 6 ∷ [])
+    ∷ plain 43 (2 ∷ 8 ∷ [])
+    ∷ plain 76 (3 ∷ 7 ∷ 8 ∷ [])
+    ∷ [])
+
+-- the frame of a past look
+abbrev past : ℕ → ℕ → List ℕ
+past n1 n2 = frame (Pair pastKind n1 n2) []
+
+-- a tape with past looks
+abbrev pub pastTape : List ℕ
+pastTape =
+    flat (frame (Open 2 5 0) [] ∷ two 5 5 ∷ two 3 8 ∷ two 4 4 ∷ past 3 3 ∷ past 2 3 ∷ two 7 2 ∷ two 4 4 ∷ two 6 6 ∷ past 1 3 ∷ past 2 3 ∷ past 3 5 ∷ two 2 9 ∷ two 4 3 ∷ past 1 5 ∷ past 2 5 ∷ past 2 2 ∷ past 5 5 ∷ frame (Sized lookKind 5) [] ∷ [])
+
+-- and its print
+abbrev pub pastText : List ℕ
+pastText = flat (
+    plain 79 (2 ∷ 5 ∷ 0 ∷ [])
+    ∷ plain 81 (1 ∷ 1 ∷ [])
+    ∷ plain 81 (2 ∷ 2 ∷ [])
+    ∷ plain 81 (3 ∷ 2 ∷ [])
+    ∷ plain 80 (3 ∷ 3 ∷ 1 ∷ [])
+    ∷ plain 80 (2 ∷ 3 ∷ 1 ∷ 2 ∷ [])
+    ∷ plain 81 (4 ∷ 3 ∷ [])
+    ∷ plain 81 (5 ∷ 4 ∷ [])
+    ∷ plain 81 (6 ∷ 5 ∷ [])
+    ∷ plain 80 (1 ∷ 3 ∷ 4 ∷ 5 ∷ [])
+    ∷ plain 80 (2 ∷ 3 ∷ 4 ∷ 5 ∷ [])
+    ∷ plain 80 (3 ∷ 5 ∷ 2 ∷ 3 ∷ 4 ∷ [])
+    ∷ plain 81 (7 ∷ 5 ∷ [])
+    ∷ plain 81 (8 ∷ 3 ∷ [])
+    ∷ plain 80 (1 ∷ 5 ∷ 4 ∷ 7 ∷ 8 ∷ [])
+    ∷ plain 80 (2 ∷ 5 ∷ 4 ∷ 5 ∷ 7 ∷ [])
+    ∷ plain 80 (2 ∷ 2 ∷ 7 ∷ [])
+    ∷ plain 80 (5 ∷ 5 ∷ 4 ∷ [])
+    ∷ plain 76 (5 ∷ 4 ∷ 7 ∷ 8 ∷ [])
+    ∷ [])
+
+-- a tape with a pair, seven quotes and the pair's end
+abbrev pub pairTape : List ℕ
+pairTape =
+    flat (frame (Open 2 6 0) [] ∷ frame (Pair pairKind 3 5) [] ∷ two 3 3 ∷ two 4 4 ∷ two 1 5 ∷ two 2 2 ∷ two 9 9 ∷ two 1 1 ∷ two 5 5 ∷ frame (Bare unpairKind) [] ∷ [])
+
+-- a line whose letter stands twice
+abbrev doubled : ℕ → List ℕ → List ℕ
+doubled letter numbers = letter ∷ plain letter numbers
+
+-- and its print
+abbrev pub pairText : List ℕ
+pairText = flat (
+    plain 79 (2 ∷ 6 ∷ 0 ∷ [])
+    ∷ plain 66 (3 ∷ 5 ∷ [])
+    ∷ plain 81 (1 ∷ 1 ∷ [])
+    ∷ plain 81 (2 ∷ 2 ∷ [])
+    ∷ plain 81 (3 ∷ 3 ∷ [])
+    ∷ doubled 43 (1 ∷ [])
+    ∷ plain 81 (4 ∷ 2 ∷ [])
+    ∷ plain 81 (5 ∷ 3 ∷ [])
+    ∷ doubled 43 (3 ∷ [])
+    ∷ plain 81 (6 ∷ 1 ∷ [])
+    ∷ doubled 45 (1 ∷ [])
+    ∷ doubled 43 (4 ∷ [])
+    ∷ plain 81 (7 ∷ 2 ∷ [])
+    ∷ plain 69 []
+    ∷ [])

@@ -1,0 +1,65 @@
+-- A call of a tape made by the book model on what is lent: its number, its lines, and what it leaves.
+use mathlib.Core.Path.{_≡_}
+use Prim.Native.Nat.{ℕ, _+_, _*_, _/_}
+use mathlib.Core.List.{List}
+use lib.ListN.{length, replicate}
+use Rattle.lists.specs.Lists.{laid}
+use Rattle.head.specs.declared.Head.{Head}
+use Rattle.head.specs.Refusals.{numberOf, granted}
+use Rattle.model.specs.Rows.{Tables}
+use Rattle.model.specs.Calls.{Call}
+use Rattle.model.specs.Promises.{world}
+use Rattle.text.specs.Text.{line}
+use Rattle.tape_model.specs.Print.{refusalLine, textOf}
+use Rattle.tape_model.specs.Play.{Player, bookMake}
+use Rattle.turn_lines.specs.declared.Turn.{Turn}
+
+-- ---- lengths
+
+-- how many bytes the line of so many numbers has at most: its letter and newline, and a space and ten digits for each
+abbrev pub lineBytes : ℕ → ℕ
+lineBytes numbers = 2 + 11 * numbers
+
+-- how many bytes the changes of any call have: for each of eight watches up to 1,025 frames of 7 bytes, for the pair up to 1,024 of 5
+abbrev pub changeBytes : ℕ
+changeBytes = 8 * 1025 * 7 + 1024 * 5
+
+-- how many bytes the lines of any frame have room in: the longest list, n1, n2 and 1,024 positions, and for every 7 bytes of changes a line
+abbrev pub textBytes : ℕ
+textBytes = lineBytes 1026 + lineBytes 2 * (changeBytes / 7)
+
+-- ---- the player
+
+-- the player with this head, these tables and watches, these bytes for changes, and 1,024 cells of its own for positions
+abbrev pub player : Head → Tables → List ℕ → List ℕ → Player
+player h t ws bytes = record { world = world h t ws; outputs = record { bytes = bytes; cells = replicate 1024 0 } }
+
+-- ---- lines
+
+-- the line of an accepted call, or that of a refusal with this number
+unfoldable pub answerLine : ℕ → ℕ → List ℕ → List ℕ
+answerLine number letter numbers = granted number (line letter numbers) (refusalLine number)
+
+-- what a frame comes to: its number (0: accepted), its lines, and the player after it
+pub record Effect : Type 0 where
+  pub number : ℕ
+  pub text : List ℕ
+  pub state : Player
+
+-- a call of the book model
+unfoldable pub made : Call → Player → Effect
+made c k = let one = bookMake c k in record { number = one .0 .outcome .number; text = textOf c (one .0); state = one .1 }
+
+-- what is refused with this number before any call
+unfoldable pub refusedWith : ℕ → Player → Effect
+refusedWith number k = record { number = number; text = refusalLine number; state = k }
+
+-- what is handed back after this, and left of tables, bytes and text
+pub record Turned (one : Effect) (before : List ℕ) (r : Turn) (t' : Tables) (bytes' after : List ℕ) : Type 0 where
+  pub answer : numberOf (r .answer) ≡ one .number
+  pub count : r .count ≡ length (one .text)
+  pub head : r .head ≡ one .state .world .head
+  pub watches : r .watches ≡ one .state .world .lent .watches
+  pub lent : t' ≡ one .state .world .lent .tables
+  pub bytes : bytes' ≡ one .state .outputs .bytes
+  pub text : after ≡ laid (one .text) before

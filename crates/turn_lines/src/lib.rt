@@ -1,0 +1,123 @@
+// The lines of a call of a tape that was made, laid at the start of a lent text.
+ghost use mathlib.Core.Path.{_≡_};
+ghost use mathlib.Core.List.{List, _++_};
+ghost use Prim.Native.Nat.{ℕ, _+_, _*_, _≤_};
+ghost use lib.ListN.{length, take};
+ghost use Rattle.head.specs.declared.Head.{Head};
+ghost use Rattle.head.specs.Refusals.{number, numberOf, granted};
+ghost use Rattle.model.specs.Rows.{Tables};
+ghost use Rattle.model.specs.Calls.{Call};
+ghost use Rattle.model.specs.Promises.{Opened, Quoted};
+ghost use Rattle.text.specs.Text.{Laid};
+ghost use Rattle.printed.specs.Printed.{changesText};
+ghost use Rattle.turn_lines.specs.Turns.{changeBytes, textBytes, player, answerLine, made, refusedWith, Turned};
+use head::Answer;
+use head::Head;
+use head::Refusal;
+use head::Reply;
+use watches::WatchReply;
+
+// What a call of a tape leaves: its answer, how many bytes of text, and the head and the watches for the next one.
+pub struct Turn {
+    pub answer: Answer,
+    pub count: usize,
+    pub head: Head,
+    pub watches: [u32; 8],
+}
+
+// Lays the line of an accepted call, or that of its refusal, and returns how many bytes.
+pub fn put_answer(answer: Answer, letter: u8, numbers: &[u32], text: &mut [u8]) -> usize
+    requires { ⌜ (13 ≤ length (now text)) × (2 + 11 * length (now numbers) ≤ length (now text)) ⌝ }
+    ensures { λ r. ⌜ Laid (answerLine (numberOf answer) letter (now (numbers .entry))) (now (text .entry)) r (now (text .exit)) ⌝ }
+{
+    match answer {
+        Answer::Accepted => text::put_line(letter, numbers, text),
+        Answer::Refused(refusal) => {
+            let number = [refusal.number()];
+            text::put_line(b'R', &number, text)
+        }
+    }
+}
+
+// Lays the line of a call's answer, then the lines of the changes in the first count bytes, and returns how many bytes.
+pub fn put_changed(
+    answer: Answer,
+    letter: u8,
+    numbers: &[u32],
+    bytes: &[u8],
+    count: usize,
+    text: &mut [u8],
+) -> usize
+    requires { ⌜ (length (now numbers) ≤ 2) × (count ≤ length (now bytes)) ⌝ }
+    requires { ⌜ (length (now bytes) ≤ changeBytes) × (textBytes ≤ length (now text)) ⌝ }
+    ensures { λ r. ⌜ Laid (answerLine (numberOf answer) letter (now (numbers .entry)) ++ changesText (take count (now (bytes .entry)))) (now (text .entry)) r (now (text .exit)) ⌝ }
+{
+    let line = put_answer(answer, letter, numbers, text);
+    let lines = printed::put_changes(bytes, count, &mut text[line..]);
+    line + lines
+}
+
+// The head after an opening: the fresh one if it was accepted.
+fn opened_head(answer: Answer, fresh: Head, head: Head) -> Head
+    ensures { λ r. ⌜ r ≡ granted (numberOf answer) fresh head ⌝ }
+{
+    match answer {
+        Answer::Accepted => fresh,
+        Answer::Refused(_) => head,
+    }
+}
+
+// Lays the line of an opening that was made.
+pub fn put_opening(
+    head: Head,
+    dimensions: u32,
+    capacity: u32,
+    directions: u32,
+    opened: WatchReply,
+    text: &mut [u8],
+) -> Turn
+    requires { ⌜ textBytes ≤ length (now text) ⌝ }
+    ensures { λ r. ⌜ ((t t' : Tables) (ws bytes : List ℕ) → Opened dimensions capacity directions t ws (opened .reply) t' (opened .watches) → Turned (made (Call.Open dimensions capacity directions) (player head t ws bytes)) (now (text .entry)) r t' bytes (now (text .exit))) ⌝ }
+{
+    let reply = opened.reply;
+    let answer = reply.answer;
+    let fresh = reply.head;
+    let kept = opened.watches;
+    let numbers = [dimensions, capacity, directions];
+    Turn {
+        answer,
+        count: put_answer(answer, b'O', &numbers, text),
+        head: opened_head(answer, fresh, head),
+        watches: kept,
+    }
+}
+
+// Lays the line of a quote that was made, and those of its changes.
+pub fn put_quote(reply: Reply, watches: [u32; 8], bytes: &[u8], text: &mut [u8]) -> Turn
+    requires { ⌜ (reply .count ≤ length (now bytes)) × ((length (now bytes) ≤ changeBytes) × (textBytes ≤ length (now text))) ⌝ }
+    ensures { λ r. ⌜ ((h : Head) (x : List ℕ) (t t' : Tables) (before : List ℕ) → Quoted h x t watches before reply t' (now (bytes .entry)) → Turned (made (Call.Quote x) (player h t watches before)) (now (text .entry)) r t' (now (bytes .entry)) (now (text .exit))) ⌝ }
+{
+    let answer = reply.answer;
+    let head = reply.head;
+    let numbers = [head.newest, head.live];
+    Turn {
+        answer,
+        count: put_changed(answer, b'Q', &numbers, bytes, reply.count, text),
+        head,
+        watches,
+    }
+}
+
+// Lays the line of what was refused before any call.
+pub fn put_refusal(refusal: Refusal, head: Head, watches: [u32; 8], text: &mut [u8]) -> Turn
+    requires { ⌜ textBytes ≤ length (now text) ⌝ }
+    ensures { λ r. ⌜ ((t : Tables) (bytes : List ℕ) → Turned (refusedWith (number refusal) (player head t watches bytes)) (now (text .entry)) r t bytes (now (text .exit))) ⌝ }
+{
+    let number = [refusal.number()];
+    Turn {
+        answer: Answer::Refused(refusal),
+        count: text::put_line(b'R', &number, text),
+        head,
+        watches,
+    }
+}

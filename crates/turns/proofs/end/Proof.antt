@@ -1,0 +1,25 @@
+-- `end` meets its contract: the watch is ended, and its line laid.
+use borrow.Author.Needs.{needs}
+use Rattle.turn_lines.proofs.Turning.{end-turned}
+use Rattle.turns.proofs.end.Statement.{statement}
+use Rattle.turns.proofs.end.Tie as tie
+
+end-requires : tie.Need-end-requires
+end-requires c κs = search needs
+
+slice-aggregate-put-answer : tie.Need-slice-aggregate-put-answer
+slice-aggregate-put-answer c = search needs
+
+put-answer-requires : tie.Need-put-answer-requires
+put-answer-requires c κs = search needs
+
+same-length : tie.Need-same-length
+same-length c = search needs
+
+returns : tie.Need-returns
+returns c = λ bytes. end-turned _ _ _ bytes _ (c .before .before .before .before .before .before .before .before .end .ensures) (c .before .before .put-answer .ensures)
+
+pub end-spec : {M : Type 1} → statement M
+end-spec =
+    tie.close
+    (tie.spec end-requires slice-aggregate-put-answer put-answer-requires same-length returns)

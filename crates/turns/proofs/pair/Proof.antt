@@ -1,0 +1,38 @@
+-- `pair` meets its contract: the pair is set, and its lines laid.
+use native.Mathlib.Omega.{arith}
+use borrow.Author.Needs.{needs}
+use Rattle.turns.proofs.Rooms.{pair-fits}
+use Rattle.turn_lines.proofs.Turning.{pair-turned}
+use Rattle.turns.proofs.pair.Statement.{statement}
+use Rattle.turns.proofs.pair.Tie as tie
+
+pair-requires : tie.Need-pair-requires
+pair-requires c κs = search needs
+
+slice-aggregate-put-changed : tie.Need-slice-aggregate-put-changed
+slice-aggregate-put-changed c = search needs
+
+put-changed-requires : tie.Need-put-changed-requires
+put-changed-requires c κs = ((omega arith, omega (arith, pair-fits (c .before .before .before .before .before .before .pair .ensures))), (omega arith, omega arith))
+
+same-length : tie.Need-same-length
+same-length c = search needs
+
+same-length-2 : tie.Need-same-length-2
+same-length-2 c = search needs
+
+returns : tie.Need-returns
+returns c =
+    let made = c .before .before .before .before .before .before .before .before .before .pair in
+    pair-turned _ _ _ _ _ _ (made .ensures) (c .before .before .put-changed .ensures)
+
+pub pair-spec : {M : Type 1} → statement M
+pair-spec =
+    tie.close
+    (tie.spec
+    pair-requires
+    slice-aggregate-put-changed
+    put-changed-requires
+    same-length
+    same-length-2
+    returns)

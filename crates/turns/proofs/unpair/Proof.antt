@@ -1,0 +1,25 @@
+-- `unpair` meets its contract: the pair is ended, and its line laid.
+use borrow.Author.Needs.{needs}
+use Rattle.turn_lines.proofs.Turning.{unpair-turned}
+use Rattle.turns.proofs.unpair.Statement.{statement}
+use Rattle.turns.proofs.unpair.Tie as tie
+
+unpair-requires : tie.Need-unpair-requires
+unpair-requires c κs = search needs
+
+slice-aggregate-put-answer : tie.Need-slice-aggregate-put-answer
+slice-aggregate-put-answer c = search needs
+
+put-answer-requires : tie.Need-put-answer-requires
+put-answer-requires c κs = search needs
+
+same-length : tie.Need-same-length
+same-length c = search needs
+
+returns : tie.Need-returns
+returns c = λ bytes. unpair-turned _ _ _ bytes (c .before .before .before .before .before .before .unpair .ensures) (c .before .before .put-answer .ensures)
+
+pub unpair-spec : {M : Type 1} → statement M
+unpair-spec =
+    tie.close
+    (tie.spec unpair-requires slice-aggregate-put-answer put-answer-requires same-length returns)

@@ -1,0 +1,38 @@
+-- `watch` meets its contract: the watch is set, and its lines laid.
+use native.Mathlib.Omega.{arith}
+use borrow.Author.Needs.{needs}
+use Rattle.turns.proofs.Rooms.{watch-fits}
+use Rattle.turn_lines.proofs.Turning.{watch-turned}
+use Rattle.turns.proofs.watch.Statement.{statement}
+use Rattle.turns.proofs.watch.Tie as tie
+
+watch-requires : tie.Need-watch-requires
+watch-requires c κs = search needs
+
+slice-aggregate-put-changed : tie.Need-slice-aggregate-put-changed
+slice-aggregate-put-changed c = search needs
+
+put-changed-requires : tie.Need-put-changed-requires
+put-changed-requires c κs = ((omega arith, omega (arith, watch-fits (c .before .before .before .before .before .before .before .before .watch .ensures))), (omega arith, omega arith))
+
+same-length : tie.Need-same-length
+same-length c = search needs
+
+same-length-2 : tie.Need-same-length-2
+same-length-2 c = search needs
+
+returns : tie.Need-returns
+returns c =
+    let made = c .before .before .before .before .before .before .before .before .before .before .before .watch in
+    watch-turned _ _ _ _ _ (made .ensures) (c .before .before .put-changed .ensures)
+
+pub watch-spec : {M : Type 1} → statement M
+watch-spec =
+    tie.close
+    (tie.spec
+    watch-requires
+    slice-aggregate-put-changed
+    put-changed-requires
+    same-length
+    same-length-2
+    returns)

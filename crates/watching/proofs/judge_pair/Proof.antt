@@ -1,0 +1,33 @@
+-- `judge_pair` meets its contract: whether a pair stands is asked behind the sizes of n1 and n2 and their order.
+use mathlib.Core.Path.{refl}
+use Rattle.model.specs.Book.{watchfulAnswer, pairStands}
+use Rattle.judging.proofs.Answering.{tested}
+use Rattle.watching.specs.Answers.{freeAnswer}
+use borrow.Author.Needs.{needs}
+use Rattle.watching.proofs.judge_pair.Statement.{statement}
+use Rattle.watching.proofs.judge_pair.Tie as tie
+
+judge-watchful-requires : tie.Need-judge-watchful-requires
+judge-watchful-requires c κs = search needs
+
+out-of-sizes-requires : tie.Need-out-of-sizes-requires
+out-of-sizes-requires c κs = search needs
+
+with-test-requires : tie.Need-with-test-requires
+with-test-requires c κs = search needs
+
+with-test-requires-2 : tie.Need-with-test-requires-2
+with-test-requires-2 c κs = search needs
+
+with-test-requires-3 : tie.Need-with-test-requires-3
+with-test-requires-3 c κs = search needs
+
+returns : tie.Need-returns
+unfolding watchfulAnswer freeAnswer pairStands
+returns c =
+    let known = c .before .before .before in
+    let sized = tested _ _ _ (known .before .before .judge-watchful .ensures) (known .before .out-of-sizes .ensures) (known .with-test .ensures) refl in
+    tested _ _ _ (tested _ _ _ sized refl (c .before .with-test2 .ensures) refl) refl (c .with-test3 .ensures) refl
+
+pub judge-pair-spec : {M : Type 1} → statement M
+judge-pair-spec = tie.close (tie.spec judge-watchful-requires out-of-sizes-requires with-test-requires with-test-requires-2 with-test-requires-3 returns)
