@@ -192,3 +192,26 @@ pub fn tell(head: Head, n: u32) {
         print(b'H', &numbers);
     }
 }
+
+// Looks at the list of n and at the past list of 2 and all, audits the book, and tells what its head says.
+pub fn read_book(
+    head: Head,
+    n: u32,
+    columns: &[u32],
+    positions: &[u32],
+    lower_ends: &[u32],
+    upper_ends: &[u32],
+) {
+    look(head, n, columns, positions, lower_ends, upper_ends);
+    past(
+        head,
+        2,
+        head.capacity,
+        columns,
+        positions,
+        lower_ends,
+        upper_ends,
+    );
+    audit(head, columns, positions, lower_ends, upper_ends);
+    tell(head, n);
+}

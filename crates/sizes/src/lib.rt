@@ -15,6 +15,6 @@ pub const CHANGE_FRAME: usize = 7;
 // Bytes of a change of the pair.
 pub const PAIR_FRAME: usize = 5;
 
-// Bytes of the changes of any call: from each watched list every position may go, and one may come; to the pair's list
-// each position may go or come.
+// Bytes of the changes of any call: from each watched list every position may go, and one may come; the pair brings at
+// most one change for each place.
 pub const CHANGE_BYTES: usize = WATCHES * (PLACES + 1) * CHANGE_FRAME + PLACES * PAIR_FRAME;

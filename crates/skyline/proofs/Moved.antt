@@ -1,19 +1,17 @@
--- The changes of a list as its window moves on by one: who leaves and who joins, by position and ends.
+-- Which rows a window covers as it moves on by one, and as ends are renamed or set, by position and ends.
 use mathlib.Core.Path.{_≡_, refl}
 use mathlib.Core.Logic.{_⊎_, inl, inr}
 use Prim.Native.Nat.{ℕ, suc, _+_, _-_, _≤_, _<_}
 use native.Mathlib.Omega.{arith}
 use native.Mathlib.Decide.{decLt}
 use mathlib.Core.Bool.{Bool, true, false, _&&_, _||_, not, cond}
-use mathlib.Core.List.{List, List·Memᴰ}
+use mathlib.Core.List.{List}
 use lib.Dec.{ltb, eqb}
 use borrow.Author.Tests.{ltb-true, eqb-true, lt-ltb, eq-eqb, ne-eqb, not-true}
 use Rattle.lists.specs.Lists.{filter, contains}
 use Rattle.lists.proofs.Booleans.{agree, clash, refute, not-of, or-cases, or-left, or-right}
-use Rattle.lists.proofs.Members.{contains-mem, mem-contains, filter-same-mem}
-use Rattle.skyline.specs.Skyline.{windowStart, skyline}
-use Rattle.skyline.specs.Past.{lowerEnd, upperEnd, covers}
-use Rattle.skyline.proofs.Past.{Covered, of-covers, into-covers, coversAt, on-past}
+use Rattle.skyline.specs.Past.{covers}
+use Rattle.skyline.proofs.Past.{Covered, of-covers, into-covers}
 
 -- a row that cannot be covered is not
 uncovered : (a b l p u : ℕ) → (Covered a b l p u → ⊥) → not (covers a b l p u) ≡ true
@@ -110,68 +108,3 @@ covers-retired a b x l p u h t = go (eqb u 0) refl t
 -- the positions of the first list that are not on the second
 abbrev pub missing : List ℕ → List ℕ → List ℕ
 missing these those = filter (λ p. not (contains p those)) these
-
-module _ (dom : ℕ → ℕ → Bool) (irr : (p : ℕ) → dom p p ≡ false) where
-  contains-past : (S M a b p : ℕ) → S ≤ a → 1 ≤ a → b ≤ M → contains p (skyline dom a b) ≡ coversAt dom S M a b p
-  contains-past S M a b p hS h1 hM =
-      agree (contains p (skyline dom a b)) (coversAt dom S M a b p)
-      (λ t. on-past dom irr S M a b p hS h1 hM .0 (contains-mem p (skyline dom a b) t))
-      (λ t. mem-contains p (skyline dom a b) (on-past dom irr S M a b p hS h1 hM .1 t))
-
-  module _ (S M a a' b b' : ℕ) (hS : S ≤ a) (h1 : 1 ≤ a) (ha : a ≤ a') (ha' : a' ≤ suc a) (hb : b ≤ b') (hb' : b' ≤ suc b)
-      (hM : b' ≤ M) where
-    -- the list before and after
-    abbrev before : List ℕ
-    before = skyline dom a b
-
-    abbrev after : List ℕ
-    after = skyline dom a' b'
-
-    was-on : (p : ℕ) → List·Memᴰ p before → coversAt dom S M a b p ≡ true
-    was-on p = on-past dom irr S M a b p hS h1 (omega arith) .0
-
-    is-on : (p : ℕ) → List·Memᴰ p after → coversAt dom S M a' b' p ≡ true
-    is-on p = on-past dom irr S M a' b' p (omega arith) (omega arith) hM .0
-
-    -- the list of a window that moves on loses what stood at its old start and what its new end dominates
-    pub past-leaves : missing before after ≡ filter (λ p. ltb p a' || eqb (upperEnd dom M p) b') before
-    past-leaves =
-        filter-same-mem (λ p. not (contains p after)) (λ p. ltb p a' || eqb (upperEnd dom M p) b') before
-        (λ p m. rw (contains-past S M a' b' p (omega arith) (omega arith) hM)
-        (covers-leaves a a' b b' (lowerEnd dom S p) p (upperEnd dom M p) ha hb hb' (was-on p m)))
-
-    -- the list of a window that moves on gains its new end, and what its old start alone held off
-    pub past-joins : missing after before ≡ filter (λ p. ltb b p || eqb (lowerEnd dom S p) a) after
-    past-joins =
-        filter-same-mem (λ p. not (contains p before)) (λ p. ltb b p || eqb (lowerEnd dom S p) a) after
-        (λ p m. rw (contains-past S M a b p hS h1 (omega arith))
-        (covers-joins a a' b b' (lowerEnd dom S p) p (upperEnd dom M p) ha ha' hb (is-on p m)))
-
-  module _ (N M n1 n2 : ℕ) (h : 2 ≤ n1) (k : n1 ≤ n2) (l : n2 ≤ N) where
-    -- the pair's list before and after one more quote
-    abbrev pair : List ℕ
-    pair = skyline dom (windowStart M n2) (M + 1 - n1)
-
-    abbrev pair' : List ℕ
-    pair' = skyline dom (windowStart (suc M) n2) (suc M + 1 - n1)
-
-    -- the window of the pair moves on by one or stays, inside the window of N
-    pair-moves : (windowStart M N ≤ windowStart M n2) × (1 ≤ windowStart M n2) × (windowStart M n2 ≤ windowStart (suc M) n2)
-        × (windowStart (suc M) n2 ≤ suc (windowStart M n2)) × (M + 1 - n1 ≤ suc M + 1 - n1)
-        × (suc M + 1 - n1 ≤ suc (M + 1 - n1)) × (suc M + 1 - n1 ≤ M)
-    unfolding windowStart
-    pair-moves = (omega arith, omega arith, omega arith, omega arith, omega arith, omega arith, omega arith)
-
-    -- a quote takes from the pair's list what stood at its old start and what its new end dominates
-    pub pair-leaves : missing pair pair' ≡ filter (λ p. ltb p (windowStart (suc M) n2) || eqb (upperEnd dom M p) (suc M + 1 - n1)) pair
-    pair-leaves =
-        let m = pair-moves in
-        past-leaves (windowStart M N) M (windowStart M n2) (windowStart (suc M) n2) (M + 1 - n1) (suc M + 1 - n1)
-        (m .0) (m .1) (m .2) (m .3) (m .4) (m .5) (m .6)
-
-    -- and adds its new end and what its old start alone held off
-    pub pair-joins : missing pair' pair ≡ filter (λ p. ltb (M + 1 - n1) p || eqb (lowerEnd dom (windowStart M N) p) (windowStart M n2)) pair'
-    pair-joins =
-        let m = pair-moves in
-        past-joins (windowStart M N) M (windowStart M n2) (windowStart (suc M) n2) (M + 1 - n1) (suc M + 1 - n1)
-        (m .0) (m .1) (m .2) (m .3) (m .4) (m .5) (m .6)

@@ -9,10 +9,8 @@ use judged_calls::open;
 use judged_calls::take_all;
 use judged_frames::play_opening;
 use judged_frames::there_and_back;
-use judged_reads::audit;
 use judged_reads::look;
-use judged_reads::past;
-use judged_reads::tell;
+use judged_reads::read_book;
 use judged_reads::watch;
 use sizes::CHANGE_BYTES;
 use worked_pair::show_pair;
@@ -79,10 +77,7 @@ fn main() {
         records,
         &mut out,
     );
-    look(eight, 3, &columns, &positions, &lower_ends, &upper_ends);
-    past(eight, 2, 5, &columns, &positions, &lower_ends, &upper_ends);
-    audit(eight, &columns, &positions, &lower_ends, &upper_ends);
-    tell(eight, 3);
+    read_book(eight, 3, &columns, &positions, &lower_ends, &upper_ends);
     refusals(
         eight,
         &columns,

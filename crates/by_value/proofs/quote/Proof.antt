@@ -97,7 +97,8 @@ module _ {M : Type 1} (𝓤 : URA M) (H : Heap 𝓤) (A : Atoms 𝓤) (W : Given
   abbrev lent : Lent
   lent = lent-tables (columns .now) (positions .now) (lowerEnds .now) (upperEnds .now)
 
-  -- what the call binds outside with the records in the local l, lent for ν under the name δ, that it is given what it asks, and what is known of its result
+  -- what the call binds outside with the records in the local l, lent for ν under the name δ, that it is given what it asks, and what is
+  -- known of its result
   abbrev held : ℕ → GName → RefT (List Watch)
   held l δ = at-name l 0 records δ
 
@@ -131,8 +132,10 @@ module _ {M : Type 1} (𝓤 : URA M) (H : Heap 𝓤) (A : Atoms 𝓤) (W : Given
 
   exits : (columns-last : List ℕ) (positions-last : List ℕ) (lowerEnds-last : List ℕ) (upperEnds-last : List ℕ) (out-last : List ℕ) (j : Reply) → Is R.the-row j (machines j) → length columns-last ≡ length (columns .now) → length positions-last ≡ length (positions .now) → length lowerEnds-last ≡ length (lowerEnds .now) → length upperEnds-last ≡ length (upperEnds .now) → length out-last ≡ length (out .now) → Quoted head (quoted .now) lent (watched records) (out .now) j (lent-tables columns-last positions-last lowerEnds-last upperEnds-last) out-last → ent 𝓤 (⋆ 𝓤 H A (Left columns-last positions-last lowerEnds-last upperEnds-last out-last)) (Post (only (machines j)))
   exits columns-last positions-last lowerEnds-last upperEnds-last out-last j is columns-len positions-len lowerEnds-len upperEnds-len out-len kept =
-      qed W (Left columns-last positions-last lowerEnds-last upperEnds-last out-last) ∵ suffices ! _ (ends-at 𝓤 H A f.ended stayed (f.clauses 𝓤 H A mem run) W bound (only (machines j)) (j) (tt, (tt, (columns-last, (positions-last, (lowerEnds-last, (upperEnds-last, (tt, (out-last, tt)))))))) (tt, (tt, (columns-len, (positions-len, (lowerEnds-len, (upperEnds-len, (tt, (out-len, tt))))))))) $ says ! kept $
-      nothing ! $ move ! (6 ∷ 0 ∷ []) $ join ! $ move ! (5 ∷ 0 ∷ []) $ join ! $ move ! (4 ∷ 0 ∷ []) $ join ! $ move ! (3 ∷ 0 ∷ []) $ join ! $ move ! (2 ∷ 0 ∷ []) $ join ! $ move ! (1 ∷ 0 ∷ []) $ join ! $ frame ! $ nothing ! $ move ! (5 ∷ 0 ∷ []) $ fjoin ! $ nothing ! $ fjoin ! $ move ! (4 ∷ 0 ∷ []) $ fjoin ! $ move ! (3 ∷ 0 ∷ []) $ fjoin ! $ move ! (2 ∷ 0 ∷ []) $ fjoin ! $ move ! (1 ∷ 0 ∷ []) $ fjoin ! $ nothing ! $ fjoin ! $ nothing ! $ fjoin ! $ frame ! $ owned ! R.the-row (Is R.the-row) ((LL.makes R.the-type R′.the-plain) 𝓤 H A) j (machines j) is $ done !
+      qed W (Left columns-last positions-last lowerEnds-last upperEnds-last out-last) ∵ suffices ! _ (ends-at 𝓤 H A f.ended stayed (f.clauses 𝓤 H A mem run) W bound (only (machines j)) j (tt, (tt, (columns-last, (positions-last, (lowerEnds-last, (upperEnds-last, (tt, (out-last, tt)))))))) (tt, (tt, (columns-len, (positions-len, (lowerEnds-len, (upperEnds-len, (tt, (out-len, tt))))))))) $ says ! kept $
+      nothing ! $ move ! (6 ∷ 0 ∷ []) $ join ! $ move ! (5 ∷ 0 ∷ []) $ join ! $ move ! (4 ∷ 0 ∷ []) $ join ! $ move ! (3 ∷ 0 ∷ []) $ join ! $ move ! (2 ∷ 0 ∷ []) $ join ! $ move ! (1 ∷ 0 ∷ []) $ join ! $ frame ! $
+      nothing ! $ move ! (5 ∷ 0 ∷ []) $ fjoin ! $ nothing ! $ fjoin ! $ move ! (4 ∷ 0 ∷ []) $ fjoin ! $ move ! (3 ∷ 0 ∷ []) $ fjoin ! $ move ! (2 ∷ 0 ∷ []) $ fjoin ! $ move ! (1 ∷ 0 ∷ []) $ fjoin ! $ nothing ! $ fjoin ! $ nothing ! $ fjoin ! $ frame ! $
+      owned ! R.the-row (Is R.the-row) ((LL.makes R.the-type R′.the-plain) 𝓤 H A) j (machines j) is $ done !
 
   module _ (is-head : Is Hd.the-row head (headed head)) (quoted-fits : length (quoted .now) < 2 ^ 64) (columns-fits : length (columns .now) < 2 ^ 64) (positions-fits : length (positions .now) < 2 ^ 64) (lowerEnds-fits : length (lowerEnds .now) < 2 ^ 64) (upperEnds-fits : length (upperEnds .now) < 2 ^ 64) (is-records : Is (Array T.the-row 8) records (recorded records)) (out-fits : length (out .now) < 2 ^ 64)
       (C : Calls 𝓤 H) (Λ : Loops 𝓤 H) (fm : FmC 𝓤 H (W .laws) C) (known : Triple 𝓤 (C #shared-records·quote) (Callee 𝓤 H A mem run)) where
@@ -144,7 +147,7 @@ module _ {M : Type 1} (𝓤 : URA M) (H : Heap 𝓤) (A : Atoms 𝓤) (W : Given
         qed W Entry ∵ enter ! C Λ code.function given _ $
         alloc1 ! (λ l₀. alloc1 ! (λ l₁. alloc1 ! (λ l₂. alloc1 ! (λ l₃. alloc1 ! (λ l₄. alloc1 ! (λ l₅. alloc1 ! (λ l₆. alloc1 ! (λ l₇. alloc1 ! (λ l₈. alloc1 ! (λ l₉. alloc1 ! (λ l₁₀. alloc1 ! (λ l₁₁. alloc1 ! (λ l₁₂. alloc1 ! (λ l₁₃. alloc1 ! (λ l₁₄. alloc1 ! (λ l₁₅. alloc1 ! (λ l₁₆. alloc1 ! (λ l₁₇. alloc1 ! (λ l₁₈. alloc1 ! (λ l₁₉. alloc1 ! (λ l₂₀. alloc1 ! (λ l₂₁. alloc0 ! $ params1 ! $ pass1 ! (init ! 40 refl (LL.lawful Hd.the-type Hd′.the-laws 𝓤 H A W .typed head _ is-head .0)) $ pass1 ! (init ! 38 refl (tt, (tt, (record { fits = quoted-fits }, tt)))) $ pass1 ! (init ! 36 refl (tt, (tt, (record { fits = columns-fits }, tt)))) $ pass1 ! (init ! 34 refl (tt, (tt, (record { fits = positions-fits }, tt)))) $ pass1 ! (init ! 32 refl (tt, (tt, (record { fits = lowerEnds-fits }, tt)))) $ pass1 ! (init ! 30 refl (tt, (tt, (record { fits = upperEnds-fits }, tt)))) $ pass1 ! (init ! 28 refl (array-typed T.the-row (LL.lawful T.the-type T′.the-laws 𝓤 H A W .typed) 8 records _ is-records .0)) $ pass1 ! (init ! 26 refl (tt, (tt, (record { fits = out-fits }, tt)))) $ pass0 ! $
         move ! (45 ∷ []) $ fsplit ! $ move ! (1 ∷ []) $ fsplit ! $ move ! (1 ∷ []) $ fsplit ! $ move ! (1 ∷ []) $ fsplit ! $ move ! (1 ∷ []) $ fsplit ! $ move ! (1 ∷ []) $ fsplit ! $ move ! (1 ∷ []) $ fsplit ! $ move ! (1 ∷ []) $ fsplit ! $ move ! (1 ∷ []) $ move ! (53 ∷ []) $ split ! $ move ! (1 ∷ []) $ split ! $ move ! (1 ∷ []) $ split ! $ move ! (1 ∷ []) $ split ! $ move ! (1 ∷ []) $ split ! $ move ! (1 ∷ []) $ split ! $ move ! (1 ∷ []) $
-        -- [tokens; κ5; κ4; κ3; κ2; κ1; κ0; rest; own_out; own_records; own_upperEnds; own_lowerEnds; own_positions; own_columns; own_quoted; own_head; _21; _20; _19; _18; _17; _16; _15; _14; _13; _12; _11; _10; _9; _8; _7; _6; _5; _4; _3; _2; _1; _0]
+        -- [true; κ₅; κ₄; κ₃; κ₂; κ₁; κ₀; true; out; records; upperEnds; lowerEnds; positions; columns; quoted; head; the locals]
         assigns ! (of-opd ! (load ! (from ! (stop !)) (look ! 44 refl))) (from ! (stop !)) (init ! 40 refl (array-typed T.the-row (LL.lawful T.the-type T′.the-laws 𝓤 H A W .typed) 8 records _ is-records .0)) $
         assigns ! (addr ! (from ! (fld ! refl (hop ! (look-in ! 52 (sub ! 0 refl (whole !))) (stop !))))) (from ! (stop !)) (init ! 38 refl (tt, tt)) $
         assigns ! (agg ! (and-then ! (load ! (from ! (stop !)) (look ! 38 refl)) (and-then ! (load ! (from ! (fld ! refl (stop !))) (look-in ! 52 (sub ! 1 refl (whole !)))) (no-more !)))) (from ! (stop !)) (init ! 36 refl (tt, (tt, (record { fits = columns-fits }, tt)))) $
@@ -165,7 +168,7 @@ module _ {M : Type 1} (𝓤 : URA M) (H : Heap 𝓤) (A : Atoms 𝓤) (W : Given
         use2 W (raw (Callee 𝓤 H A mem run .pre (to ν l₉ δ))) (goes ν l₉ δ) $
         calls-at ! fm (Callee 𝓤 H A mem run) known (to ν l₉ δ) (and-then ! (load ! (from ! (stop !)) (look ! 44 refl)) (and-then ! (load ! (from ! (stop !)) (look ! 42 refl)) (and-then ! (load ! (from ! (stop !)) (look ! 25 refl)) (and-then ! (load ! (from ! (stop !)) (look ! 21 refl)) (and-then ! (load ! (from ! (stop !)) (look ! 17 refl)) (and-then ! (load ! (from ! (stop !)) (look ! 13 refl)) (and-then ! (load ! (from ! (stop !)) (look ! 9 refl)) (and-then ! (load ! (from ! (stop !)) (look ! 5 refl)) (no-more !))))))))) (λ c.
         use1 W (later (some (λ (j : Reply). (Tokens ν ⊛ ‵ (R.the-row .own j (c ∷ []))) ⊛ some (λ (zs : Ends). ‵ (lasts callee.ended (lives ν) (asked l₉ δ) zs) ⊛ raw (fact 𝓤 (Said j zs)))))) (id⊢ 𝓤 _) $ await ! tt $ pick ! (λ j. split ! $ move ! (1 ∷ []) $ pick ! (λ zs. split ! $ move ! (1 ∷ []) $ heard ! (Said j zs) (λ kept.
-        move ! (0 ∷ []) $ fsplit ! $ drop ! $ move ! (0 ∷ []) $ fsplit ! $ drop ! $ move ! (0 ∷ []) $ fsplit ! $ fsplit ! $ move ! (1 ∷ []) $ feqL ! (λ columns-same. move ! (1 ∷ []) $ fsplit ! $ fsplit ! $ move ! (1 ∷ []) $ feqL ! (λ positions-same. move ! (1 ∷ []) $ fsplit ! $ fsplit ! $ move ! (1 ∷ []) $ feqL ! (λ lowerEnds-same. move ! (1 ∷ []) $ fsplit ! $ fsplit ! $ move ! (1 ∷ []) $ feqL ! (λ upperEnds-same. move ! (1 ∷ []) $ fsplit ! $ drop ! $ move ! (0 ∷ []) $ fsplit ! $ fsplit ! $ move ! (1 ∷ []) $ feqL ! (λ out-same. move ! (1 ∷ []) $ drop ! $
+        fsplit ! $ drop ! $ move ! (0 ∷ []) $ fsplit ! $ drop ! $ move ! (0 ∷ []) $ fsplit ! $ fsplit ! $ move ! (1 ∷ []) $ feqL ! (λ columns-same. move ! (1 ∷ []) $ fsplit ! $ fsplit ! $ move ! (1 ∷ []) $ feqL ! (λ positions-same. move ! (1 ∷ []) $ fsplit ! $ fsplit ! $ move ! (1 ∷ []) $ feqL ! (λ lowerEnds-same. move ! (1 ∷ []) $ fsplit ! $ fsplit ! $ move ! (1 ∷ []) $ feqL ! (λ upperEnds-same. move ! (1 ∷ []) $ fsplit ! $ drop ! $ move ! (0 ∷ []) $ fsplit ! $ fsplit ! $ move ! (1 ∷ []) $ feqL ! (λ out-same. move ! (1 ∷ []) $ drop ! $
         move ! (5 ∷ []) $ split ! $ move ! (1 ∷ []) $ peeks ! R.the-row (Is R.the-row) (shows 𝓤 H A R.the-row) j (c ∷ []) (λ has. drop ! $
         land ! (from ! (stop !)) (init ! 51 refl (LL.lawful R.the-type R′.the-laws 𝓤 H A W .typed j _ has .0)) $ rewrite ! 51 (λ (z : Val). ‵ (fat fullShare R′.mir l₀ 0 z)) (ap only (LL.tells R.the-type R′.the-laws j (c ∷ []) has)) refl $
         -- ν ends, and they come back
@@ -174,13 +177,15 @@ module _ {M : Type 1} (𝓤 : URA M) (H : Heap 𝓤) (A : Atoms 𝓤) (W : Given
         move ! (57 ∷ 58 ∷ []) $ free1 ! $ move ! (55 ∷ 56 ∷ []) $ free1 ! $ move ! (53 ∷ 54 ∷ []) $ free1 ! $ move ! (51 ∷ 52 ∷ []) $ free1 ! $ move ! (49 ∷ 50 ∷ []) $ free1 ! $ move ! (47 ∷ 48 ∷ []) $ free1 ! $ move ! (45 ∷ 46 ∷ []) $ free1 ! $ move ! (43 ∷ 44 ∷ []) $ free1 ! $ move ! (41 ∷ 42 ∷ []) $ free1 ! $ move ! (0 ∷ 40 ∷ []) $ free1 ! $ move ! (37 ∷ 38 ∷ []) $ free1 ! $ move ! (35 ∷ 36 ∷ []) $ free1 ! $ move ! (33 ∷ 34 ∷ []) $ free1 ! $ move ! (31 ∷ 32 ∷ []) $ free1 ! $ move ! (29 ∷ 30 ∷ []) $ free1 ! $ move ! (27 ∷ 28 ∷ []) $ free1 ! $ move ! (25 ∷ 26 ∷ []) $ free1 ! $ move ! (23 ∷ 24 ∷ []) $ free1 ! $ move ! (21 ∷ 22 ∷ []) $ free1 ! $ move ! (19 ∷ 20 ∷ []) $ free1 ! $ move ! (17 ∷ 18 ∷ []) $ free1 ! $ move ! (15 ∷ 16 ∷ []) $ free1 ! $ free0 ! $
         keep ! (6 ∷ 5 ∷ 4 ∷ 3 ∷ 2 ∷ 1 ∷ 11 ∷ 10 ∷ 9 ∷ 8 ∷ 7 ∷ []) $ by ! (exits (zs .1 .1 .0) (zs .1 .1 .1 .0) (zs .1 .1 .1 .1 .0) (zs .1 .1 .1 .1 .1 .0) (zs .1 .1 .1 .1 .1 .1 .1 .0) j (spelled j c has) columns-same positions-same lowerEnds-same upperEnds-same out-same kept)))))))))))))))))))))))))))))))))))
 
-module _ {M : Type 1} (𝓤 : URA M) (H : Heap 𝓤) (A : Atoms 𝓤) (W : Given 𝓤 H A) (mem : Memory → SProp 𝓤) (run : Routine → Fun 𝓤) (𝓣 : Tables 𝓤 H) (known : Triple 𝓤 (𝓣 .C #shared-records·quote) (Callee 𝓤 H A mem run)) where
+module _ {M : Type 1} (𝓤 : URA M) (H : Heap 𝓤) (A : Atoms 𝓤) (W : Given 𝓤 H A) (mem : Memory → SProp 𝓤) (run : Routine → Fun 𝓤) (𝓣 : Tables 𝓤 H)
+    (known : Triple 𝓤 (𝓣 .C #shared-records·quote) (Callee 𝓤 H A mem run)) where
   quote-walks : Walks 𝓤 H A f.ended stayed (WpFn 𝓤 H (𝓣 .C) (𝓣 .Λ) code.function) (f.clauses 𝓤 H A mem run)
   quote-walks =
       walked 𝓤 H A f.ended stayed (f.clauses 𝓤 H A mem run) (WpFn 𝓤 H (𝓣 .C) (𝓣 .Λ) code.function) (λ κs. (headed, (slice-vals, (slice-vals, (slice-vals, (slice-vals, (slice-vals, (recorded, (slice-vals, tt)))))))))
       (λ κs. (LL.tells Hd.the-type Hd′.the-laws, (shr-slice-tells (named 0) (κs .0) u32, (mut-slice-tells (named 1) (κs .1 .0) u32, (mut-slice-tells (named 2) (κs .1 .1 .0) u32, (mut-slice-tells (named 3) (κs .1 .1 .1 .0) u32, (mut-slice-tells (named 4) (κs .1 .1 .1 .1 .0) u32, (recorded-tells, (mut-slice-tells (named 5) (κs .1 .1 .1 .1 .1 .0) u8, tt)))))))))
       (λ κs qs bounds a g are. via 𝓤 _ (fst∗ 𝓤 _ (emp 𝓤)) (walk 𝓤 H A W mem run (κs .0) (κs .1 .0) (κs .1 .1 .0) (κs .1 .1 .1 .0) (κs .1 .1 .1 .1 .0) (κs .1 .1 .1 .1 .1 .0) (qs .0) (qs .1 .0) (qs .1 .1 .0) (qs .1 .1 .1 .0) (qs .1 .1 .1 .1 .0) (qs .1 .1 .1 .1 .1 .0)
-      (a .0) (a .1 .0) (a .1 .1 .0) (a .1 .1 .1 .0) (a .1 .1 .1 .1 .0) (a .1 .1 .1 .1 .1 .0) (a .1 .1 .1 .1 .1 .1 .0) (a .1 .1 .1 .1 .1 .1 .1 .0) (are .0) (are .1 .0 .0 .1 .0) (are .1 .1 .0 .0 .1 .0) (are .1 .1 .1 .0 .0 .1 .0) (are .1 .1 .1 .1 .0 .0 .1 .0) (are .1 .1 .1 .1 .1 .0 .0 .1 .0) (are .1 .1 .1 .1 .1 .1 .0) (are .1 .1 .1 .1 .1 .1 .1 .0 .0 .1 .0) (𝓣 .C) (𝓣 .Λ) (fmOf 𝓤 H (W .laws) 𝓣) known))
+      (a .0) (a .1 .0) (a .1 .1 .0) (a .1 .1 .1 .0) (a .1 .1 .1 .1 .0) (a .1 .1 .1 .1 .1 .0) (a .1 .1 .1 .1 .1 .1 .0) (a .1 .1 .1 .1 .1 .1 .1 .0)
+      (are .0) (are .1 .0 .0 .1 .0) (are .1 .1 .0 .0 .1 .0) (are .1 .1 .1 .0 .0 .1 .0) (are .1 .1 .1 .1 .0 .0 .1 .0) (are .1 .1 .1 .1 .1 .0 .0 .1 .0) (are .1 .1 .1 .1 .1 .1 .0) (are .1 .1 .1 .1 .1 .1 .1 .0 .0 .1 .0) (𝓣 .C) (𝓣 .Λ) (fmOf 𝓤 H (W .laws) 𝓣) known))
 
   quote-meets : Meets 𝓤 H A f.signature (WpFn 𝓤 H (𝓣 .C) (𝓣 .Λ) code.function) (f.spec 𝓤 H A mem run)
   quote-meets =

@@ -75,16 +75,16 @@ module _ {M : Type 1} (𝓤 : URA M) (H : Heap 𝓤) (A : Atoms 𝓤) (mem : Mem
   Callee = tripleOf 𝓤 H A callee.signature (callee.spec 𝓤 H A mem run)
 
 module _ {M : Type 1} (𝓤 : URA M) (H : Heap 𝓤) (A : Atoms 𝓤) (W : Given 𝓤 H A) (mem : Memory → SProp 𝓤) (run : Routine → Fun 𝓤) (κ₀ κ₁ κ₂ κ₃ κ₄ κ₅ κ₆ : Lft) (q₀ q₁ q₂ q₃ q₄ q₅ q₆ : Share)
-    (head : Head) (quote : RefT (List ℕ)) (columns : RefT (List ℕ)) (positions : RefT (List ℕ)) (lowerEnds : RefT (List ℕ)) (upperEnds : RefT (List ℕ)) (b o : ℕ) (γ : GName) (ys : List Watch) (out : RefT (List ℕ)) where
+    (head : Head) (quoted : RefT (List ℕ)) (columns : RefT (List ℕ)) (positions : RefT (List ℕ)) (lowerEnds : RefT (List ℕ)) (upperEnds : RefT (List ℕ)) (b o : ℕ) (γ : GName) (ys : List Watch) (out : RefT (List ℕ)) where
   -- what is given: denotations, machine values, tokens and what is owned
   abbrev x : Head × (RefT (List ℕ) × (RefT (List ℕ) × (RefT (List ℕ) × (RefT (List ℕ) × (RefT (List ℕ) × (RefT (List Watch) × (RefT (List ℕ) × Unit {0})))))))
-  x = (head, (quote, (columns, (positions, (lowerEnds, (upperEnds, (at-name b o ys γ, (out, tt))))))))
+  x = (head, (quoted, (columns, (positions, (lowerEnds, (upperEnds, (at-name b o ys γ, (out, tt))))))))
 
   abbrev at : List Val × (List Val × (List Val × (List Val × (List Val × (List Val × (List Val × (List Val × Unit {0})))))))
-  at = (headed head, (slice-vals quote, (slice-vals columns, (slice-vals positions, (slice-vals lowerEnds, (slice-vals upperEnds, (slice-vals (at-name b o ys γ), (slice-vals out, tt))))))))
+  at = (headed head, (slice-vals quoted, (slice-vals columns, (slice-vals positions, (slice-vals lowerEnds, (slice-vals upperEnds, (slice-vals (at-name b o ys γ), (slice-vals out, tt))))))))
 
   abbrev given : List Val
-  given = only (headed head) ∷ only (slice-vals quote) ∷ only (slice-vals columns) ∷ only (slice-vals positions) ∷ only (slice-vals lowerEnds) ∷ only (slice-vals upperEnds) ∷ only (slice-vals (at-name b o ys γ)) ∷ only (slice-vals out) ∷ []
+  given = only (headed head) ∷ only (slice-vals quoted) ∷ only (slice-vals columns) ∷ only (slice-vals positions) ∷ only (slice-vals lowerEnds) ∷ only (slice-vals upperEnds) ∷ only (slice-vals (at-name b o ys γ)) ∷ only (slice-vals out) ∷ []
 
   abbrev Entry : List (Item 𝓤)
   Entry = (‵ (flft κ₀ q₀) ⊛ ‵ (flft κ₁ q₁) ⊛ ‵ (flft κ₂ q₂) ⊛ ‵ (flft κ₃ q₃) ⊛ ‵ (flft κ₄ q₄) ⊛ ‵ (flft κ₅ q₅) ⊛ ‵ (flft κ₆ q₆) ⊛ ‵ ftrue) ∷ ‵ (owns (Hd.the-row ∷ ShrSlice (named 0) κ₀ u32 ∷ MutSlice (named 1) κ₁ u32 ∷ MutSlice (named 2) κ₂ u32 ∷ MutSlice (named 3) κ₃ u32 ∷ MutSlice (named 4) κ₄ u32 ∷ ShrSlice (named 5) κ₅ T.the-row ∷ MutSlice (named 6) κ₆ u8 ∷ []) x at) ∷ []
@@ -107,10 +107,10 @@ module _ {M : Type 1} (𝓤 : URA M) (H : Heap 𝓤) (A : Atoms 𝓤) (W : Given
   Tokens = ‵ (flft κ₀ q₀) ⊛ ‵ (flft κ₁ q₁) ⊛ ‵ (flft κ₂ q₂) ⊛ ‵ (flft κ₃ q₃) ⊛ ‵ (flft κ₄ q₄) ⊛ ‵ (flft κ₆ q₆) ⊛ ‵ ftrue
 
   abbrev asked : List ℕ → Head × (RefT (List ℕ) × (RefT (List ℕ) × (RefT (List ℕ) × (RefT (List ℕ) × (RefT (List ℕ) × (List ℕ × (ℕ × (RefT (List ℕ) × Unit {0}))))))))
-  asked r = (head, (quote, (columns, (positions, (lowerEnds, (upperEnds, (r, (length ys, (out, tt)))))))))
+  asked r = (head, (quoted, (columns, (positions, (lowerEnds, (upperEnds, (r, (length ys, (out, tt)))))))))
 
   abbrev to : List ℕ → Val → Callee 𝓤 H A mem run .Ghost
-  to r u = ((lives, (q₀, (q₁, (q₂, (q₃, (q₄, (q₆, tt)))))), tt, asked r, (headed head, (slice-vals quote, (slice-vals columns, (slice-vals positions, (slice-vals lowerEnds, (slice-vals upperEnds, (u ∷ [], (vint w64 (length ys) ∷ [], (slice-vals out, tt)))))))))), tt)
+  to r u = ((lives, (q₀, (q₁, (q₂, (q₃, (q₄, (q₆, tt)))))), tt, asked r, (headed head, (slice-vals quoted, (slice-vals columns, (slice-vals positions, (slice-vals lowerEnds, (slice-vals upperEnds, (u ∷ [], (vint w64 (length ys) ∷ [], (slice-vals out, tt)))))))))), tt)
 
   abbrev Passed : List ℕ → Val → Fml
   Passed r u = owns (Hd.the-row ∷ ShrSlice (named 0) κ₀ u32 ∷ MutSlice (named 1) κ₁ u32 ∷ MutSlice (named 2) κ₂ u32 ∷ MutSlice (named 3) κ₃ u32 ∷ MutSlice (named 4) κ₄ u32 ∷ Array u32 8 ∷ usize ∷ MutSlice (named 6) κ₆ u8 ∷ []) (asked r) (to r u .0 .4)
@@ -122,27 +122,27 @@ module _ {M : Type 1} (𝓤 : URA M) (H : Heap 𝓤) (A : Atoms 𝓤) (W : Given
   Ends = Unit {0} × (Unit {0} × (List ℕ × (List ℕ × (List ℕ × (List ℕ × (Unit {0} × (Unit {0} × (List ℕ × Unit {0}))))))))
 
   abbrev Said : List ℕ → Reply → Ends → Type 0
-  Said r j zs = Quoted head (quote .now) lent (take (length ys) r) (out .now) j (lent-tables (zs .1 .1 .0) (zs .1 .1 .1 .0) (zs .1 .1 .1 .1 .0) (zs .1 .1 .1 .1 .1 .0)) (zs .1 .1 .1 .1 .1 .1 .1 .1 .0)
+  Said r j zs = Quoted head (quoted .now) lent (take (length ys) r) (out .now) j (lent-tables (zs .1 .1 .0) (zs .1 .1 .1 .0) (zs .1 .1 .1 .1 .0) (zs .1 .1 .1 .1 .1 .0)) (zs .1 .1 .1 .1 .1 .1 .1 .1 .0)
 
   -- what is left at the return, with what is lent at its last values
   abbrev Left : List ℕ → List ℕ → List ℕ → List ℕ → List ℕ → List (Item 𝓤)
   Left columns-last positions-last lowerEnds-last upperEnds-last out-last = Tokens ∷ ‵ (flft κ₅ q₅) ∷ ‵ (finally u32 (columns .name) columns-last) ∷ ‵ (finally u32 (positions .name) positions-last) ∷ ‵ (finally u32 (lowerEnds .name) lowerEnds-last) ∷ ‵ (finally u32 (upperEnds .name) upperEnds-last) ∷ ‵ (finally u8 (out .name) out-last) ∷ []
 
-  exits : (columns-last : List ℕ) (positions-last : List ℕ) (lowerEnds-last : List ℕ) (upperEnds-last : List ℕ) (out-last : List ℕ) (j : Reply) → Is R.the-row j (machines j) → length columns-last ≡ length (columns .now) → length positions-last ≡ length (positions .now) → length lowerEnds-last ≡ length (lowerEnds .now) → length upperEnds-last ≡ length (upperEnds .now) → length out-last ≡ length (out .now) → Quoted head (quote .now) lent (watched ys) (out .now) j (lent-tables columns-last positions-last lowerEnds-last upperEnds-last) out-last → ent 𝓤 (⋆ 𝓤 H A (Left columns-last positions-last lowerEnds-last upperEnds-last out-last)) (Post (only (machines j)))
+  exits : (columns-last : List ℕ) (positions-last : List ℕ) (lowerEnds-last : List ℕ) (upperEnds-last : List ℕ) (out-last : List ℕ) (j : Reply) → Is R.the-row j (machines j) → length columns-last ≡ length (columns .now) → length positions-last ≡ length (positions .now) → length lowerEnds-last ≡ length (lowerEnds .now) → length upperEnds-last ≡ length (upperEnds .now) → length out-last ≡ length (out .now) → Quoted head (quoted .now) lent (watched ys) (out .now) j (lent-tables columns-last positions-last lowerEnds-last upperEnds-last) out-last → ent 𝓤 (⋆ 𝓤 H A (Left columns-last positions-last lowerEnds-last upperEnds-last out-last)) (Post (only (machines j)))
   exits columns-last positions-last lowerEnds-last upperEnds-last out-last j is columns-len positions-len lowerEnds-len upperEnds-len out-len kept =
       qed W (Left columns-last positions-last lowerEnds-last upperEnds-last out-last) ∵ suffices ! _ (ends-at 𝓤 H A f.ended stayed (f.clauses 𝓤 H A mem run) W bound (only (machines j)) j (tt, (tt, (columns-last, (positions-last, (lowerEnds-last, (upperEnds-last, (tt, (out-last, tt)))))))) (tt, (tt, (columns-len, (positions-len, (lowerEnds-len, (upperEnds-len, (tt, (out-len, tt))))))))) $ says ! kept $
       split ! $ move ! (1 ∷ []) $ split ! $ move ! (1 ∷ []) $ split ! $ move ! (1 ∷ []) $ split ! $ move ! (1 ∷ []) $ split ! $ move ! (1 ∷ []) $ split ! $ move ! (1 ∷ []) $ move ! (1 ∷ 0 ∷ []) $ join ! $ move ! (6 ∷ 0 ∷ []) $ join ! $ move ! (1 ∷ 0 ∷ []) $ join ! $ move ! (1 ∷ 0 ∷ []) $ join ! $ move ! (1 ∷ 0 ∷ []) $ join ! $ move ! (1 ∷ 0 ∷ []) $ join ! $ move ! (1 ∷ 0 ∷ []) $ join ! $ frame ! $
       nothing ! $ move ! (5 ∷ 0 ∷ []) $ fjoin ! $ nothing ! $ fjoin ! $ move ! (4 ∷ 0 ∷ []) $ fjoin ! $ move ! (3 ∷ 0 ∷ []) $ fjoin ! $ move ! (2 ∷ 0 ∷ []) $ fjoin ! $ move ! (1 ∷ 0 ∷ []) $ fjoin ! $ nothing ! $ fjoin ! $ nothing ! $ fjoin ! $ frame ! $
       owned ! R.the-row (Is R.the-row) ((LL.makes R.the-type R′.the-plain) 𝓤 H A) j (machines j) is $ done !
 
-  module _ (is-head : Is Hd.the-row head (headed head)) (quote-fits : length (quote .now) < 2 ^ 64) (columns-fits : length (columns .now) < 2 ^ 64) (positions-fits : length (positions .now) < 2 ^ 64) (lowerEnds-fits : length (lowerEnds .now) < 2 ^ 64) (upperEnds-fits : length (upperEnds .now) < 2 ^ 64) (room : Room T.the-row (length ys)) (out-fits : length (out .now) < 2 ^ 64)
+  module _ (is-head : Is Hd.the-row head (headed head)) (quoted-fits : length (quoted .now) < 2 ^ 64) (columns-fits : length (columns .now) < 2 ^ 64) (positions-fits : length (positions .now) < 2 ^ 64) (lowerEnds-fits : length (lowerEnds .now) < 2 ^ 64) (upperEnds-fits : length (upperEnds .now) < 2 ^ 64) (room : Room T.the-row (length ys)) (out-fits : length (out .now) < 2 ^ 64)
       (C : Calls 𝓤 H) (Λ : Loops 𝓤 H) (fm : FmC 𝓤 H (W .laws) C) (known-numbers : Triple 𝓤 (C #watches·numbers) (Numbers 𝓤 H A mem run)) (known-callee : Triple 𝓤 (C #lending·quote-lent) (Callee 𝓤 H A mem run)) where
     walk : ent 𝓤 (onEntry 𝓤 H A f.signature (κ₀, (κ₁, (κ₂, (κ₃, (κ₄, (κ₅, (κ₆, tt))))))) (q₀, (q₁, (q₂, (q₃, (q₄, (q₅, (q₆, tt))))))) x at) (WpFn 𝓤 H C Λ code.function given Post)
     walk =
         qed W Entry ∵ enter ! C Λ code.function given _ $
-        alloc1 ! (λ l₀. alloc1 ! (λ l₁. alloc1 ! (λ l₂. alloc1 ! (λ l₃. alloc1 ! (λ l₄. alloc1 ! (λ l₅. alloc1 ! (λ l₆. alloc1 ! (λ l₇. alloc1 ! (λ l₈. alloc1 ! (λ l₉. alloc1 ! (λ l₁₀. alloc1 ! (λ l₁₁. alloc1 ! (λ l₁₂. alloc1 ! (λ l₁₃. alloc1 ! (λ l₁₄. alloc1 ! (λ l₁₅. alloc1 ! (λ l₁₆. alloc1 ! (λ l₁₇. alloc1 ! (λ l₁₈. alloc1 ! (λ l₁₉. alloc1 ! (λ l₂₀. alloc0 ! $ params1 ! $ pass1 ! (init ! 38 refl (LL.lawful Hd.the-type Hd′.the-laws 𝓤 H A W .typed head _ is-head .0)) $ pass1 ! (init ! 36 refl (tt, (tt, (record { fits = quote-fits }, tt)))) $ pass1 ! (init ! 34 refl (tt, (tt, (record { fits = columns-fits }, tt)))) $ pass1 ! (init ! 32 refl (tt, (tt, (record { fits = positions-fits }, tt)))) $ pass1 ! (init ! 30 refl (tt, (tt, (record { fits = lowerEnds-fits }, tt)))) $ pass1 ! (init ! 28 refl (tt, (tt, (record { fits = upperEnds-fits }, tt)))) $ pass1 ! (init ! 26 refl (tt, (tt, (record { fits = room .0 }, tt)))) $ pass1 ! (init ! 24 refl (tt, (tt, (record { fits = out-fits }, tt)))) $ pass0 ! $
+        alloc1 ! (λ l₀. alloc1 ! (λ l₁. alloc1 ! (λ l₂. alloc1 ! (λ l₃. alloc1 ! (λ l₄. alloc1 ! (λ l₅. alloc1 ! (λ l₆. alloc1 ! (λ l₇. alloc1 ! (λ l₈. alloc1 ! (λ l₉. alloc1 ! (λ l₁₀. alloc1 ! (λ l₁₁. alloc1 ! (λ l₁₂. alloc1 ! (λ l₁₃. alloc1 ! (λ l₁₄. alloc1 ! (λ l₁₅. alloc1 ! (λ l₁₆. alloc1 ! (λ l₁₇. alloc1 ! (λ l₁₈. alloc1 ! (λ l₁₉. alloc1 ! (λ l₂₀. alloc0 ! $ params1 ! $ pass1 ! (init ! 38 refl (LL.lawful Hd.the-type Hd′.the-laws 𝓤 H A W .typed head _ is-head .0)) $ pass1 ! (init ! 36 refl (tt, (tt, (record { fits = quoted-fits }, tt)))) $ pass1 ! (init ! 34 refl (tt, (tt, (record { fits = columns-fits }, tt)))) $ pass1 ! (init ! 32 refl (tt, (tt, (record { fits = positions-fits }, tt)))) $ pass1 ! (init ! 30 refl (tt, (tt, (record { fits = lowerEnds-fits }, tt)))) $ pass1 ! (init ! 28 refl (tt, (tt, (record { fits = upperEnds-fits }, tt)))) $ pass1 ! (init ! 26 refl (tt, (tt, (record { fits = room .0 }, tt)))) $ pass1 ! (init ! 24 refl (tt, (tt, (record { fits = out-fits }, tt)))) $ pass0 ! $
         move ! (43 ∷ []) $ fsplit ! $ move ! (1 ∷ []) $ fsplit ! $ move ! (1 ∷ []) $ fsplit ! $ move ! (1 ∷ []) $ fsplit ! $ move ! (1 ∷ []) $ fsplit ! $ move ! (1 ∷ []) $ fsplit ! $ move ! (1 ∷ []) $ fsplit ! $ move ! (1 ∷ []) $ fsplit ! $ move ! (1 ∷ []) $ move ! (51 ∷ []) $ split ! $ move ! (1 ∷ []) $ split ! $ move ! (1 ∷ []) $ split ! $ move ! (1 ∷ []) $ split ! $ move ! (1 ∷ []) $ split ! $ move ! (1 ∷ []) $ split ! $ move ! (1 ∷ []) $ split ! $ move ! (1 ∷ []) $
-        -- [true; κ₆; κ₅; κ₄; κ₃; κ₂; κ₁; κ₀; true; out; watches; upperEnds; lowerEnds; positions; columns; quote; head; the locals]
+        -- [true; κ₆; κ₅; κ₄; κ₃; κ₂; κ₁; κ₀; true; out; records; upperEnds; lowerEnds; positions; columns; quoted; head; the locals]
         move ! (2 ∷ 10 ∷ []) $ calls-numbers ! fm mem run known-numbers κ₅ q₅ b o ys γ (and-then ! (load ! (from ! (stop !)) (look ! 42 refl)) (no-more !)) (λ u r is e.
         land ! (from ! (stop !)) (init ! 38 refl (array-typed u32 (uint-lawful 𝓤 H A W w32 .typed) 8 r _ is .0)) $
         assigns ! (of-opd ! (load ! (from ! (fld ! refl (stop !))) (look-in ! 42 (sub ! 1 refl (whole !))))) (from ! (stop !)) (init ! 36 refl (tt, record { fits = room .0 })) $
@@ -163,11 +163,10 @@ module _ {M : Type 1} (𝓤 : URA M) (H : Heap 𝓤) (A : Atoms 𝓤) (W : Given
         use1 W (later (some (λ (j : Reply). (Tokens ⊛ ‵ (R.the-row .own j (c ∷ []))) ⊛ some (λ (zs : Ends). ‵ (lasts callee.ended lives (asked r) zs) ⊛ raw (fact 𝓤 (Said r j zs)))))) (id⊢ 𝓤 _) $ await ! tt $ pick ! (λ j. split ! $ move ! (1 ∷ []) $ pick ! (λ zs. split ! $ move ! (1 ∷ []) $ heard ! (Said r j zs) (λ said.
         fsplit ! $ drop ! $ move ! (0 ∷ []) $ fsplit ! $ drop ! $ move ! (0 ∷ []) $ fsplit ! $ fsplit ! $ move ! (1 ∷ []) $ feqL ! (λ columns-same. move ! (1 ∷ []) $ fsplit ! $ fsplit ! $ move ! (1 ∷ []) $ feqL ! (λ positions-same. move ! (1 ∷ []) $ fsplit ! $ fsplit ! $ move ! (1 ∷ []) $ feqL ! (λ lowerEnds-same. move ! (1 ∷ []) $ fsplit ! $ fsplit ! $ move ! (1 ∷ []) $ feqL ! (λ upperEnds-same. move ! (1 ∷ []) $ fsplit ! $ drop ! $ move ! (0 ∷ []) $ fsplit ! $ drop ! $ move ! (0 ∷ []) $ fsplit ! $ fsplit ! $ move ! (1 ∷ []) $ feqL ! (λ out-same. move ! (1 ∷ []) $ drop ! $
         move ! (5 ∷ []) $ split ! $ move ! (1 ∷ []) $ peeks ! R.the-row (Is R.the-row) (shows 𝓤 H A R.the-row) j (c ∷ []) (λ has. drop ! $
-        -- [the tokens of the callee; the last out; the last upperEnds; the last lowerEnds; the last positions; the last columns; κ₅; true; the locals]
         land ! (from ! (stop !)) (init ! 48 refl (LL.lawful R.the-type R′.the-laws 𝓤 H A W .typed j _ has .0)) $ rewrite ! 48 (λ (z : Val). ‵ (fat fullShare R′.mir l₀ 0 z)) (ap only (LL.tells R.the-type R′.the-laws j (c ∷ []) has)) refl $
         returns ! (look ! 48 refl) $ forget ! 8 refl $ forget ! 10 refl $ forget ! 12 refl $ forget ! 14 refl $ forget ! 16 refl $ forget ! 18 refl $ forget ! 20 refl $ forget ! 22 refl $ forget ! 24 refl $ forget ! 26 refl $ forget ! 28 refl $ forget ! 30 refl $ forget ! 32 refl $ forget ! 34 refl $ forget ! 36 refl $ forget ! 38 refl $ forget ! 40 refl $ forget ! 42 refl $ forget ! 44 refl $ forget ! 46 refl $ forget ! 48 refl $
         move ! (48 ∷ 49 ∷ []) $ free1 ! $ move ! (46 ∷ 47 ∷ []) $ free1 ! $ move ! (44 ∷ 45 ∷ []) $ free1 ! $ move ! (42 ∷ 43 ∷ []) $ free1 ! $ move ! (40 ∷ 41 ∷ []) $ free1 ! $ move ! (38 ∷ 39 ∷ []) $ free1 ! $ move ! (36 ∷ 37 ∷ []) $ free1 ! $ move ! (34 ∷ 35 ∷ []) $ free1 ! $ move ! (32 ∷ 33 ∷ []) $ free1 ! $ move ! (30 ∷ 31 ∷ []) $ free1 ! $ move ! (28 ∷ 29 ∷ []) $ free1 ! $ move ! (26 ∷ 27 ∷ []) $ free1 ! $ move ! (24 ∷ 25 ∷ []) $ free1 ! $ move ! (22 ∷ 23 ∷ []) $ free1 ! $ move ! (20 ∷ 21 ∷ []) $ free1 ! $ move ! (18 ∷ 19 ∷ []) $ free1 ! $ move ! (16 ∷ 17 ∷ []) $ free1 ! $ move ! (14 ∷ 15 ∷ []) $ free1 ! $ move ! (12 ∷ 13 ∷ []) $ free1 ! $ move ! (10 ∷ 11 ∷ []) $ free1 ! $ move ! (8 ∷ 9 ∷ []) $ free1 ! $ free0 ! $
-        keep ! (0 ∷ 6 ∷ 5 ∷ 4 ∷ 3 ∷ 2 ∷ 1 ∷ []) $ by ! (exits (zs .1 .1 .0) (zs .1 .1 .1 .0) (zs .1 .1 .1 .1 .0) (zs .1 .1 .1 .1 .1 .0) (zs .1 .1 .1 .1 .1 .1 .1 .1 .0) j (spelled j c has) columns-same positions-same lowerEnds-same upperEnds-same out-same (quote-records ys head (quote .now) lent e said))))))))))))))))))))))))))))))))))
+        keep ! (0 ∷ 6 ∷ 5 ∷ 4 ∷ 3 ∷ 2 ∷ 1 ∷ []) $ by ! (exits (zs .1 .1 .0) (zs .1 .1 .1 .0) (zs .1 .1 .1 .1 .0) (zs .1 .1 .1 .1 .1 .0) (zs .1 .1 .1 .1 .1 .1 .1 .1 .0) j (spelled j c has) columns-same positions-same lowerEnds-same upperEnds-same out-same (quote-records ys head (quoted .now) lent e said))))))))))))))))))))))))))))))))))
 
 module _ {M : Type 1} (𝓤 : URA M) (H : Heap 𝓤) (A : Atoms 𝓤) (W : Given 𝓤 H A) (mem : Memory → SProp 𝓤) (run : Routine → Fun 𝓤) (𝓣 : Tables 𝓤 H)
     (known-numbers : Triple 𝓤 (𝓣 .C #watches·numbers) (Numbers 𝓤 H A mem run)) (known-callee : Triple 𝓤 (𝓣 .C #lending·quote-lent) (Callee 𝓤 H A mem run)) where

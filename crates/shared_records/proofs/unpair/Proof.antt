@@ -142,7 +142,7 @@ module _ {M : Type 1} (𝓤 : URA M) (H : Heap 𝓤) (A : Atoms 𝓤) (W : Given
         qed W Entry ∵ enter ! C Λ code.function given _ $
         alloc1 ! (λ l₀. alloc1 ! (λ l₁. alloc1 ! (λ l₂. alloc1 ! (λ l₃. alloc1 ! (λ l₄. alloc1 ! (λ l₅. alloc1 ! (λ l₆. alloc1 ! (λ l₇. alloc1 ! (λ l₈. alloc0 ! $ params1 ! $ pass1 ! (init ! 14 refl (LL.lawful Hd.the-type Hd′.the-laws 𝓤 H A W .typed head _ is-head .0)) $ pass1 ! (init ! 12 refl (tt, (tt, (record { fits = columns-fits }, tt)))) $ pass1 ! (init ! 10 refl (tt, (tt, (record { fits = positions-fits }, tt)))) $ pass1 ! (init ! 8 refl (tt, (tt, (record { fits = lowerEnds-fits }, tt)))) $ pass1 ! (init ! 6 refl (tt, (tt, (record { fits = upperEnds-fits }, tt)))) $ pass1 ! (init ! 4 refl (tt, (tt, (record { fits = room .0 }, tt)))) $ pass0 ! $
         move ! (19 ∷ []) $ fsplit ! $ move ! (1 ∷ []) $ fsplit ! $ move ! (1 ∷ []) $ fsplit ! $ move ! (1 ∷ []) $ fsplit ! $ move ! (1 ∷ []) $ fsplit ! $ move ! (1 ∷ []) $ fsplit ! $ move ! (1 ∷ []) $ move ! (25 ∷ []) $ split ! $ move ! (1 ∷ []) $ split ! $ move ! (1 ∷ []) $ split ! $ move ! (1 ∷ []) $ split ! $ move ! (1 ∷ []) $ split ! $ move ! (1 ∷ []) $
-        -- [true; κ₄; κ₃; κ₂; κ₁; κ₀; true; watches; upperEnds; lowerEnds; positions; columns; head; the locals]
+        -- [true; κ₄; κ₃; κ₂; κ₁; κ₀; true; records; upperEnds; lowerEnds; positions; columns; head; the locals]
         move ! (1 ∷ 7 ∷ []) $ calls-numbers ! fm mem run known-numbers κ₄ q₄ b o ys γ (and-then ! (load ! (from ! (stop !)) (look ! 16 refl)) (no-more !)) (λ u r is e.
         land ! (from ! (stop !)) (init ! 14 refl (array-typed u32 (uint-lawful 𝓤 H A W w32 .typed) 8 r _ is .0)) $
         assigns ! (of-opd ! (load ! (from ! (fld ! refl (stop !))) (look-in ! 16 (sub ! 1 refl (whole !))))) (from ! (stop !)) (init ! 12 refl (tt, record { fits = room .0 })) $
@@ -153,7 +153,6 @@ module _ {M : Type 1} (𝓤 : URA M) (H : Heap 𝓤) (A : Atoms 𝓤) (W : Given
         use1 W (later (some (λ (j : Reply). (Tokens ⊛ ‵ (R.the-row .own j (c ∷ []))) ⊛ some (λ (zs : Ends). ‵ (lasts callee.ended lives (asked r) zs) ⊛ raw (fact 𝓤 (Said r j zs)))))) (id⊢ 𝓤 _) $ await ! tt $ pick ! (λ j. split ! $ move ! (1 ∷ []) $ pick ! (λ zs. split ! $ move ! (1 ∷ []) $ heard ! (Said r j zs) (λ said.
         fsplit ! $ drop ! $ move ! (0 ∷ []) $ fsplit ! $ drop ! $ move ! (0 ∷ []) $ fsplit ! $ drop ! $ move ! (0 ∷ []) $ fsplit ! $ drop ! $ move ! (0 ∷ []) $ fsplit ! $ drop ! $ move ! (0 ∷ []) $ fsplit ! $ drop ! $ move ! (0 ∷ []) $ fsplit ! $ drop ! $ move ! (0 ∷ []) $ drop ! $
         split ! $ move ! (1 ∷ []) $ peeks ! R.the-row (Is R.the-row) (shows 𝓤 H A R.the-row) j (c ∷ []) (λ has. drop ! $
-        -- [the tokens of the callee; κ₄; true; the locals]
         land ! (from ! (stop !)) (init ! 19 refl (LL.lawful R.the-type R′.the-laws 𝓤 H A W .typed j _ has .0)) $ rewrite ! 19 (λ (z : Val). ‵ (fat fullShare R′.mir l₀ 0 z)) (ap only (LL.tells R.the-type R′.the-laws j (c ∷ []) has)) refl $
         returns ! (look ! 19 refl) $ forget ! 3 refl $ forget ! 5 refl $ forget ! 7 refl $ forget ! 9 refl $ forget ! 11 refl $ forget ! 13 refl $ forget ! 15 refl $ forget ! 17 refl $ forget ! 19 refl $
         move ! (19 ∷ 20 ∷ []) $ free1 ! $ move ! (17 ∷ 18 ∷ []) $ free1 ! $ move ! (15 ∷ 16 ∷ []) $ free1 ! $ move ! (13 ∷ 14 ∷ []) $ free1 ! $ move ! (11 ∷ 12 ∷ []) $ free1 ! $ move ! (9 ∷ 10 ∷ []) $ free1 ! $ move ! (7 ∷ 8 ∷ []) $ free1 ! $ move ! (5 ∷ 6 ∷ []) $ free1 ! $ move ! (3 ∷ 4 ∷ []) $ free1 ! $ free0 ! $

@@ -9,8 +9,8 @@ use Rattle.changes.specs.Watches.{heldIn}
 use Rattle.changes.proofs.Moving.{few-changes}
 use Rattle.changes.proofs.Watching.{ready-of, watch-none, watch-length}
 use borrow.Author.Needs.{needs}
-use Rattle.changes.proofs.watches.count_watch.Statement.{statement}
-use Rattle.changes.proofs.watches.count_watch.Tie as tie
+use Rattle.changes.proofs.each_watch.count_watch.Statement.{statement}
+use Rattle.changes.proofs.each_watch.count_watch.Tie as tie
 
 returns : tie.Need-returns
 returns c = sym (ap length (watch-none _ _ _ _ _ (c .if1 .taken)))

@@ -5,8 +5,8 @@ use Rattle.skyline.specs.Skyline.{windowStart}
 use Rattle.listing.proofs.Picking.{byte-small}
 use Rattle.changes.proofs.Watching.{shift-is}
 use borrow.Author.Needs.{needs}
-use Rattle.changes.proofs.watches.shift_of.Statement.{statement}
-use Rattle.changes.proofs.watches.shift_of.Tie as tie
+use Rattle.changes.proofs.each_watch.shift_of.Statement.{statement}
+use Rattle.changes.proofs.each_watch.shift_of.Tie as tie
 
 start-of-requires : tie.Need-start-of-requires
 start-of-requires c κs = search needs

@@ -7,8 +7,8 @@ use Rattle.lists.specs.Lists.{laid}
 use Rattle.finding.specs.Found.{rows}
 use Rattle.changes.proofs.Watching.{ready-of, retired-of, watch-none, watch-some}
 use borrow.Author.Needs.{needs}
-use Rattle.changes.proofs.watches.write_watch.Statement.{statement}
-use Rattle.changes.proofs.watches.write_watch.Tie as tie
+use Rattle.changes.proofs.each_watch.write_watch.Statement.{statement}
+use Rattle.changes.proofs.each_watch.write_watch.Tie as tie
 
 returns : tie.Need-returns
 unfolding laid

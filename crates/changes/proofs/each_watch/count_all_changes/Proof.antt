@@ -5,8 +5,8 @@ use Rattle.finding.specs.Found.{rows}
 use Rattle.changes.proofs.Records.{watch-below}
 use Rattle.changes.proofs.Watching.{Summed, summed-start, summed-more, summed-all}
 use borrow.Author.Needs.{needs}
-use Rattle.changes.proofs.watches.count_all_changes.Statement.{statement}
-use Rattle.changes.proofs.watches.count_all_changes.Tie as tie
+use Rattle.changes.proofs.each_watch.count_all_changes.Statement.{statement}
+use Rattle.changes.proofs.each_watch.count_all_changes.Tie as tie
 
 abbrev Inv-loop : tie.InvT-loop
 Inv-loop head columns lower-ends upper-ends quote lower watches first sum₀ i₀ sum i = Summed head lower-ends (rows (head .dimensions) (head .directions) columns upper-ends quote) lower watches sum i

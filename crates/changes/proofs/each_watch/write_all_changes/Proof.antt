@@ -5,8 +5,8 @@ use Rattle.finding.specs.Found.{rows}
 use Rattle.changes.proofs.Records.{watch-below}
 use Rattle.changes.proofs.Watching.{Written, written-start, written-fits, written-rest, written-more, written-all}
 use borrow.Author.Needs.{needs}
-use Rattle.changes.proofs.watches.write_all_changes.Statement.{statement}
-use Rattle.changes.proofs.watches.write_all_changes.Tie as tie
+use Rattle.changes.proofs.each_watch.write_all_changes.Statement.{statement}
+use Rattle.changes.proofs.each_watch.write_all_changes.Tie as tie
 
 abbrev Inv-loop : tie.InvT-loop
 Inv-loop head retired columns lower-ends upper-ends quote lower sound out₀ watches first at₀ i₀ out at i = Written head lower-ends (rows (head .dimensions) (head .directions) columns upper-ends quote) lower watches out₀ out at i
