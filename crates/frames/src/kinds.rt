@@ -3,6 +3,9 @@ ghost use mathlib.Core.Path.{_≡_};
 ghost use Rattle.frames.specs.Kinds.{shapeOf, codeOf, hasShape};
 use crate::Shape;
 
+// The highest kind of a quote, and how many columns it has.
+pub const MAX_COLUMNS: u8 = 6;
+
 pub const LOOK: u8 = 16;
 
 pub const WATCH: u8 = 17;
@@ -25,20 +28,47 @@ pub const PAIR_JOIN: u8 = 37;
 
 pub const OPEN: u8 = 48;
 
-// The shape of a kind.
+// The shape of a kind: a decision by ranges, from the lowest kinds up.
 pub fn shape_of(kind: u8) -> Shape
     ensures { λ r. ⌜ r ≡ shapeOf kind ⌝ }
 {
-    match kind {
-        1..=6 => Shape::Columns,
-        LOOK | WATCH | UNWATCH => Shape::Size,
-        PAIR | PAST => Shape::SizePair,
-        UNPAIR => Shape::Bare,
-        LEAVE | JOIN => Shape::SizePosition,
-        PAIR_LEAVE | PAIR_JOIN => Shape::Position,
-        OPEN => Shape::Settings,
-        _ => Shape::Unknown,
+    if kind == 0 {
+        return Shape::Unknown;
     }
+    if kind <= MAX_COLUMNS {
+        return Shape::Columns;
+    }
+    if kind < LOOK {
+        return Shape::Unknown;
+    }
+    if kind <= UNWATCH {
+        return Shape::Size;
+    }
+    if kind < PAIR {
+        return Shape::Unknown;
+    }
+    if kind == UNPAIR {
+        return Shape::Bare;
+    }
+    if kind <= PAST {
+        return Shape::SizePair;
+    }
+    if kind < LEAVE {
+        return Shape::Unknown;
+    }
+    if kind <= JOIN {
+        return Shape::SizePosition;
+    }
+    if kind < PAIR_LEAVE {
+        return Shape::Unknown;
+    }
+    if kind <= PAIR_JOIN {
+        return Shape::Position;
+    }
+    if kind == OPEN {
+        return Shape::Settings;
+    }
+    Shape::Unknown
 }
 
 // A number for each shape, by which two are compared.

@@ -7,6 +7,7 @@ ghost use Rattle.frames.specs.Frames.{messageAt, columnsAt, saying, read
 use crate::Message;
 use crate::Read;
 use crate::Shape;
+use crate::kinds::MAX_COLUMNS;
 use crate::kinds::shape_of;
 use crate::lengths::body_length;
 use head::Refusal;
@@ -77,7 +78,7 @@ pub fn read_at(tape: &[u8], place: usize) -> Read
     if tape.len() < next {
         return stay(Message::Refused(Refusal::CutFrame), place);
     }
-    if 6 < kind {
+    if MAX_COLUMNS < kind {
         let message = message_at(tape, body, kind);
         return Read {
             message,
