@@ -225,17 +225,21 @@ foretells quoted s = record {
   next = s;
 }
 
--- one call of the reference model, its refusals in 01's order
-unfoldable pub referenceStep : Call → Lengths → Reference → Told
-referenceStep (Open d N directions) l s =
-    tells ((not (settingsHold d N directions), number Settings) ∷ (tooShort l d N, number ShortLoan) ∷ [])
-    (freshHead 0 0 0) 0 [] [] (opening d N directions) s
-referenceStep (Quote x) l s =
+-- what is told of a quote, its refusals in 01's order
+abbrev quoteTold : List ℕ → Lengths → Reference → Told
+quoteTold x l s =
     let next = withQuote s x in
     let written = frames (allChanges (s .watched) (skylineOf s) (skylineOf next) ++ pairChanges (pairOf s) (pairOf next)) in
     tells ((not (opened s), number Settings) ∷ (not (eqb (length x) (s .dimensions)), number ColumnCount)
     ∷ (leb lastPosition (newest s), number TapeFull) ∷ (ltb (l .bytes) (length written), number ShortOutput) ∷ [])
     (headOf s) (length written) written [] next s
+
+-- one call of the reference model, its refusals in 01's order
+unfoldable pub referenceStep : Call → Lengths → Reference → Told
+referenceStep (Open d N directions) l s =
+    tells ((not (settingsHold d N directions), number Settings) ∷ (tooShort l d N, number ShortLoan) ∷ [])
+    (freshHead 0 0 0) 0 [] [] (opening d N directions) s
+referenceStep (Quote x) l s = quoteTold x l s
 referenceStep (Look n) l s =
     let written = skylineOf s n in
     tells ((not (opened s), number Settings) ∷ (outside s n, number WindowSize) ∷ (ltb (l .cells) (length written), number ShortOutput) ∷ [])
@@ -265,4 +269,4 @@ referenceStep Due l s =
     let written = dueCells (newest s) (s .n1) (dueOf s) in
     tells ((not (opened s), number Settings) ∷ (ltb (l .cells) (length written), number ShortOutput) ∷ [])
     (headOf s) (length (dueOf s)) [] written s s
-referenceStep (Preview x) l s = foretells (referenceStep (Quote x) l s) s
+referenceStep (Preview x) l s = foretells (quoteTold x l s) s
