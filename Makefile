@@ -14,8 +14,8 @@ LISTS ?= 20000
 RUNS ?= 9
 PLANTS := equal oldest window kept misprint upper pair-first nine-first pair-end
 CALL_PLANTS := renamed torn-first past-memory early live-lower overwritten retired-lower fourteen-first live-zeros upper-free \
-  pair-first nine-first pair-end due-equal due-cells blind-look audit-pair
-RULE_PLANTS := upper-free pair-end due-equal
+  pair-first nine-first pair-end due-equal due-cells blind-look audit-pair preview-settles preview-held preview-head
+RULE_PLANTS := upper-free pair-end due-equal preview-settles preview-held preview-head
 SAMPLES := $(basename $(wildcard tapes/*.txt))
 RUSTC := rustc --edition 2021 -O -D warnings
 
@@ -43,7 +43,8 @@ random: build/plain_model $(PRINTER)
 random-calls: build/random_calls $(PLAYER)
 	@build/random_calls $(PLAYER) $(SEED) $(LISTS)
 
-# the audit's plain rules, lists and what is due, as that model has them, against every tape of small settings
+# the audit's plain rules, lists and what is due, as that model has them, against every tape of small settings; its
+# previews against its quotes
 rules: build/random_calls
 	@build/random_calls --rules
 

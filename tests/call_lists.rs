@@ -25,7 +25,7 @@ const EDGES: [u32; 16] = [
 ];
 
 /// Lines that cannot be taken.
-pub const BAD_LINES: [&str; 29] = [
+pub const BAD_LINES: [&str; 32] = [
     "",
     "quoted 1",
     "open 1 2",
@@ -40,6 +40,9 @@ pub const BAD_LINES: [&str; 29] = [
     "pair x 3",
     "unpair 1",
     "due 1",
+    "preview x",
+    "preview 1 4294967296",
+    "previewed 1",
     "watch x",
     "end -1",
     "audit 1",
@@ -192,14 +195,33 @@ impl List {
         (0..count).fold("quote".into(), |line, _| format!("{line} {}", self.value()))
     }
 
+    /// Says a call; of a quote mostly its preview first, with as much output, and at times what the preview leaves.
+    fn make(&mut self, call: String) {
+        if let Some(columns) = call.strip_prefix("quote").filter(|_| !self.once_in(3)) {
+            self.say(format!("preview{columns}"));
+            if self.once_in(4) && self.memory < 100 {
+                self.say("show".into());
+            }
+        }
+        self.say(call);
+    }
+
+    /// Says the preview of a quote, shows what it leaves, and says the quote.
+    pub fn previewed(&mut self, columns: &str) {
+        self.say(format!("preview{columns}"));
+        self.say("show".into());
+        self.say(format!("quote{columns}"));
+    }
+
     /// The line of some call that can have an output.
     fn writing_call(&mut self) -> String {
-        match self.r.below(8) {
+        match self.r.below(9) {
             0 => format!("look {}", self.window_size()),
             1 => format!("watch {}", self.window_size()),
             2 => self.past(),
             3 => self.pair(),
             4 => "due".into(),
+            5 => self.quote().replace("quote", "preview"),
             _ => self.quote(),
         }
     }
@@ -295,7 +317,7 @@ impl List {
         self.say(format!("lend {name} {length}"));
         for _ in 0..1 + self.r.below(2) {
             let call = self.any_call();
-            self.say(call);
+            self.make(call);
         }
         if self.once_in(4) {
             self.open();
@@ -309,7 +331,7 @@ impl List {
         let mut print = String::new();
         trial.lent.out = OUTPUT;
         trial.play(call, &mut print);
-        print.lines().nth(1).map_or(0, |output| output.split(' ').count() - 1)
+        print.lines().find_map(|line| line.strip_prefix("X ")).map_or(0, |output| output.split(' ').count())
     }
 
     /// A call with an output that is one too short, just long enough, or one longer.
@@ -318,11 +340,11 @@ impl List {
         let length = self.answer_length(&call);
         if length > 0 && !self.once_in(4) {
             self.say(format!("lend out {}", length - 1));
-            self.say(call.clone());
+            self.make(call.clone());
         }
         let more = usize::from(self.once_in(4) && length < OUTPUT);
         self.say(format!("lend out {}", length + more));
-        self.say(call);
+        self.make(call);
         self.say(format!("lend out {OUTPUT}"));
     }
 
@@ -349,7 +371,7 @@ impl List {
         self.say(format!("cell {name} {i} {value}"));
         for _ in 0..1 + self.r.below(3) {
             let call = self.any_call();
-            self.say(call);
+            self.make(call);
         }
         if !self.once_in(4) {
             self.say(format!("cell {name} {i} {old}"));
@@ -390,11 +412,11 @@ impl List {
             }
             19..=32 => {
                 let call = self.any_call();
-                self.say(call);
+                self.make(call);
             }
             _ => {
                 let quote = self.quote();
-                self.say(quote);
+                self.make(quote);
             }
         }
     }
@@ -646,7 +668,7 @@ impl List {
         }
         let (past, (n1, n2), quote) = (self.past(), self.window_sizes(), self.quote());
         for call in [past, format!("pair {n1} {n2}"), "unpair".into(), "due".into(), quote, "audit".into()] {
-            self.say(call);
+            self.make(call);
         }
         self.short_loan();
         if self.memory < 100 {
@@ -662,7 +684,7 @@ impl List {
             self.say(line);
             for _ in 0..1 + self.r.below(4) {
                 let call = self.any_call();
-                self.say(call);
+                self.make(call);
             }
             if self.once_in(8) {
                 self.say("show".into());

@@ -54,6 +54,12 @@ pub enum Plant {
     BlindLook,
     /// The audit says no of a torn pair.
     AuditPair,
+    /// A preview settles the tables as its quote would.
+    PreviewSettles,
+    /// A preview says the held rows where the live ones belong.
+    PreviewHeld,
+    /// A preview hands back the next head.
+    PreviewHead,
 }
 
 /// The head of a book; the pair is n1 and n2, 0 and 0 when it is unset.
@@ -69,7 +75,7 @@ pub struct Head {
 }
 
 /// How much of each buffer is lent to the calls.
-#[derive(Clone)]
+#[derive(Clone, PartialEq)]
 pub struct Lent {
     pub columns: usize,
     pub positions: usize,
@@ -402,6 +408,29 @@ impl Model {
         Ok(answer)
     }
 
+    /// A preview: answer and output of the quote on a copy, with the head as it came, and the row counts of the head that
+    /// the quote hands back; nothing that is lent but the output changes.
+    fn preview(&mut self, quote: &[u32], print: &mut String) {
+        let mut copy = self.clone();
+        let answer = copy.quote(quote);
+        let Head { live, held, .. } = copy.head;
+        match self.plant {
+            Plant::PreviewSettles => *self = Model { head: self.head, ..copy },
+            Plant::PreviewHead => self.head = copy.head,
+            _ => {}
+        }
+        self.answer(answer, 1, self.head, print);
+        let live = if self.plant == Plant::PreviewHeld { held } else { live };
+        line_of("N", &[live, held], print);
+    }
+
+    /// Whether another model has the same head, tables and records, and lends as much of them.
+    pub fn same_book(&self, other: &Model) -> bool {
+        let tables = self.columns == other.columns && self.positions == other.positions;
+        let ends = self.lower == other.lower && self.upper == other.upper;
+        self.head == other.head && tables && ends && self.watches == other.watches && self.lent == other.lent
+    }
+
     /// A look: 3, 11, 12, 5, 13; else the list of n.
     fn look(&self, n: u32) -> Result<Vec<u32>, u32> {
         self.judged_with(self.plant != Plant::BlindLook && self.torn_pair())?;
@@ -638,6 +667,7 @@ impl Model {
         match (words[0], &numbers(&words[1..])?[..]) {
             ("audit", &[]) => self.verdict(print),
             ("show", &[]) => self.show(print),
+            ("preview", columns) => self.preview(columns, print),
             ("head", &[d, memory, directions, newest, live, held, n1, n2]) => {
                 self.head = Head { d, memory, directions, newest, live, held, pair: (n1, n2) }
             }

@@ -1,10 +1,11 @@
 //! Plays random lists of calls through the book player and through a plain model of the calls on any tables, and
-//! compares what they print, line by line.
+//! compares what they print, line by line; in the model each preview is held against the quote behind it.
 //!
 //! usage: random_calls [--plant NAME] PLAYER [SEED [LISTS]]
 //!            compare the player with the model, or with a model that has a bug planted, on random lists
 //!        random_calls [--plant NAME] --rules
-//!            compare the model's audit, lists and due rows with every tape of small settings
+//!            compare the model's audit, lists and due rows with every tape of small settings, and its previews with
+//!            its quotes
 //!        random_calls --play < CALLS
 //!            play a list by the model alone
 
@@ -14,10 +15,12 @@ mod call_model;
 mod definitions;
 mod due_rules;
 mod piped;
+mod preview_rules;
 mod random;
 mod small_lists;
 
 use call_model::{Model, Plant};
+use preview_rules::Follower;
 use std::collections::BTreeMap;
 use std::io::Read;
 use std::sync::atomic::{AtomicBool, AtomicUsize, Ordering};
@@ -29,7 +32,7 @@ const BATCH: usize = 100;
 /// How many lines before a difference are shown; the whole list is saved.
 const SHOWN: usize = 20;
 /// The planted bugs by name.
-const PLANTS: [(&str, Plant); 17] = [
+const PLANTS: [(&str, Plant); 20] = [
     ("renamed", Plant::Renamed),
     ("torn-first", Plant::TornFirst),
     ("past-memory", Plant::PastMemory),
@@ -47,11 +50,16 @@ const PLANTS: [(&str, Plant); 17] = [
     ("due-cells", Plant::DueCells),
     ("blind-look", Plant::BlindLook),
     ("audit-pair", Plant::AuditPair),
+    ("preview-settles", Plant::PreviewSettles),
+    ("preview-held", Plant::PreviewHeld),
+    ("preview-head", Plant::PreviewHead),
 ];
-/// The answers that each call can give and that have to come.
-const ANSWERS: [(&str, &[&str]); 10] = [
+/// The answers that each call can give and that have to come; a quote directly behind its preview is counted by itself.
+const ANSWERS: [(&str, &[&str]); 12] = [
     ("open", &["0", "3", "11"]),
     ("quote", &["0", "3", "11", "12", "4", "6", "13"]),
+    ("preview", &["0", "3", "11", "12", "4", "6", "13"]),
+    ("previewed", &["0", "3", "11", "12", "4", "6", "13"]),
     ("look", &["0", "3", "11", "12", "5", "13"]),
     ("past", &["0", "3", "11", "12", "5", "14", "13"]),
     ("watch", &["0", "3", "11", "12", "5", "8", "9", "13"]),
@@ -79,9 +87,9 @@ struct Tally {
 
 impl Tally {
     /// Counts what a line printed: the call's word with the number or the verdict.
-    fn count(&mut self, line: &str, print: &str) {
+    fn count(&mut self, line: &str, previewed: bool, print: &str) {
         if let Some(("A" | "V", rest)) = print.split_once(' ') {
-            let word = line.split(' ').next().unwrap();
+            let word = if previewed { "previewed" } else { line.split(' ').next().unwrap() };
             let answer = rest.split([' ', '\n']).next().unwrap();
             *self.answers.entry(format!("{word} {answer}")).or_default() += 1;
         }
@@ -113,30 +121,37 @@ impl Tally {
 }
 
 impl Comparison {
-    /// What the model prints for some lists, played one behind the other.
-    fn model_print(&self, lists: &[Vec<String>], tally: &mut Tally) -> String {
-        let (mut model, mut print) = (Model::new(self.plant), String::new());
+    /// What the model prints for some lists, played one behind the other, and whether its previews are right.
+    fn model_print(&self, lists: &[Vec<String>], tally: &mut Tally) -> (String, bool) {
+        let (mut model, mut follower) = (Model::new(self.plant), Follower::default());
+        let (mut print, mut right) = (String::new(), true);
         for line in lists.iter().flatten() {
             let before = print.len();
-            model.play(line, &mut print);
-            tally.count(line, &print[before..]);
+            let previewed = follower.play(&mut model, line, &mut print);
+            if let (true, Err(message)) = (right, &previewed) {
+                eprintln!("random_calls: {}: the rules differ: {message}", self.label);
+                right = false;
+            }
+            tally.count(line, previewed == Ok(true), &print[before..]);
         }
-        print
+        (print, right)
     }
 
     /// Compares player and model on some lists, one behind the other in one process; the first of them has an index.
     fn compare(&self, name: &str, first: usize, lists: &[Vec<String>], tally: &mut Tally) -> bool {
-        let want = self.model_print(lists, tally);
+        let (want, right) = self.model_print(lists, tally);
         let input: String = lists.iter().flatten().flat_map(|line| [line, "\n"]).collect();
         let (got, well) = piped::printed(&self.player, input.as_bytes());
         let alike = got == want.as_bytes() && well;
-        if alike {
+        if !alike {
+            self.report(name, first, lists, &String::from_utf8_lossy(&got));
+        }
+        if alike && right {
             tally.alike += lists.len();
         } else {
             tally.unlike += 1;
-            self.report(name, first, lists, &String::from_utf8_lossy(&got));
         }
-        alike
+        alike && right
     }
 
     /// Says at which line of which list player and model differ, saves the list, and shows the calls that lead there.
@@ -243,7 +258,7 @@ fn main() {
     let start = Instant::now();
     check_examples();
     let right = if arguments.next_if_eq("--rules").is_some() {
-        audit_rules::hold(plant) && due_rules::hold(plant)
+        audit_rules::hold(plant) && due_rules::hold(plant) && preview_rules::hold(plant)
     } else {
         let player = arguments.next().expect("usage: random_calls [--plant NAME] PLAYER [SEED [LISTS]]");
         let seed: u64 = arguments.next().map_or(1, |s| s.parse().expect("a seed"));

@@ -1,5 +1,5 @@
 //! Small lists of calls that go through settings, n, pairs of n, counts of watches, lengths of tables and untorn books
-//! one by one, and bring the longest answers; and two that are worked out by hand.
+//! one by one, and bring the longest answers; and three that are worked out by hand.
 
 use crate::call_lists::{List, Values, BAD_LINES};
 use crate::call_model::OUTPUT;
@@ -37,7 +37,7 @@ fn every_pair(list: &mut List) {
 }
 
 /// After each of some quotes every n from 0 to N + 1 is looked at, watched, and its watch ended, every past list looked
-/// at, and every pair set and ended.
+/// at, every pair set and ended, and the next quote previewed.
 fn every_window(d: u32, memory: u32, directions: u32) -> Vec<String> {
     let mut list = small_list(d, memory, directions);
     for _ in 0..memory + 3 {
@@ -51,9 +51,8 @@ fn every_window(d: u32, memory: u32, directions: u32) -> Vec<String> {
         list.say("audit".into());
         list.say(format!("watch {memory}"));
         list.tight_output();
-        list.say("show".into());
         let quote = list.quote();
-        list.say(quote);
+        list.previewed(quote.trim_start_matches("quote"));
     }
     list.lines
 }
@@ -85,7 +84,7 @@ fn every_loan(d: u32, memory: u32) -> Vec<String> {
             for call in ["look 1", "past 1 1", "watch 1", "end 1", "pair 2 2", "due", "unpair", "audit"] {
                 list.say(call.into());
             }
-            list.say(format!("quote{}", zeros(d)));
+            list.previewed(&zeros(d));
             list.open();
         }
     }
@@ -133,10 +132,12 @@ fn any_pairs(memory: u32) -> Vec<String> {
     }
     let most = memory + 2;
     for (n1, n2) in (0..=most).flat_map(|n1| (0..=most).map(move |n2| (n1, n2))) {
-        for call in ["look 1", "past 1 1", "watch 1", "end 1", "pair 2 2", "unpair", "due", "quote 1", "audit"] {
+        for call in ["look 1", "past 1 1", "watch 1", "end 1", "pair 2 2", "unpair", "due", "audit"] {
             list.paired(n1, n2);
             list.say(call.into());
         }
+        list.paired(n1, n2);
+        list.previewed(" 1");
     }
     list.open();
     list.lines
@@ -156,7 +157,7 @@ fn longest_answers() -> Vec<String> {
     for n in 1_017..=1_024 {
         list.say(format!("watch {n}"));
     }
-    for call in ["quote 4", "quote 4", "due", "past 2 1024"] {
+    for call in ["preview 4", "quote 4", "preview 4", "quote 4", "due", "past 2 1024"] {
         say_tightly(&mut list, call);
     }
     list.say("audit".into());
@@ -214,8 +215,8 @@ fn every_ends(start: u32, newest: u32) -> Vec<Vec<(u32, u32)>> {
 }
 
 /// An untorn book of one column with M and the ends of its rows given, each row either beating the next quote or beaten
-/// by it, under three watches and a pair or none; two quotes on it, with what they leave, what is due, and every past
-/// list.
+/// by it, under three watches and a pair or none; two quotes on it, each previewed, with what they leave, what is due,
+/// and every past list.
 fn untorn_book(newest: u32, ends: &[(u32, u32)], beating: u32, pair: (u32, u32)) -> Vec<String> {
     let mut list = small_list(1, 3, 0);
     let start = newest + 1 - ends.len() as u32;
@@ -229,7 +230,8 @@ fn untorn_book(newest: u32, ends: &[(u32, u32)], beating: u32, pair: (u32, u32))
         list.say(call.into());
     }
     for _ in 0..2 {
-        for call in ["quote 1", "show", "due", "past 1 1", "past 1 2", "past 1 3", "past 2 2", "past 2 3", "past 3 3"] {
+        list.previewed(" 1");
+        for call in ["show", "due", "past 1 1", "past 1 2", "past 1 3", "past 2 2", "past 2 3", "past 3 3"] {
             list.say(call.into());
         }
     }
@@ -267,7 +269,7 @@ fn retired_over(memory: u32, newest: u32, place: u32, live_one: Option<u32>) -> 
     list.say(format!("watch {memory}"));
     list.say(format!("pair 2 {memory}"));
     for _ in 0..=memory {
-        list.say("quote 5 5".into());
+        list.previewed(" 5 5");
         list.say("show".into());
         list.say("due".into());
         list.say(format!("look {memory}"));
@@ -324,9 +326,26 @@ fn due_example() -> (Vec<String>, String) {
     (lines, print.into())
 }
 
+/// Previews before any opening, of a quote that brings changes, of a wrong column count, and with an output one byte too
+/// short and just long enough; a preview leaves the book as it was.
+fn preview_example() -> (Vec<String>, String) {
+    let before = ["preview 1", "open 2 5 0", "quote 5 5", "quote 3 8", "watch 2", "preview 4 4", "show", "quote 4 4"];
+    let calls = ["preview 7", "lend out 13", "preview 2 9", "lend out 14", "preview 2 9", "lend out 62520"];
+    let lines = before.iter().chain(&calls).map(|line| line.to_string()).collect();
+    let print = "A 3 0 0 0 0 0 0 0 0 0\nN 0 0\n\
+                 A 0 0 2 5 0 0 0 0 0 0\nA 0 0 2 5 0 1 1 1 0 0\nA 0 0 2 5 0 2 2 2 0 0\n\
+                 A 0 14 2 5 0 2 2 2 0 0\nX 33 2 0 1 0 0 0 33 2 0 2 0 0 0\n\
+                 A 0 14 2 5 0 2 2 2 0 0\nX 32 2 0 1 0 0 0 33 2 0 3 0 0 0\nN 2 3\n\
+                 C 5 5 3 8 0 0 0 0 0 0\nP 1 2 0 0 0\nE 0 0 0 0 0\nU 0 0 0 0 0\nW 2 0 0 0 0 0 0 0\n\
+                 A 0 14 2 5 0 3 2 3 0 0\nX 32 2 0 1 0 0 0 33 2 0 3 0 0 0\n\
+                 A 4 0 2 5 0 3 2 3 0 0\nN 2 3\nA 13 0 2 5 0 3 2 3 0 0\nN 2 3\n\
+                 A 0 14 2 5 0 3 2 3 0 0\nX 32 2 0 2 0 0 0 33 2 0 4 0 0 0\nN 3 4\n";
+    (lines, print.into())
+}
+
 /// The lists that are worked out by hand, with their prints.
 pub fn examples() -> Vec<(Vec<String>, String)> {
-    vec![past_example(), due_example()]
+    vec![past_example(), due_example(), preview_example()]
 }
 
 /// All small lists, and one of every sort of line that cannot be taken.

@@ -11,18 +11,23 @@ by_value: the records stand in a local array, lent for the call to the function 
 """
 
 # The parameters of each call, in order, with their sorts: head, num (a u32), shr (a &[u32]), mut (a &mut [u32]), out (a &mut [u8]) and
-# records; its promise, and the promise's arguments: {ws} for the watches, {j} for the reply, {name} for what is last in a slice.
+# records; its promise, and the promise's arguments: {ws} for the watches, {j} for the result, {name} for what is last in a slice; what the
+# law on its records is told; and the type of its result.
 SHARED = [(name, "shr") for name in ("columns", "positions", "lowerEnds", "upperEnds")]
 LENT = [(name, "mut") for name in ("columns", "positions", "lowerEnds", "upperEnds")]
 RECORDS = [("records", "records")]
 LAST = "(lent-tables {columns} {positions} {lowerEnds} {upperEnds})"
 CALLS = {
     "quote": ([("head", "head"), ("quoted", "shr")] + LENT + RECORDS + [("out", "out")], "Quoted",
-              "head (quoted .now) lent {ws} (out .now) {j} " + LAST + " {out}", "head (quoted .now) lent"),
+              "head (quoted .now) lent {ws} (out .now) {j} " + LAST + " {out}", "head (quoted .now) lent", "Reply"),
+    "preview": ([("head", "head"), ("quoted", "shr")] + SHARED + RECORDS + [("out", "out")], "Previewed",
+                "head (quoted .now) lent {ws} (out .now) {j} {out}", "head (quoted .now) lent", "Effect"),
     "pair": ([("head", "head"), ("n1", "num"), ("n2", "num")] + SHARED + RECORDS + [("out", "out")], "Paired",
-             "head n1 n2 lent {ws} (out .now) {j} {out}", "head n1 n2 lent"),
-    "unpair": ([("head", "head")] + SHARED + RECORDS, "Unpaired", "head lent {ws} {j}", "head lent"),
+             "head n1 n2 lent {ws} (out .now) {j} {out}", "head n1 n2 lent", "Reply"),
+    "unpair": ([("head", "head")] + SHARED + RECORDS, "Unpaired", "head lent {ws} {j}", "head lent", "Reply"),
 }
+# The machine values of a result of each type, and that what a call hands back is spelled so.
+SPELLED = {"Reply": ("machines", "spelled"), "Effect": ("effect-machines", "effect-spelled")}
 MARK = "-- what is had of each parameter at the end"
 ROWS = "(array-typed T.the-row (LL.lawful T.the-type T′.the-laws 𝓤 H A W .typed) 8 records _ is-records .0)"
 GIVEN = "{M : Type 1} (𝓤 : URA M) (H : Heap 𝓤) (A : Atoms 𝓤)"
@@ -59,7 +64,8 @@ class Walk:
 
     def __init__(self, name, lent_records):
         self.name, self.lent_records = name, lent_records
-        self.params, self.promise, self.said, self.of = CALLS[name]
+        self.params, self.promise, self.said, self.of, self.result = CALLS[name]
+        self.machines, self.spelled = SPELLED[self.result]
         self.names = [n for n, _ in self.params]
         borrowed = ("shr", "mut", "out") + (("records",) if lent_records else ())
         self.life = {n: i for i, n in enumerate([n for n, s in self.params if s in borrowed])}
@@ -155,12 +161,12 @@ class Walk:
         self.add("  -- what is left at the return, with what is lent at its last values",
                  "  abbrev Left : " + "List ℕ → " * len(last) + "List (Item 𝓤)",
                  f"  {head} = " + " ∷ ".join(left + finals + ["[]"]), "",
-                 "  exits : " + "".join(f"({n} : List ℕ) " for n in last) + "(j : Reply) → Is R.the-row j (machines j) → "
+                 "  exits : " + "".join(f"({n} : List ℕ) " for n in last) + f"(j : {self.result}) → Is R.the-row j ({self.machines} j) → "
                  + "".join(f"length {n}-last ≡ length ({n} .now) → " for n in self.kept)
                  + f"{self.promise} {self.promised(watches, 'j', {n: n + '-last' for n in self.kept})}"
-                 + f" → ent 𝓤 (⋆ 𝓤 H A ({head})) (Post (only (machines j)))",
+                 + f" → ent 𝓤 (⋆ 𝓤 H A ({head})) (Post (only ({self.machines} j)))",
                  "  " + " ".join(["exits"] + last + ["j", "is"] + [f"{n}-len" for n in self.kept] + ["kept"]) + " =",
-                 f"      qed W ({head}) ∵ suffices ! _ (ends-at 𝓤 H A f.ended stayed (f.clauses 𝓤 H A mem run) W bound (only (machines j)) j "
+                 f"      qed W ({head}) ∵ suffices ! _ (ends-at 𝓤 H A f.ended stayed (f.clauses 𝓤 H A mem run) W bound (only ({self.machines} j)) j "
                  + nest([f"{n}-last" if n in self.kept else "tt" for n in self.names]) + " "
                  + nest([f"{n}-len" if n in self.kept else "tt" for n in self.names]) + ") $ says ! kept $", f"      {steps(gather)} frame ! $")
         final, joins = list(self.kept), ["nothing !"]
@@ -168,7 +174,7 @@ class Walk:
             joins += [at(final.index(n) + 1, 0), "fjoin !"] if n in final else ["nothing !", "fjoin !"]
             final = [m for m in final if m != n]
         self.add(f"      {steps(joins)} frame ! $",
-                 "      owned ! R.the-row (Is R.the-row) ((LL.makes R.the-type R′.the-plain) 𝓤 H A) j (machines j) is $ done !", "")
+                 f"      owned ! R.the-row (Is R.the-row) ((LL.makes R.the-type R′.the-plain) 𝓤 H A) j ({self.machines} j) is $ done !", "")
 
     def fits(self):
         records = "(room : Room T.the-row (length ys))" if self.lent_records else "(is-records : Is (Array T.the-row 8) records (recorded records))"
@@ -212,7 +218,7 @@ class Walk:
         for n in order:
             ends += ["fsplit !", "fsplit !", at(1), f"feqL ! (λ {n}-same. {at(1)}"] if n in self.kept else ["fsplit !", "drop !", at(0)]
         front = [at(len(self.kept))] if self.kept else []
-        self.add(f"        use1 W (later (some (λ (j : Reply). ({tokens} ⊛ ‵ (R.the-row .own j (c ∷ []))) ⊛ some (λ (zs : Ends). ‵ ({lasts}) ⊛ raw (fact 𝓤 ({said})))))) (id⊢ 𝓤 _) $ await ! tt $ pick ! (λ j. split ! $ {at(1)} $ pick ! (λ zs. split ! $ {at(1)} $ heard ! ({said}) (λ {known}.",
+        self.add(f"        use1 W (later (some (λ (j : {self.result}). ({tokens} ⊛ ‵ (R.the-row .own j (c ∷ []))) ⊛ some (λ (zs : Ends). ‵ ({lasts}) ⊛ raw (fact 𝓤 ({said})))))) (id⊢ 𝓤 _) $ await ! tt $ pick ! (λ j. split ! $ {at(1)} $ pick ! (λ zs. split ! $ {at(1)} $ heard ! ({said}) (λ {known}.",
                  f"        {steps(ends)} drop ! $",
                  f"        {steps(front + ['split !', at(1)])} peeks ! R.the-row (Is R.the-row) (shows 𝓤 H A R.the-row) j (c ∷ []) (λ has. drop ! $",
                  f"        land ! (from ! (stop !)) (init ! {landed} refl (LL.lawful R.the-type R′.the-laws 𝓤 H A W .typed j _ has .0)) $ rewrite ! {landed} (λ (z : Val). ‵ (fat fullShare R′.mir l₀ 0 z)) (ap only (LL.tells R.the-type R′.the-laws j (c ∷ []) has)) refl $")
@@ -220,7 +226,7 @@ class Walk:
     def leave(self, forgets, frees, keep, order, kept, binders):
         """The return, the locals given back, and the end."""
         lasts = [f"(zs {'.1 ' * order.index(n)}.0)" for n in self.kept]
-        exits = " ".join(["exits"] + lasts + ["j", "(spelled j c has)"] + [f"{n}-same" for n in self.kept] + [kept])
+        exits = " ".join(["exits"] + lasts + ["j", f"({self.spelled} j c has)"] + [f"{n}-same" for n in self.kept] + [kept])
         self.add(f"        returns ! (look ! {forgets[-1]} refl) $ " + steps([f"forget ! {p} refl" for p in forgets]),
                  "        " + steps(sum([[at(a, b), "free1 !"] for a, b in frees], []) + ["free0 !"]),
                  f"        keep ! ({' ∷ '.join(map(str, keep))} ∷ []) $ by ! ({exits})" + ")" * (self.locals + binders + len(self.kept)), "")
@@ -287,7 +293,7 @@ def shared_walk(name):
           "  goes : (r : List ℕ) (u : Val) → ent 𝓤 (sep 𝓤 (mean 𝓤 H A Tokens) (sem 𝓤 H A (Passed r u))) (Callee 𝓤 H A mem run .pre (to r u))",
           "  goes r u = qed W (Tokens ∷ ‵ (Passed r u) ∷ []) ∵ join ! $ frame ! $ nothing ! $ done !", "",
           "  abbrev Ends : Type 0", "  Ends = " + product(["List ℕ" if n in w.kept else "Unit {0}" for n in order]), "",
-          "  abbrev Said : List ℕ → Reply → Ends → Type 0",
+          f"  abbrev Said : List ℕ → {w.result} → Ends → Type 0",
           f"  Said r j zs = {w.promise} " + w.promised("(take (length ys) r)", "j", {n: f"(zs {'.1 ' * order.index(n)}.0)" for n in w.kept}), "")
     context, gather = ["all"] + lives[::-1] + [records], ["split !", at(1)] * len(lives)
     for i in range(k - 1, -1, -1):
@@ -348,7 +354,7 @@ def valued_walk(name):
           "  goes : (ν l : ℕ) (δ : GName) → ent 𝓤 (sep 𝓤 (mean 𝓤 H A (Tokens ν)) (sem 𝓤 H A (Passed ν l δ))) (Callee 𝓤 H A mem run .pre (to ν l δ))",
           "  goes ν l δ = qed W (Tokens ν ∷ ‵ (Passed ν l δ) ∷ []) ∵ join ! $ frame ! $ nothing ! $ done !", "",
           "  abbrev Ends : Type 0", "  Ends = " + product(["List ℕ" if n in w.kept else "Unit {0}" for n in order]), "",
-          "  abbrev Said : Reply → Ends → Type 0",
+          f"  abbrev Said : {w.result} → Ends → Type 0",
           f"  Said j zs = {w.promise} " + w.promised("(watched records)", "j", {n: f"(zs {'.1 ' * order.index(n)}.0)" for n in w.kept}), "")
     w.exits([f"‵ (flft κ{low(i)} q{low(i)})" for i in range(k)], ["nothing !"] + sum([[at(i, 0), "join !"] for i in range(k, 0, -1)], []))
     w.add(f"  module _ {w.fits()}",

@@ -56,6 +56,7 @@ inPlace begun (Call.Past n1 n2) = begun
 inPlace begun (Call.Pair n1 n2) = begun
 inPlace begun Call.Unpair = begun
 inPlace begun Call.Due = begun
+inPlace begun (Call.Preview x) = begun
 
 -- what is asked for, in its place
 unfoldable pub placed : Bool → Asked → Asked
@@ -70,7 +71,7 @@ asked begun (told m) columns = placed begun (asks m columns)
 asked begun ended columns = finished
 asked begun (refused k) columns = unread k
 
--- some frame asks for this call: for any but what is due
+-- some frame asks for this call: for any but what is due and a preview
 unfoldable pub playable : Call → Bool
 playable (Call.Open d N directions) = true
 playable (Call.Quote x) = true
@@ -81,3 +82,4 @@ playable (Call.Past n1 n2) = true
 playable (Call.Pair n1 n2) = true
 playable Call.Unpair = true
 playable Call.Due = false
+playable (Call.Preview x) = false

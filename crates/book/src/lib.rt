@@ -11,6 +11,7 @@ pub use looking::due;
 pub use looking::look;
 pub use looking::past;
 pub use shared_records::pair;
+pub use shared_records::preview;
 pub use shared_records::quote;
 pub use shared_records::unpair;
 pub use watches::find_record;

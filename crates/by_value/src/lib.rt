@@ -3,11 +3,12 @@
 ghost use mathlib.Core.Path.{_≡_};
 ghost use Rattle.lists.specs.Lists.{contains};
 ghost use Rattle.model.specs.Book.{standing};
-ghost use Rattle.model.specs.Promises.{tables, Opened, Quoted, Watched, Ended, Paired, Unpaired};
+ghost use Rattle.model.specs.Promises.{tables, Opened, Quoted, Previewed, Watched, Ended, Paired, Unpaired};
 ghost use Rattle.watches.specs.Records.{watched};
 ghost use Rattle.frames.specs.Moved.{Moved};
 use frames::Place;
 use frames::Read;
+use head::Effect;
 use head::Head;
 use head::Reply;
 use head::Watch;
@@ -75,6 +76,34 @@ pub fn quote(
 {
     let held = records;
     shared_records::quote(
+        head,
+        quoted,
+        columns,
+        positions,
+        lower_ends,
+        upper_ends,
+        &held,
+        out,
+    )
+}
+
+// Previews a quote.
+pub fn preview(
+    head: Head,
+    quoted: &[u32],
+    columns: &[u32],
+    positions: &[u32],
+    lower_ends: &[u32],
+    upper_ends: &[u32],
+    records: [Watch; 8],
+    out: &mut [u8],
+) -> Effect
+    ensures { λ r. ⌜ Previewed head (now (quoted .entry))
+        (tables (now (columns .entry)) (now (positions .entry)) (now («lower_ends» .entry)) (now («upper_ends» .entry)))
+        (watched records) (now (out .entry)) r (now (out .exit)) ⌝ }
+{
+    let held = records;
+    shared_records::preview(
         head,
         quoted,
         columns,

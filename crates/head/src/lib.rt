@@ -66,6 +66,14 @@ pub struct Reply {
     pub count: usize,
 }
 
+// What a preview of a quote hands back: the quote's answer and count with the head as it came, and how many rows the quote would leave
+// live and held.
+pub struct Effect {
+    pub reply: Reply,
+    pub live: u32,
+    pub held: u32,
+}
+
 // The head of a book: its settings (01: d, N, directions), the newest position (01: M), the numbers of live rows
 // and of all rows held, and the pair whose past list is watched, 0 and 0 when unset.
 pub struct Head {

@@ -11,13 +11,16 @@ use borrow.Author.Tests.{lt-ltb}
 use Rattle.head.specs.declared.Head.{Head}
 use Rattle.head.specs.declared.Refusal.the-variants.{Settings, ShortLoan}
 use Rattle.head.specs.declared.Reply.{Reply}
+use Rattle.head.specs.declared.Effect.{Effect}
 use Rattle.head.specs.Heads.{freshHead, settingsHold, withPair}
 use Rattle.head.specs.Refusals.{number, firstOf, granted}
 use Rattle.head.specs.Replies.{Outcome, outcome}
 use Rattle.head.proofs.Numbers.{granted-refused}
 use Rattle.model.specs.Rows.{Tables}
 use Rattle.model.specs.Book.{shortTables, shortLoan, watchfulAnswer, replyOf, openAnswer, openReply, openTables, quoteHead, quoteBytes, quoteAnswer, quoteReply, quoteTables, quoteOut, watchBytes, watchAnswer, watchReply, watchOut, endAnswer, endReply, pairBytes, pairAnswer, pairReply, pairOut, unpairAnswer, unpairReply}
-use Rattle.model.specs.Promises.{Opened, Quoted, Watched, Ended, Paired, Unpaired}
+use Rattle.model.specs.Promises.{Opened, Quoted, Previewed, Watched, Ended, Paired, Unpaired}
+use Rattle.previewing.specs.Effects.{effectOf}
+use Rattle.previewing.proofs.Previews.{tells-quote}
 use Rattle.lending.specs.declared.Judgement.{Judgement}
 use Rattle.lending.specs.Lent.{judgement, Judged, fewAnswer, fewReply, OpenJudged, WatchJudged}
 
@@ -71,6 +74,9 @@ module _ (watches : List ℕ) (lent : ℕ) where
   pub quote-eight : (h : Head) (x : List ℕ) (t : Tables) {before : List ℕ} {r : Reply} {t' : Tables} {out : List ℕ} → length watches ≤ lent → Quoted h x t watches before r t' out → Quoted h x t ws before r t' out
   quote-eight h x t {before} {r} {t'} {out} k m = subst (λ (l : List ℕ). Quoted h x t l before r t' out) (enough k) m
 
+  pub preview-eight : (h : Head) (x : List ℕ) (t : Tables) {before : List ℕ} {e : Effect} {out : List ℕ} → length watches ≤ lent → Previewed h x t watches before e out → Previewed h x t ws before e out
+  preview-eight h x t {before} {e} {out} k m = subst (λ (l : List ℕ). Previewed h x t l before e out) (enough k) m
+
   pub pair-eight : (h : Head) (n1 n2 : ℕ) (t : Tables) {before : List ℕ} {r : Reply} {out : List ℕ} → length watches ≤ lent → Paired h n1 n2 t watches before r out → Paired h n1 n2 t ws before r out
   pair-eight h n1 n2 t {before} {r} {out} k m = subst (λ (l : List ℕ). Paired h n1 n2 t l before r out) (enough k) m
 
@@ -115,6 +121,9 @@ module _ (watches : List ℕ) (lent : ℕ) where
           lent = rw (few-watchful h t) (few-left h _ t);
           out = rw (few-watchful h t) (few-left h _ before);
         }
+
+    pub preview-few : (h : Head) (x : List ℕ) (t : Tables) {before : List ℕ} (r : Reply) → outcome r ≡ fewReply h h → {e : Effect} → e ≡ effectOf h r → Previewed h x t ws before e before
+    preview-few h x t {before} r f told = let m : Quoted h x t ws before r t before = quote-few h x t f in tells-quote h x t ws r told (m .reply) (m .out)
 
     pub pair-few : (h : Head) (n1 n2 : ℕ) (t : Tables) {before : List ℕ} {r : Reply} → outcome r ≡ fewReply h h → Paired h n1 n2 t ws before r before
     unfolding pairReply pairAnswer pairOut

@@ -4,13 +4,16 @@ ghost use mathlib.Core.Path.{_≡_};
 ghost use lib.ListN.{take};
 ghost use Rattle.head.specs.Replies.{outcome};
 ghost use Rattle.model.specs.Book.{endReply};
-ghost use Rattle.model.specs.Promises.{tables, Quoted, Paired, Unpaired};
+ghost use Rattle.model.specs.Promises.{tables, Quoted, Previewed, Paired, Unpaired};
 ghost use Rattle.lending.specs.Lent.{judgement, Judged, fewReply, OpenJudged, WatchJudged};
 use head::Answer;
+use head::Effect;
 use head::Head;
 use head::Refusal;
 use head::Reply;
 use opening::open;
+use previewing::effect_of;
+use previewing::preview;
 use quoting::quote;
 use watching::end;
 use watching::pair;
@@ -112,6 +115,37 @@ pub fn quote_lent(
         return few(head, head);
     }
     quote(
+        head,
+        quoted,
+        columns,
+        positions,
+        lower_ends,
+        upper_ends,
+        watches,
+        out,
+    )
+}
+
+// Previews a quote.
+pub fn preview_lent(
+    head: Head,
+    quoted: &[u32],
+    columns: &[u32],
+    positions: &[u32],
+    lower_ends: &[u32],
+    upper_ends: &[u32],
+    watches: [u32; 8],
+    lent: usize,
+    out: &mut [u8],
+) -> Effect
+    ensures { λ r. ⌜ Previewed head (now (quoted .entry))
+        (tables (now (columns .entry)) (now (positions .entry)) (now («lower_ends» .entry)) (now («upper_ends» .entry)))
+        (take lent watches) (now (out .entry)) r (now (out .exit)) ⌝ }
+{
+    if lent < 8 {
+        return effect_of(head, few(head, head));
+    }
+    preview(
         head,
         quoted,
         columns,

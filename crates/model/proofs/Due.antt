@@ -17,8 +17,8 @@ use Rattle.skyline.proofs.Due as Joining
 use Rattle.head.specs.Refusals.{granted}
 use Rattle.head.specs.Heads.{lastPosition, tornPair}
 use Rattle.model.specs.Rows.{Row, dueRows}
-use Rattle.model.specs.Reference.{Reference, newest, over, pastOf, paired, rowOf, rowsOf, headOf, dueOf, opened, withQuote, withQuotes, withWatched, withPairOf, opening, tells, referenceStep}
-use Rattle.model.specs.Calls.{Call, Open, Quote, Look, Watch, End, Past, Pair, Unpair, Due, Outputs, Lending, Lent, Seen, Expected, lengthsOf, expectedStep, bookStep, runs, worldFirst, expectedFirst, expectedAtEnd, referenceAtEnd}
+use Rattle.model.specs.Reference.{Reference, newest, over, pastOf, paired, rowOf, rowsOf, headOf, dueOf, opened, withQuote, withQuotes, withWatched, withPairOf, opening, tells, foretells, referenceStep}
+use Rattle.model.specs.Calls.{Call, Open, Quote, Look, Watch, End, Past, Pair, Unpair, Due, Preview, Outputs, Lending, Lent, Seen, Expected, lengthsOf, expectedStep, bookStep, runs, worldFirst, expectedFirst, expectedAtEnd, referenceAtEnd}
 use Rattle.model.specs.Audit.{plays}
 use Rattle.model.specs.Claims.{isQuote, isOpening, acceptedIn, stretch, IsDue, dueAfter}
 use Rattle.model.proofs.Quotes.{at-irreflexive, over-within}
@@ -160,7 +160,7 @@ module _ (o : Outputs) (k : Expected) where
 
   -- one call
   later-step : (c : Call) → isOpening c && eqb (answered c) 0 ≡ false → Later s (expectedStep c o k .1 .reference) (cond (isQuote c && eqb (answered c) 0) 1 0)
-  unfolding expectedStep referenceStep tells lengthsOf isOpening isQuote withWatched withPairOf
+  unfolding expectedStep referenceStep tells foretells lengthsOf isOpening isQuote withWatched withPairOf
   later-step (Open d N directions) e = later-unopened (answered (Open d N directions)) s (opening d N directions) e
   later-step (Quote x) e = later-quoted (answered (Quote x)) s x
   later-step (Look n) e = later-granted (answered (Look n)) (later-same s)
@@ -170,6 +170,7 @@ module _ (o : Outputs) (k : Expected) where
   later-step (Pair n1 n2) e = later-granted (answered (Pair n1 n2)) (later-alike s (withPairOf s n1 n2) refl refl refl)
   later-step Unpair e = later-granted (answered Unpair) (later-alike s (withPairOf s 0 0) refl refl refl)
   later-step Due e = later-granted (answered Due) (later-same s)
+  later-step (Preview x) e = later-same s
 
 -- a list of calls
 later-runs : (cs : List Lending) (k : Expected) → acceptedIn isOpening cs (runs expectedStep cs k .0) ≡ 0

@@ -21,8 +21,8 @@ use Rattle.head.proofs.Numbers.{zero-passed}
 use Rattle.frames.specs.declared.Message.{Message}
 use Rattle.frames.specs.Frames.{messagesFrom}
 use Rattle.model.specs.Changes.{join, pairJoin, allChanges, pairChanges, frames}
-use Rattle.model.specs.Reference.{Reference, newest, over, skylineOf, pastOf, paired, pairOf, outside, outsidePair, withQuote, withWatched, withPairOf, opening, tells, referenceStep}
-use Rattle.model.specs.Calls.{Call, Open, Quote, Look, Watch, End, Past, Pair, Unpair, Due, Outputs, Lent, Seen, lengthsOf, expectedStep}
+use Rattle.model.specs.Reference.{Reference, newest, over, skylineOf, pastOf, paired, pairOf, outside, outsidePair, withQuote, withWatched, withPairOf, opening, tells, foretells, referenceStep}
+use Rattle.model.specs.Calls.{Call, Open, Quote, Look, Watch, End, Past, Pair, Unpair, Due, Preview, Outputs, Lent, Seen, lengthsOf, expectedStep}
 use Rattle.model.specs.Watcher.{Follower, OfSize, OfPair, Held, Nothing, Holding, heedsAll, reads, sizedFor, pairedFor, watcherStep, watchedFor, listFor, heldBy}
 use Rattle.model.proofs.Simulation.{Bounded, in-range, in-pair-range}
 use Rattle.model.proofs.Heeding.{PutsIn, Ignores, first-heeded, unheeded, size-puts, size-keeps-join, size-keeps-pair-join, pair-keeps-join, pair-puts, size-led, pair-led}
@@ -250,6 +250,11 @@ module _ (f : Follower) (s : Reference) (l : Lent) (ok : Bounded s) (o : Outputs
   unfolding expectedStep referenceStep tells lengthsOf watcherStep
   looks-due = still (answered Due)
 
+  -- nor does a preview, whose frames nobody applies
+  previews : (x : List ℕ) → Follows (Preview x)
+  unfolding expectedStep referenceStep foretells watcherStep
+  previews x = refl
+
   -- the joins of an accepted watch are read
   watches : (m : ℕ) → Follows (Watch m)
   unfolding expectedStep referenceStep tells lengthsOf watcherStep granted
@@ -300,3 +305,4 @@ module _ (f : Follower) (s : Reference) (l : Lent) (ok : Bounded s) (o : Outputs
   follows (Pair n1 n2) = pairs n1 n2
   follows Unpair = unpairs
   follows Due = looks-due
+  follows (Preview x) = previews x

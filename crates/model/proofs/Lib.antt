@@ -34,3 +34,4 @@ pub mod Passing
 pub mod Stretches
 pub mod Due
 pub mod Refining
+pub mod Previews

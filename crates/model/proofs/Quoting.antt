@@ -1,4 +1,4 @@
--- A quote is answered alike by both models.
+-- A quote and its preview are answered alike by both models.
 use mathlib.Core.Path.{_≡_, refl, sym, ap, _∙_}
 use mathlib.Core.Logic.{inr}
 use Prim.Native.Nat.{ℕ, zero, suc, _≤_, _<_}
@@ -15,9 +15,9 @@ use Rattle.head.specs.Refusals.{number, firstOf, granted}
 use Rattle.head.specs.Heads.{lastPosition}
 use Rattle.head.proofs.Numbers.{zero-passed, firstOf-alike}
 use Rattle.model.specs.Rows.{filled}
-use Rattle.model.specs.Reference.{Reference, quoteAt, newest, rowsOf, headOf, opened, withQuote, tells, referenceStep}
-use Rattle.model.specs.Book.{shortLoan, replyOf, quoteRows, quoteHead, quoteBytes, quoteAnswer, quoteReply, quoteTables, quoteOut}
-use Rattle.model.specs.Calls.{Quote, Outputs, Lent, bookSeen, headAfter, worldAfter, bookStep, lengthsOf, shown, expectedStep}
+use Rattle.model.specs.Reference.{Reference, quoteAt, newest, rowsOf, headOf, opened, withQuote, tells, foretells, referenceStep}
+use Rattle.model.specs.Book.{shortLoan, replyOf, quoteRows, quoteHead, quoteBytes, quoteAnswer, quoteReply, quoteTables, quoteOut, previewReply, previewCounts, previewOut}
+use Rattle.model.specs.Calls.{Quote, Preview, Outputs, Lent, bookSeen, headAfter, worldAfter, bookStep, lengthsOf, shown, expectedStep}
 use Rattle.model.proofs.Quotes.{newest-after, quote-within, quote-new, rows-after-quote, head-after-quote}
 use Rattle.model.proofs.Written.{written, pair-kept, written-is}
 use Rattle.model.proofs.Tables.{filled-again, filled-long}
@@ -122,4 +122,16 @@ module _ (s : Reference) (l : Lent) (f : Invariant s l) (x : List ℕ) where
             let wide = eqb-true (length x) (s .dimensions) (not-false (eqb (length x) (s .dimensions)) (a .0)) in
             let room = leb-false lastPosition (newest s) (zero-passed _ _ _ (a .1) .0) in
             rw (answers, e, bytes-are room, head-is room, shown-after) (refl, record { head = refl; lent = refl; since = inr (invariant wide room) })
+        go (suc k) e = rw (answers, e, shown-still s l f) (refl, simulation s l f)
+
+    -- so is its preview, which leaves both models as they are
+    pub previews : Agree (Preview x) o (referenceWith s l) (bookWith s l)
+    unfolding bookSeen headAfter worldAfter bookStep expectedStep referenceStep tells foretells lengthsOf
+        previewReply previewCounts previewOut quoteReply quoteOut replyOf granted laid
+    previews = go answer refl
+      where
+        go : (a : ℕ) → answer ≡ a → Agree (Preview x) o (referenceWith s l) (bookWith s l)
+        go zero e =
+            let room = leb-false lastPosition (newest s) (zero-passed _ _ _ (zero-passed _ _ _ (zero-passed _ _ _ e .1) .1) .0) in
+            rw (answers, e, bytes-are room, head-is room, shown-still s l f) (refl, simulation s l f)
         go (suc k) e = rw (answers, e, shown-still s l f) (refl, simulation s l f)

@@ -6,7 +6,7 @@ use mathlib.Core.List.{List, _∷_}
 use lib.ListN.{take}
 use Rattle.model.specs.Calls.{Call, Outputs, Lending, Lent, Seen, World, bookSeen, worldAfter, bookStep, runs, worldFirst, expectedAtEnd, worldAtEnd, referenceAtEnd}
 use Rattle.model.specs.Watcher.{Follower, OfSize, OfPair, Nothing, watcher, heldBy}
-use Rattle.model.specs.Claims.{Made, opened, quoted, looked, watched, ended, pastLooked, paired, unpaired, dueLooked, AllMade, none, next, lastHead, Refines}
+use Rattle.model.specs.Claims.{Made, opened, quoted, looked, watched, ended, pastLooked, paired, unpaired, dueLooked, previewed, AllMade, none, next, lastHead, Refines}
 use Rattle.model.proofs.Simulation.{shown-same}
 use Rattle.model.proofs.Replay.{replay, replay-ends}
 use Rattle.model.proofs.Kept.{live-row-iff-listed, retired-row-never-listed, held-row-listed-alone, held-row-iff-past}
@@ -27,6 +27,7 @@ made-seen (pastLooked m) = rw (m .reply, m .out)
 made-seen (paired m) = rw (m .reply, m .out)
 made-seen (unpaired m) = rw (m .reply)
 made-seen (dueLooked m) = rw (m .reply, m .out)
+made-seen (previewed m) = rw (m .reply, m .counts, m .out)
 
 -- so is what is seen of a list of calls, and the book at its end
 all-made : {cs : List Lending} {w : World} {ss : List Seen} {end : World} → AllMade cs w ss end → (ss ≡ runs bookStep cs w .0) × (end ≡ runs bookStep cs w .1)

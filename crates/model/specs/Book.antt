@@ -144,6 +144,20 @@ module _ (h : Head) (x : List ℕ) (t : Tables) (ws : List ℕ) where
   unfoldable pub quoteOut : List ℕ → List ℕ
   quoteOut out = granted (quoteAnswer (length out)) (laid quoteBytes out) out
 
+-- ---- preview
+module _ (h : Head) (x : List ℕ) (t : Tables) (ws : List ℕ) where
+  -- what a preview hands back: the quote's answer and count, and the head as it came
+  unfoldable pub previewReply : ℕ → Outcome
+  previewReply room = record { number = quoteAnswer h x t ws room; head = h; count = quoteReply h x t ws room .count }
+
+  -- the live and the held rows of the head that the quote would hand back
+  unfoldable pub previewCounts : ℕ → List ℕ
+  previewCounts room = let next = quoteReply h x t ws room .head in next .live ∷ next .held ∷ []
+
+  -- the output after a preview: as after the quote
+  unfoldable pub previewOut : List ℕ → List ℕ
+  previewOut out = quoteOut h x t ws out
+
 -- how much a quote can write: for every n at most one change for each live row and one more, which is 1,025 at most, and 57,400 bytes for
 -- all watches; for the pair at most 1,024 changes; and 62,520 bytes in all
 pub record ChangesFit (h : Head) (x : List ℕ) (t : Tables) (ws : List ℕ) : Type 0 where

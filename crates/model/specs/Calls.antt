@@ -11,7 +11,7 @@ use Rattle.head.specs.Refusals.{granted}
 use Rattle.head.specs.Replies.{Outcome}
 use Rattle.model.specs.Rows.{Row, Tables, filled, liveRows}
 use Rattle.model.specs.Reference.{Reference, unopened, Lengths, rowsOf, opened, referenceStep}
-pub use Rattle.model.specs.Reference.{Call, Open, Quote, Look, Watch, End, Past, Pair, Unpair, Due}
+pub use Rattle.model.specs.Reference.{Call, Open, Quote, Look, Watch, End, Past, Pair, Unpair, Due, Preview}
 use Rattle.model.specs.Book
 
 -- what the outputs of a call hold: bytes for frames, cells for positions; a call writes into those that it uses, the other stays as lent
@@ -29,9 +29,11 @@ pub record Lent : Type 0 where
   pub tables : Tables
   pub watches : List ℕ
 
--- what is seen after a call: what it handed back, its outputs, and what was lent
+-- what is seen after a call: what it handed back, the row counts handed back beside it (live and held of a preview, none of any other
+-- call), its outputs, and what was lent
 pub record Seen : Type 0 where
   pub outcome : Outcome
+  pub counts : List ℕ
   pub outputs : Outputs
   pub lent : Lent
 
@@ -46,42 +48,48 @@ bookSeen (Open d N directions) o w =
     let t = w .lent .tables in
     let ws = w .lent .watches in
     let lent : Lent = record { tables = Book.openTables d N directions t ws; watches = Book.openWatches d N directions t ws } in
-    record { outcome = Book.openReply d N directions t ws; outputs = o; lent = lent }
+    record { outcome = Book.openReply d N directions t ws; counts = []; outputs = o; lent = lent }
 bookSeen (Quote x) o w =
     let t = w .lent .tables in
     let ws = w .lent .watches in
     let outputs : Outputs = record { bytes = Book.quoteOut (w .head) x t ws (o .bytes); cells = o .cells } in
     let lent : Lent = record { tables = Book.quoteTables (w .head) x t ws (length (o .bytes)); watches = ws } in
-    record { outcome = Book.quoteReply (w .head) x t ws (length (o .bytes)); outputs = outputs; lent = lent }
+    record { outcome = Book.quoteReply (w .head) x t ws (length (o .bytes)); counts = []; outputs = outputs; lent = lent }
 bookSeen (Look n) o w =
     let t = w .lent .tables in
     let outputs : Outputs = record { bytes = o .bytes; cells = Book.lookOut (w .head) n t (o .cells) } in
-    record { outcome = Book.lookReply (w .head) n t (length (o .cells)); outputs = outputs; lent = w .lent }
+    record { outcome = Book.lookReply (w .head) n t (length (o .cells)); counts = []; outputs = outputs; lent = w .lent }
 bookSeen (Watch n) o w =
     let t = w .lent .tables in
     let ws = w .lent .watches in
     let outputs : Outputs = record { bytes = Book.watchOut (w .head) n t ws (o .bytes); cells = o .cells } in
     let lent : Lent = record { tables = t; watches = Book.watchWatches (w .head) n t ws (length (o .bytes)) } in
-    record { outcome = Book.watchReply (w .head) n t ws (length (o .bytes)); outputs = outputs; lent = lent }
+    record { outcome = Book.watchReply (w .head) n t ws (length (o .bytes)); counts = []; outputs = outputs; lent = lent }
 bookSeen (End n) o w =
     let t = w .lent .tables in
     let ws = w .lent .watches in
     let lent : Lent = record { tables = t; watches = Book.endWatches (w .head) n t ws } in
-    record { outcome = Book.endReply (w .head) n t ws; outputs = o; lent = lent }
+    record { outcome = Book.endReply (w .head) n t ws; counts = []; outputs = o; lent = lent }
 bookSeen (Past n1 n2) o w =
     let t = w .lent .tables in
     let outputs : Outputs = record { bytes = o .bytes; cells = Book.pastOut (w .head) n1 n2 t (o .cells) } in
-    record { outcome = Book.pastReply (w .head) n1 n2 t (length (o .cells)); outputs = outputs; lent = w .lent }
+    record { outcome = Book.pastReply (w .head) n1 n2 t (length (o .cells)); counts = []; outputs = outputs; lent = w .lent }
 bookSeen (Pair n1 n2) o w =
     let t = w .lent .tables in
     let ws = w .lent .watches in
     let outputs : Outputs = record { bytes = Book.pairOut (w .head) n1 n2 t ws (o .bytes); cells = o .cells } in
-    record { outcome = Book.pairReply (w .head) n1 n2 t ws (length (o .bytes)); outputs = outputs; lent = w .lent }
-bookSeen Unpair o w = record { outcome = Book.unpairReply (w .head) (w .lent .tables) (w .lent .watches); outputs = o; lent = w .lent }
+    record { outcome = Book.pairReply (w .head) n1 n2 t ws (length (o .bytes)); counts = []; outputs = outputs; lent = w .lent }
+bookSeen Unpair o w = record { outcome = Book.unpairReply (w .head) (w .lent .tables) (w .lent .watches); counts = []; outputs = o; lent = w .lent }
 bookSeen Due o w =
     let t = w .lent .tables in
     let outputs : Outputs = record { bytes = o .bytes; cells = Book.dueOut (w .head) t (o .cells) } in
-    record { outcome = Book.dueReply (w .head) t (length (o .cells)); outputs = outputs; lent = w .lent }
+    record { outcome = Book.dueReply (w .head) t (length (o .cells)); counts = []; outputs = outputs; lent = w .lent }
+bookSeen (Preview x) o w =
+    let t = w .lent .tables in
+    let ws = w .lent .watches in
+    let room = length (o .bytes) in
+    let outputs : Outputs = record { bytes = Book.previewOut (w .head) x t ws (o .bytes); cells = o .cells } in
+    record { outcome = Book.previewReply (w .head) x t ws room; counts = Book.previewCounts (w .head) x t ws room; outputs = outputs; lent = w .lent }
 
 -- the head that the next call gets: the one handed back, unless by a refused opening
 unfoldable pub headAfter : Call → Outcome → Head → Head
@@ -94,6 +102,7 @@ headAfter (Past n1 n2) outcome h = outcome .head
 headAfter (Pair n1 n2) outcome h = outcome .head
 headAfter Unpair outcome h = outcome .head
 headAfter Due outcome h = outcome .head
+headAfter (Preview x) outcome h = outcome .head
 
 -- the book after a call of which this was seen
 unfoldable pub worldAfter : Call → Seen → World → World
@@ -135,7 +144,7 @@ expectedStep c o k =
     let outcome : Outcome = record { number = told .number; head = told .head; count = told .count } in
     let outputs : Outputs = record { bytes = laid (told .bytes) (o .bytes); cells = laid (told .cells) (o .cells) } in
     let lent = shown (told .next) (k .lent) in
-    (record { outcome = outcome; outputs = outputs; lent = lent }, record { reference = told .next; lent = lent })
+    (record { outcome = outcome; counts = told .counts; outputs = outputs; lent = lent }, record { reference = told .next; lent = lent })
 
 -- what is seen after each call of a list, and where it ends
 module _ {S : Type 0} (step : Call → Outputs → S → Seen × S) where

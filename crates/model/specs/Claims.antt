@@ -8,18 +8,24 @@ use lib.Dec.{eqb}
 use lib.ListN.{length, getD, take, drop}
 use Rattle.head.specs.declared.Head.{Head}
 use Rattle.head.specs.declared.Reply.{Reply}
+use Rattle.head.specs.declared.Effect.{Effect}
 use Rattle.head.specs.Heads.{freshHead, lastPosition}
 use Rattle.head.specs.Replies.{outcome, yes}
 use Rattle.model.specs.Rows.{Row, Tables, joinsAfter}
 use Rattle.model.specs.Reference.{Reference, newest, skylineOf, pastOf, dueOf, headOf, opened as isOpened, withQuotes}
-use Rattle.model.specs.Calls.{Call, Open, Quote, Look, Watch, End, Past, Pair, Unpair, Due, Outputs, Lending, Lent, Seen, World, headAfter, worldAfter, shown, expectedStep, runs, expectedFirst, expectedAtEnd, referenceAtEnd, positionsIn, livePositionsIn}
-use Rattle.model.specs.Promises.{world, Opened, Quoted, Looked, PastLooked, Watched, Ended, Paired, Unpaired, DueLooked}
+use Rattle.model.specs.Calls.{Call, Open, Quote, Look, Watch, End, Past, Pair, Unpair, Due, Preview, Outputs, Lending, Lent, Seen, World, headAfter, worldAfter, shown, expectedStep, runs, expectedFirst, expectedAtEnd, referenceAtEnd, positionsIn, livePositionsIn}
+use Rattle.model.specs.Promises.{world, Opened, Quoted, Looked, PastLooked, Watched, Ended, Paired, Unpaired, DueLooked, Previewed}
 use Rattle.model.specs.Watcher.{Nothing, OfSize, OfPair, watcher, heldBy}
 use Rattle.model.specs.Audit.{auditFinding, plays}
 
 -- what is seen of a call that left this reply, these outputs, these tables and these watches
 abbrev pub seen : Reply → Outputs → Tables → List ℕ → Seen
-seen r o t ws = record { outcome = outcome r; outputs = o; lent = record { tables = t; watches = ws } }
+seen r o t ws = record { outcome = outcome r; counts = []; outputs = o; lent = record { tables = t; watches = ws } }
+
+-- what is seen of a preview that left this effect and these outputs
+abbrev pub foreseen : Effect → Outputs → Tables → List ℕ → Seen
+foreseen e o t ws =
+    record { outcome = outcome (e .reply); counts = e .live ∷ e .held ∷ []; outputs = o; lent = record { tables = t; watches = ws } }
 
 -- a call was made on a book, met its promise, and left this to be seen
 pub data Made : Call → Outputs → World → Seen → Type 0 where
@@ -40,6 +46,8 @@ pub data Made : Call → Outputs → World → Seen → Type 0 where
   unpaired : {o : Outputs} {h : Head} {t : Tables} {ws : List ℕ} {r : Reply} → Unpaired h t ws r → Made Unpair o (world h t ws) (seen r o t ws)
   dueLooked : {o : Outputs} {h : Head} {t : Tables} {ws : List ℕ} {r : Reply} {cells : List ℕ}
       → DueLooked h t (o .cells) r cells → Made Due o (world h t ws) (seen r (record { bytes = o .bytes; cells = cells }) t ws)
+  previewed : {x : List ℕ} {o : Outputs} {h : Head} {t : Tables} {ws : List ℕ} {e : Effect} {bytes : List ℕ}
+      → Previewed h x t ws (o .bytes) e bytes → Made (Preview x) o (world h t ws) (foreseen e (record { bytes = bytes; cells = o .cells }) t ws)
 
 -- a list of calls was made on a book, each on what the one before left (it gets the head handed back, unless by a refused opening), and
 -- left this to be seen after each, and this book at the end
@@ -65,6 +73,7 @@ isQuote (Past n1 n2) = false
 isQuote (Pair n1 n2) = false
 isQuote Unpair = false
 isQuote Due = false
+isQuote (Preview x) = false
 
 -- the call is an opening
 unfoldable pub isOpening : Call → Bool
@@ -77,6 +86,7 @@ isOpening (Past n1 n2) = false
 isOpening (Pair n1 n2) = false
 isOpening Unpair = false
 isOpening Due = false
+isOpening (Preview x) = false
 
 -- how many calls of this sort were accepted, of calls of which this was seen
 unfoldable pub acceptedIn : (Call → Bool) → List Lending → List Seen → ℕ

@@ -10,7 +10,7 @@ use Rattle.head.specs.declared.Head.{Head}
 use Rattle.head.specs.Replies.{Finding, yes, no, refused}
 use Rattle.model.specs.Rows.{Row, Tables, liveRows}
 use Rattle.model.specs.Reference.{Reference, opening, skylineOf, rowOf, rowsOf}
-use Rattle.model.specs.Calls.{Call, Open, Quote, Look, Watch, End, Past, Pair, Unpair, Due, Outputs, Lending, Lent, Seen, bookStep, expectedStep, runs, worldFirst, expectedFirst}
+use Rattle.model.specs.Calls.{Call, Open, Quote, Look, Watch, End, Past, Pair, Unpair, Due, Preview, Outputs, Lending, Lent, Seen, bookStep, expectedStep, runs, worldFirst, expectedFirst}
 use Rattle.model.specs.Audit.{auditFinding, plays}
 
 -- the two models that calls are run by
@@ -290,6 +290,7 @@ written (Past n1 n2) count o = take count (o .cells)
 written (Pair n1 n2) count o = take count (o .bytes)
 written Unpair count o = []
 written Due count o = take (count + count) (o .cells)
+written (Preview x) count o = take count (o .bytes)
 
 -- the refusal of a call, the newest position, the number of live rows, and what is written
 abbrev line : Call → Seen → List ℕ

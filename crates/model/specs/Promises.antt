@@ -1,10 +1,11 @@
 -- What each call promises: what it hands back and the final contents of everything lent, as the book model says.
 use mathlib.Core.Path.{_≡_}
 use Prim.Native.Nat.{ℕ}
-use mathlib.Core.List.{List}
+use mathlib.Core.List.{List, [], _∷_}
 use lib.ListN.{length}
 use Rattle.head.specs.declared.Head.{Head}
 use Rattle.head.specs.declared.Reply.{Reply}
+use Rattle.head.specs.declared.Effect.{Effect}
 use Rattle.head.specs.Replies.{outcome}
 use Rattle.model.specs.Rows.{Tables}
 use Rattle.model.specs.Book
@@ -65,3 +66,9 @@ pub record Unpaired (h : Head) (t : Tables) (ws : List ℕ) (r : Reply) : Type 0
 pub record DueLooked (h : Head) (t : Tables) (before : List ℕ) (r : Reply) (after : List ℕ) : Type 0 where
   pub reply : outcome r ≡ Book.dueReply h t (length before)
   pub out : after ≡ Book.dueOut h t before
+
+-- what a preview of quote x leaves of the output; tables and watches stay
+pub record Previewed (h : Head) (x : List ℕ) (t : Tables) (ws before : List ℕ) (e : Effect) (after : List ℕ) : Type 0 where
+  pub reply : outcome (e .reply) ≡ Book.previewReply h x t ws (length before)
+  pub counts : e .live ∷ e .held ∷ [] ≡ Book.previewCounts h x t ws (length before)
+  pub out : after ≡ Book.previewOut h x t ws before

@@ -155,7 +155,7 @@ unfoldable pub opening : ℕ → ℕ → ℕ → Reference
 opening d N directions = record { dimensions = d; capacity = N; directions = directions; quotes = []; watched = []; n1 = 0; n2 = 0 }
 
 -- a call on a book: an opening with d, N and directions; a quote with its columns; a look, a watch and the end of a watch with their n;
--- a look at a past list with its n1 and n2; a watch of the pair n1 and n2, its end, and what is due
+-- a look at a past list with its n1 and n2; a watch of the pair n1 and n2, its end, and what is due; a preview of a quote with its columns
 pub data Call : Type 0 where
   Open : ℕ → ℕ → ℕ → Call
   Quote : List ℕ → Call
@@ -166,6 +166,7 @@ pub data Call : Type 0 where
   Pair : ℕ → ℕ → Call
   Unpair : Call
   Due : Call
+  Preview : List ℕ → Call
 
 -- the lengths of what a call is lent: the four tables, the watch records, and the outputs for frames (bytes) and for positions (cells)
 pub record Lengths : Type 0 where
@@ -183,13 +184,14 @@ abbrev pub ample : Lengths
 ample = record { columns = 6144; positions = 1024; lowerEnds = 1024; upperEnds = 1024; watches = 8; bytes = 62520; cells = 2048 }
 
 -- what the model tells of a call: 0 or the number of its refusal, the head and the count handed back, what is written at the start of
--- each output, and the model after it
+-- each output, the row counts handed back beside the head (live and held, of a preview), and the model after it
 pub record Told : Type 0 where
   pub number : ℕ
   pub head : Head
   pub count : ℕ
   pub bytes : List ℕ
   pub cells : List ℕ
+  pub counts : List ℕ
   pub next : Reference
 
 -- a table or the watch list is too short for these settings
@@ -207,20 +209,37 @@ tells refusals refusedHead count bytes cells next s =
       count = granted refusal count 0;
       bytes = granted refusal bytes [];
       cells = granted refusal cells [];
+      counts = [];
       next = granted refusal next s;
     }
+
+-- a preview, by what is told of the quote: its answer and what it writes, the row counts of the head that it hands back; the model stays
+unfoldable pub foretells : Told → Reference → Told
+foretells quoted s = record {
+  number = quoted .number;
+  head = headOf s;
+  count = quoted .count;
+  bytes = quoted .bytes;
+  cells = [];
+  counts = quoted .head .live ∷ quoted .head .held ∷ [];
+  next = s;
+}
+
+-- what is told of a quote, its refusals in 01's order
+abbrev quoteTold : List ℕ → Lengths → Reference → Told
+quoteTold x l s =
+    let next = withQuote s x in
+    let written = frames (allChanges (s .watched) (skylineOf s) (skylineOf next) ++ pairChanges (pairOf s) (pairOf next)) in
+    tells ((not (opened s), number Settings) ∷ (not (eqb (length x) (s .dimensions)), number ColumnCount)
+    ∷ (leb lastPosition (newest s), number TapeFull) ∷ (ltb (l .bytes) (length written), number ShortOutput) ∷ [])
+    (headOf s) (length written) written [] next s
 
 -- one call of the reference model, its refusals in 01's order
 unfoldable pub referenceStep : Call → Lengths → Reference → Told
 referenceStep (Open d N directions) l s =
     tells ((not (settingsHold d N directions), number Settings) ∷ (tooShort l d N, number ShortLoan) ∷ [])
     (freshHead 0 0 0) 0 [] [] (opening d N directions) s
-referenceStep (Quote x) l s =
-    let next = withQuote s x in
-    let written = frames (allChanges (s .watched) (skylineOf s) (skylineOf next) ++ pairChanges (pairOf s) (pairOf next)) in
-    tells ((not (opened s), number Settings) ∷ (not (eqb (length x) (s .dimensions)), number ColumnCount)
-    ∷ (leb lastPosition (newest s), number TapeFull) ∷ (ltb (l .bytes) (length written), number ShortOutput) ∷ [])
-    (headOf s) (length written) written [] next s
+referenceStep (Quote x) l s = quoteTold x l s
 referenceStep (Look n) l s =
     let written = skylineOf s n in
     tells ((not (opened s), number Settings) ∷ (outside s n, number WindowSize) ∷ (ltb (l .cells) (length written), number ShortOutput) ∷ [])
@@ -250,3 +269,4 @@ referenceStep Due l s =
     let written = dueCells (newest s) (s .n1) (dueOf s) in
     tells ((not (opened s), number Settings) ∷ (ltb (l .cells) (length written), number ShortOutput) ∷ [])
     (headOf s) (length (dueOf s)) [] written s s
+referenceStep (Preview x) l s = foretells (quoteTold x l s) s

@@ -72,7 +72,7 @@ pairedFor (OfSize n) = false
 pairedFor OfPair = true
 
 -- what is held after a call: an accepted watch of the watcher's begins with the empty list, its accepted end or an accepted opening
--- ends it
+-- ends it; nobody applies a preview
 unfoldable pub watcherStep : Follower → Call → Seen → Held → Held
 watcherStep f (Call.Open d N directions) seen held = granted (seen .outcome .number) Nothing held
 watcherStep f (Call.Quote x) seen held = reads f seen held
@@ -83,6 +83,7 @@ watcherStep f (Call.Past n1 n2) seen held = held
 watcherStep f (Call.Pair n1 n2) seen held = reads f seen (granted (seen .outcome .number) (cond (pairedFor f) (Holding []) held) held)
 watcherStep f Call.Unpair seen held = granted (seen .outcome .number) (cond (pairedFor f) Nothing held) held
 watcherStep f Call.Due seen held = held
+watcherStep f (Call.Preview x) seen held = held
 
 -- what a watcher holds after a list of calls of which this was seen
 unfoldable pub watcher : Follower → List Lending → List Seen → Held → Held

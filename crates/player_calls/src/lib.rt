@@ -6,21 +6,9 @@ use player_desk::Desk;
 use player_desk::Seen;
 use player_lines::Command;
 use player_lines::Line;
+use player_lines::quoted;
 use player_reads::read;
 use player_watches::set;
-
-// The first numbers, so many, or all where there are fewer.
-fn front<'a>(numbers: &'a [u32], count: usize) -> &'a [u32] {
-    if count < numbers.len() {
-        return &numbers[..count];
-    }
-    numbers
-}
-
-// The columns that a line quotes.
-fn quoted<'a>(numbers: &'a [u32; 12], count: usize) -> &'a [u32] {
-    front(&numbers[..], count)
-}
 
 // Whether a reply accepts.
 fn accepts(reply: Reply) -> bool {
@@ -88,7 +76,7 @@ pub fn call(
             );
             desk.answered(reply, Seen::Bytes)
         }
-        Command::Watch | Command::End | Command::Pair | Command::Unpair => set(
+        Command::Preview | Command::Watch | Command::End | Command::Pair | Command::Unpair => set(
             desk,
             line,
             columns,

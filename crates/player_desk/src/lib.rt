@@ -13,12 +13,13 @@ use sizes::CHANGE_BYTES;
 use sizes::COLUMN_CELLS;
 use sizes::PLACES;
 
-// What is to be printed of a line: nothing, that it cannot be taken, a reply with bytes, with cells or with two cells
-// for each row, a verdict, or the tables.
+// What is to be printed of a line: nothing, that it cannot be taken, a reply with bytes, with bytes and the counts of live
+// and held rows of a preview, with cells or with two cells for each row, a verdict, or the tables.
 pub enum Seen {
     Nothing,
     Unread,
     Bytes,
+    Preview(u32, u32),
     Cells,
     Rows,
     Verdict,

@@ -2,6 +2,7 @@
 // space before each.
 mod words;
 
+pub use words::quoted;
 pub use words::read_line;
 
 // What a line asks for. No line has come, or it is one that the player cannot take.
@@ -10,6 +11,7 @@ pub enum Command {
     Unread,
     Open,
     Quote,
+    Preview,
     Look,
     Past,
     Watch,

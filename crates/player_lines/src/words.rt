@@ -98,6 +98,9 @@ fn call_of(line: &[u8], to: usize) -> Command {
     if spells(line, 0, to, b"quote") {
         return Command::Quote;
     }
+    if spells(line, 0, to, b"preview") {
+        return Command::Preview;
+    }
     if spells(line, 0, to, b"look") {
         return Command::Look;
     }
@@ -182,6 +185,7 @@ fn fits(command: Command, count: usize) -> bool {
     match command {
         Command::Open => count == 3,
         Command::Quote => true,
+        Command::Preview => true,
         Command::Look => count == 1,
         Command::Past => count == 2,
         Command::Watch => count == 1,
@@ -225,4 +229,17 @@ pub fn read_line(line: &[u8]) -> Line {
         numbers,
         count,
     }
+}
+
+// The first numbers, so many, or all where there are fewer.
+fn front<'a>(numbers: &'a [u32], count: usize) -> &'a [u32] {
+    if count < numbers.len() {
+        return &numbers[..count];
+    }
+    numbers
+}
+
+// The columns that a line quotes.
+pub fn quoted<'a>(numbers: &'a [u32; 12], count: usize) -> &'a [u32] {
+    front(&numbers[..], count)
 }

@@ -125,6 +125,20 @@ fn put_bytes_reply(print: Print, desk: Desk, out: &[u8], gathered: &mut [u8]) ->
     put_bytes(now, out, reply.count, gathered)
 }
 
+// Prints a reply with the bytes that a preview wrote, and behind them the counts of live and held rows.
+fn put_preview(
+    print: Print,
+    desk: Desk,
+    live: u32,
+    held: u32,
+    out: &[u8],
+    gathered: &mut [u8],
+) -> Print {
+    let now = put_bytes_reply(print, desk, out, gathered);
+    let numbers = [live, held];
+    put_short(now, b'N', &numbers, gathered)
+}
+
 // Prints a reply with the first cells that were written, so many.
 fn put_cells_reply(
     print: Print,
@@ -175,6 +189,7 @@ pub fn print_line(
         Seen::Nothing => now,
         Seen::Unread => put_unread(now, gathered),
         Seen::Bytes => put_bytes_reply(now, desk, out, gathered),
+        Seen::Preview(live, held) => put_preview(now, desk, live, held, out, gathered),
         Seen::Cells => put_cells_reply(now, desk, cells, reply.count, gathered),
         Seen::Rows => put_cells_reply(now, desk, cells, row_cells(reply.count), gathered),
         Seen::Verdict => put_verdict(now, desk, gathered),

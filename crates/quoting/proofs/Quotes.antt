@@ -139,7 +139,8 @@ module _ {h : Head} {x : List ℕ} {t : Tables} {ws : List ℕ} {f : Finding} {p
     unfolding rowAnswer quoteAnswer watchfulAnswer granted
     room-decides = rw bytes-are (tested-more _ _ (sym (v .accepted)) refl refl)
 
-    reply-is : outcome r ≡ quoteReply h x t ws (length out)
+    -- so that the reply is the quote's
+    pub reply-is : outcome r ≡ quoteReply h x t ws (length out)
     unfolding quoteReply quoteHead quoteRows
     reply-is = w .reply ∙ rw (room-decides, found-live book (v .finds), found-held book (v .finds), bytes-are)
 
@@ -147,7 +148,8 @@ module _ {h : Head} {x : List ℕ} {t : Tables} {ws : List ℕ} {f : Finding} {p
     unfolding quoteReply replyOf
     answer-is = ap Outcome.number reply-is
 
-    out-is : after ≡ quoteOut h x t ws out
+    -- and the output is as the quote leaves it
+    pub out-is : after ≡ quoteOut h x t ws out
     unfolding quoteOut
     out-is = w .out ∙ rw (room-decides, bytes-are)
 

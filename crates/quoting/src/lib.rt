@@ -13,7 +13,7 @@ use head::Answer;
 use head::Head;
 use head::Reply;
 use judged::judge_reached;
-use judged::judge_row;
+pub use judged::judge_row;
 use settling::Finding;
 use settling::find;
 use settling::find_reached;

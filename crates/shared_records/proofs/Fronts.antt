@@ -9,11 +9,12 @@ use lib.ListN.{length, take, replicate, length-map}
 use lib.Seq.{take-take, take-nil}
 use Rattle.head.specs.declared.Head.{Head}
 use Rattle.head.specs.declared.Reply.{Reply}
+use Rattle.head.specs.declared.Effect.{Effect}
 use Rattle.head.specs.declared.Watch.{Watch}
 use Rattle.model.specs.Rows.{Tables}
-use Rattle.model.specs.Book.{shortLoan, standing, tornWatches, watchfulAnswer, quoteRows, quoteHead, quoteBytes, quoteAnswer, quoteReply, quoteTables, quoteOut, pairBytes, pairAnswer, pairReply, pairOut, unpairAnswer, unpairReply}
+use Rattle.model.specs.Book.{shortLoan, standing, tornWatches, watchfulAnswer, quoteRows, quoteHead, quoteBytes, quoteAnswer, quoteReply, quoteTables, quoteOut, previewReply, previewCounts, previewOut, pairBytes, pairAnswer, pairReply, pairOut, unpairAnswer, unpairReply}
 use Rattle.watches.specs.Records.{watched, firstEight}
-use Rattle.model.specs.Promises.{Quoted, Paired, Unpaired}
+use Rattle.model.specs.Promises.{Quoted, Previewed, Paired, Unpaired}
 
 -- as many numbers as there are records, of eight that are read off them
 pub lent-front : (ws : List ℕ) → take (length ws) (firstEight ws) ≡ take 8 ws
@@ -75,7 +76,17 @@ module _ (ys : List Watch) where
         out = m .out ∙ rw (front e, quote-front ws h x t, bytes-front ws h x t);
       }
 
-  -- so is a watch of the pair
+  -- so is a preview
+  pub preview-records : (h : Head) (x : List ℕ) (t : Tables) {ns : List ℕ} → ns ≡ firstEight ws → {before : List ℕ} {r : Effect} {after : List ℕ} → Previewed h x t (take (length ys) ns) before r after → Previewed h x t ws before r after
+  unfolding previewReply previewCounts previewOut quoteReply quoteOut quoteHead quoteRows
+  preview-records h x t e m =
+      record {
+        reply = m .reply ∙ rw (front e, quote-front ws h x t, bytes-front ws h x t);
+        counts = m .counts ∙ rw (front e, quote-front ws h x t, bytes-front ws h x t);
+        out = m .out ∙ rw (front e, quote-front ws h x t, bytes-front ws h x t);
+      }
+
+  -- and a watch of the pair
   pub pair-records : (h : Head) (n1 n2 : ℕ) (t : Tables) {ns : List ℕ} → ns ≡ firstEight ws → {before : List ℕ} {r : Reply} {after : List ℕ}
       → Paired h n1 n2 t (take (length ys) ns) before r after → Paired h n1 n2 t ws before r after
   unfolding pairReply pairOut pairAnswer pairBytes

@@ -1,15 +1,19 @@
--- The machine values of what a walk of the calls passes on: heads, replies and judgements.
+-- The machine values of what a walk of the calls passes on: heads, replies, effects and judgements.
 use mathlib.Core.Path.{subst}
 use mathlib.Core.List.{List, [], _∷_}
 use mir.Val.{Val}
 use denote.Laws.{Is}
+use denote.Struct.Declared.{Declared, row}
 use denote.Struct.Laws as LL
 use Rattle.head.specs.declared.Head.{Head}
 use Rattle.head.specs.declared.Reply.{Reply}
+use Rattle.head.specs.declared.Effect.{Effect}
 use Rattle.head.proofs.Head as Hd
 use Rattle.head.proofs.Head.Laws as Hd′
 use Rattle.head.proofs.Reply as R
 use Rattle.head.proofs.Reply.Laws as R′
+use Rattle.head.proofs.Effect as E
+use Rattle.head.proofs.Effect.Laws as E′
 use Rattle.lending.specs.declared.Judgement.{Judgement}
 use Rattle.lending.proofs.Judgement as J
 use Rattle.lending.proofs.Judgement.Laws as J′
@@ -20,10 +24,21 @@ headed h = LL.vals Hd.the-type Hd′.the-laws h
 abbrev pub machines : Reply → List Val
 machines r = LL.vals R.the-type R′.the-laws r
 
--- a reply that a call hands back is one as it is spelled
-pub spelled : (r : Reply) (c : Val) → Is R.the-row r (c ∷ []) → Is R.the-row r (machines r)
-spelled r c has = subst (λ (us : List Val). Is R.the-row r us) (LL.tells R.the-type R′.the-laws r (c ∷ []) has) has
+abbrev pub effect-machines : Effect → List Val
+effect-machines e = LL.vals E.the-type E′.the-laws e
 
--- so is that of a judgement
+-- a value that a call hands back is one as it is spelled
+spelled-as : (T : Declared) (laws : LL.Laws T) (d : T .D) (c : Val) → Is (row T) d (c ∷ []) → Is (row T) d (LL.vals T laws d)
+spelled-as T laws d c has = subst (λ (us : List Val). Is (row T) d us) (LL.tells T laws d (c ∷ []) has) has
+
+-- so is a reply
+pub spelled : (r : Reply) (c : Val) → Is R.the-row r (c ∷ []) → Is R.the-row r (machines r)
+spelled = spelled-as R.the-type R′.the-laws
+
+-- an effect
+pub effect-spelled : (e : Effect) (c : Val) → Is E.the-row e (c ∷ []) → Is E.the-row e (effect-machines e)
+effect-spelled = spelled-as E.the-type E′.the-laws
+
+-- and the reply of a judgement
 pub replied : (j : Judgement) (c : Val) → Is J.the-row j (c ∷ []) → Is R.the-row (j .reply) (machines (j .reply))
 replied j c has = LL.owed J.the-type J′.the-laws j (c ∷ []) has .0

@@ -1,10 +1,12 @@
-// The calls that read the lent watch records and change none: the quote, the watch of the pair and its end.
+// The calls that read the lent watch records and change none: the quote, its preview, the watch of the pair and its end.
 ghost use Rattle.watches.specs.Records.{watched};
-ghost use Rattle.model.specs.Promises.{tables, Quoted, Paired, Unpaired};
+ghost use Rattle.model.specs.Promises.{tables, Quoted, Previewed, Paired, Unpaired};
+use head::Effect;
 use head::Head;
 use head::Reply;
 use head::Watch;
 use lending::pair_lent;
+use lending::preview_lent;
 use lending::quote_lent;
 use lending::unpair_lent;
 use watches::numbers;
@@ -29,6 +31,38 @@ pub fn quote(
     let before = numbers(watches);
     let lent = watches.len();
     quote_lent(
+        head,
+        quote,
+        columns,
+        positions,
+        lower_ends,
+        upper_ends,
+        before,
+        lent,
+        out,
+    )
+}
+
+// Previews a quote: writes the changes that it would bring and hands back its answer, how many bytes, and the counts of live and held rows
+// that it would leave. The head handed back is the one that came; tables and records stay.
+pub fn preview(
+    head: Head,
+    quote: &[u32],
+    columns: &[u32],
+    positions: &[u32],
+    lower_ends: &[u32],
+    upper_ends: &[u32],
+    watches: &[Watch],
+    out: &mut [u8],
+) -> Effect
+    ensures { λ r. ⌜ Previewed head (now (quote .entry))
+        (tables (now (columns .entry)) (now (positions .entry)) (now («lower_ends» .entry)) (now («upper_ends» .entry)))
+        (watched (now (watches .entry)))
+        (now (out .entry)) r (now (out .exit)) ⌝ }
+{
+    let before = numbers(watches);
+    let lent = watches.len();
+    preview_lent(
         head,
         quote,
         columns,

@@ -17,9 +17,9 @@ use Rattle.head.specs.Heads.{settingsHold}
 use Rattle.head.proofs.Numbers.{zero-passed}
 use Rattle.frames.specs.Frames.{readAt}
 use Rattle.model.specs.Rows.{Row, Tables, filled}
-use Rattle.model.specs.Reference.{Reference, Lengths, unopened, opened, rowsOf, headOf, withQuote, withWatched, withPairOf, opening, tooShort, tells, referenceStep}
+use Rattle.model.specs.Reference.{Reference, Lengths, unopened, opened, rowsOf, headOf, withQuote, withWatched, withPairOf, opening, tooShort, tells, foretells, referenceStep}
 use Rattle.model.specs.Book.{shortTables, shortLoan}
-use Rattle.model.specs.Calls.{Call, Open, Quote, Look, Watch, End, Past, Pair, Unpair, Due, Outputs, Lent, bookStep, lengthsOf, shown, expectedStep, runs, worldFirst}
+use Rattle.model.specs.Calls.{Call, Open, Quote, Look, Watch, End, Past, Pair, Unpair, Due, Preview, Outputs, Lent, bookStep, lengthsOf, shown, expectedStep, runs, worldFirst}
 use Rattle.model.proofs.Tables.{cells-counted}
 use Rattle.model.proofs.Sound.{rows-few, rows-wide}
 use Rattle.model.proofs.Simulation.{Invariant, Simulation, Agree, referenceWith, some-capacity, shown-opened, long-tables, long-records}
@@ -43,7 +43,7 @@ Long l s = opened s ≡ true → shortLoan (l .tables) (l .watches) (s .dimensio
 
 -- it still is after a call: only an accepted opening takes settings, and it is refused where something is too short
 long-after : (l : Lent) (o : Outputs) (c : Call) (s : Reference) → Long l s → Long l (referenceStep c (lengthsOf l o) s .next)
-unfolding referenceStep tells lengthsOf opening opened withQuote withWatched withPairOf tooShort shortLoan shortTables
+unfolding referenceStep tells foretells lengthsOf opening opened withQuote withWatched withPairOf tooShort shortLoan shortTables
 long-after l o (Open d N directions) s h =
     either-way (Long l) _ (opening d N directions) s (λ e _. zero-passed _ _ _ (zero-passed _ _ _ e .1) .0) h
 long-after l o (Quote x) s h = either-way (Long l) _ (withQuote s x) s (λ _. h) h
@@ -54,6 +54,7 @@ long-after l o (Past n1 n2) s h = either-way (Long l) _ s s (λ _. h) h
 long-after l o (Pair n1 n2) s h = either-way (Long l) _ (withPairOf s n1 n2) s (λ _. h) h
 long-after l o Unpair s h = either-way (Long l) _ (withPairOf s 0 0) s (λ _. h) h
 long-after l o Due s h = either-way (Long l) _ s s (λ _. h) h
+long-after l o (Preview x) s h = h
 
 module _ (s : Reference) (l kept : Lent) (o : Outputs) (f : Invariant s kept) (enough : shortLoan (l .tables) (l .watches) (s .dimensions) (s .capacity) ≡ false) where
   -- the rows are at most N
@@ -99,13 +100,18 @@ unfolding shown opened settingsHold
 lengths-kept s l kept o h (inl e) = rw e
 lengths-kept s l kept o h (inr f) = filled-lengths s l kept o f (h (f .settings))
 
--- what is written as bytes is no longer than their output
-bytes-fit : (c : Call) (lengths : Lengths) (s : Reference) → length (referenceStep c lengths s .bytes) ≤ lengths .bytes
+-- what a quote writes is no longer than the output for bytes
+quote-fits : (x : List ℕ) (lengths : Lengths) (s : Reference) → length (referenceStep (Quote x) lengths s .bytes) ≤ lengths .bytes
 unfolding referenceStep tells
-bytes-fit (Open d N directions) lengths s = either-way (λ (w : List ℕ). length w ≤ lengths .bytes) _ [] [] (λ _. zero-le) zero-le
-bytes-fit (Quote x) lengths s =
+quote-fits x lengths s =
     either-way (λ (w : List ℕ). length w ≤ lengths .bytes) _ _ []
     (λ e. ltb-false (lengths .bytes) _ (zero-passed _ _ _ (zero-passed _ _ _ (zero-passed _ _ _ (zero-passed _ _ _ e .1) .1) .1) .0)) zero-le
+
+-- nor is what any call writes
+bytes-fit : (c : Call) (lengths : Lengths) (s : Reference) → length (referenceStep c lengths s .bytes) ≤ lengths .bytes
+unfolding referenceStep tells foretells
+bytes-fit (Open d N directions) lengths s = either-way (λ (w : List ℕ). length w ≤ lengths .bytes) _ [] [] (λ _. zero-le) zero-le
+bytes-fit (Quote x) lengths s = quote-fits x lengths s
 bytes-fit (Look n) lengths s = either-way (λ (w : List ℕ). length w ≤ lengths .bytes) _ [] [] (λ _. zero-le) zero-le
 bytes-fit (Watch n) lengths s =
     either-way (λ (w : List ℕ). length w ≤ lengths .bytes) _ _ []
@@ -117,6 +123,7 @@ bytes-fit (Pair n1 n2) lengths s =
     (λ e. ltb-false (lengths .bytes) _ (zero-passed _ _ _ (zero-passed _ _ _ (zero-passed _ _ _ (zero-passed _ _ _ (zero-passed _ _ _ e .1) .1) .1) .1) .0)) zero-le
 bytes-fit Unpair lengths s = either-way (λ (w : List ℕ). length w ≤ lengths .bytes) _ [] [] (λ _. zero-le) zero-le
 bytes-fit Due lengths s = either-way (λ (w : List ℕ). length w ≤ lengths .bytes) _ [] [] (λ _. zero-le) zero-le
+bytes-fit (Preview x) lengths s = quote-fits x lengths s
 
 -- and so no longer than the bytes that are lent
 bytes-room : (l : Lent) (o : Outputs) (c : Call) (s : Reference) → length (referenceStep c (lengthsOf l o) s .bytes) ≤ length (o .bytes)
@@ -184,6 +191,7 @@ module _ (lengths : Lengths) (s : Reference) where
   laid-text (Pair n1 n2) o = rw (read-laid (referenceStep (Pair n1 n2) lengths s .bytes) (o .bytes) (pair-count n1 n2))
   laid-text Unpair o = refl
   laid-text Due o = refl
+  laid-text (Preview x) o = refl
 
 -- between two frames: the book simulates the reference model, and what it is lent has the lengths that the reference model is lent
 pub record Alike (lengths : Lengths) (s : Reference) (k : Player) : Type 0 where

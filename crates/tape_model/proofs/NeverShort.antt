@@ -24,7 +24,7 @@ use Rattle.frames.specs.Frames.{frame, readAt}
 use Rattle.model.specs.Changes.{join, pairJoin, frames}
 use Rattle.model.specs.Reference.{Reference, Lengths, unopened, newest, over, skylineOf, pastOf, paired, opened, outside, outsidePast, outsidePair, tooShort, tells, referenceStep}
 use Rattle.model.specs.Book.{watchfulAnswer, quoteAnswer, quoteReply, replyOf}
-use Rattle.model.specs.Calls.{Call, Open, Quote, Look, Watch, End, Past, Pair, Unpair, Due, Outputs, Lent, Seen, World, bookSeen, bookStep, lengthsOf, worldFirst, expectedStep}
+use Rattle.model.specs.Calls.{Call, Open, Quote, Look, Watch, End, Past, Pair, Unpair, Due, Preview, Outputs, Lent, Seen, World, bookSeen, bookStep, lengthsOf, worldFirst, expectedStep}
 use Rattle.model.proofs.Simulation.{Simulation, referenceWith, in-range, in-past-range, in-pair-range}
 use Rattle.model.proofs.Replay.{call-agrees}
 use Rattle.model.proofs.ChangesFit.{room-suffices}
@@ -212,6 +212,7 @@ module _ (lengths : Lengths) (a : Ample lengths) where
   unshort (Pair n1 n2) p s k v = plainly _ (pair-plain lengths a s n1 n2) refl refl
   unshort Unpair p s k v = plainly _ refl refl refl
   unshort Due p s k v = absurd (clash false p refl)
+  unshort (Preview x) p s k v = absurd (clash false p refl)
 
   -- wherever a tape comes to, no call that a frame asks for is answered with 11 or 13
   pub never-short : (tape : List ℕ) (place : ℕ) (s : Reference) → Reaches opened (referenceMake lengths) tape unopened place s
@@ -235,6 +236,7 @@ module _ (lengths lengths' : Lengths) (a : Ample lengths) (a' : Ample lengths') 
   made-same (Pair n1 n2) p s k v = rw (pair-plain lengths a s n1 n2, pair-plain lengths' a' s n1 n2)
   made-same Unpair p s k v = refl
   made-same Due p s k v = absurd (clash false p refl)
+  made-same (Preview x) p s k v = absurd (clash false p refl)
 
   -- what is asked at a place is played alike
   asked-same : (q : Asked) → asksPlayable q ≡ true → (next : ℕ) (s : Reference) (k : Player) → Alike lengths s k

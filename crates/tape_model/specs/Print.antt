@@ -4,7 +4,7 @@ use mathlib.Core.List.{List, [], _∷_, _++_}
 use lib.ListN.{take}
 use Rattle.head.specs.Refusals.{granted}
 use Rattle.head.specs.Replies.{Outcome}
-use Rattle.model.specs.Calls.{Call, Open, Quote, Look, Watch, End, Past, Pair, Unpair, Due, Outputs}
+use Rattle.model.specs.Calls.{Call, Open, Quote, Look, Watch, End, Past, Pair, Unpair, Due, Preview, Outputs}
 use Rattle.text.specs.Text.{line}
 use Rattle.printed.specs.Printed.{changesText}
 
@@ -14,7 +14,7 @@ pub record Answered : Type 0 where
   pub outputs : Outputs
 
 -- the lines of an accepted call: O d N directions; Q position rows, the live ones, and its changes; L n positions; W n and its joins; U n;
--- P n1 n2 positions; B n1 n2 and its joins; E; no frame asks for what is due, and it has no line
+-- P n1 n2 positions; B n1 n2 and its joins; E; no frame asks for what is due or for a preview, and they have no line
 unfoldable pub linesOf : Call → Answered → List ℕ
 linesOf (Open d N directions) a = line 79 (d ∷ N ∷ directions ∷ [])
 linesOf (Quote x) a =
@@ -26,6 +26,7 @@ linesOf (Past n1 n2) a = line 80 (n1 ∷ n2 ∷ take (a .outcome .count) (a .out
 linesOf (Pair n1 n2) a = line 66 (n1 ∷ n2 ∷ []) ++ changesText (take (a .outcome .count) (a .outputs .bytes))
 linesOf Unpair a = line 69 []
 linesOf Due a = []
+linesOf (Preview x) a = []
 
 -- R and the number of a refusal
 unfoldable pub refusalLine : ℕ → List ℕ

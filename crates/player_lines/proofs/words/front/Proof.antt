@@ -2,8 +2,8 @@
 use native.Mathlib.Omega.{arith}
 use lib.ListN.{length-take}
 use borrow.Author.Needs.{needs}
-use Rattle.player_calls.proofs.front.Statement.{statement}
-use Rattle.player_calls.proofs.front.Tie as tie
+use Rattle.player_lines.proofs.words.front.Statement.{statement}
+use Rattle.player_lines.proofs.words.front.Tie as tie
 
 slice-aggregate-result : tie.Need-slice-aggregate-result
 slice-aggregate-result c = simp length-take (omega arith)

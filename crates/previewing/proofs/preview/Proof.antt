@@ -1,0 +1,75 @@
+-- `preview` meets its contract: it is judged as the quote is, and its changes are those of the quote.
+use native.Mathlib.Omega.{arith}
+use Rattle.head.proofs.Numbers.{accepted-number}
+use Rattle.settling.proofs.Findings.{findable}
+use Rattle.quoting.proofs.Quotes.{Entering, admitted, few-held, countable, reply-is, out-is, quote-refused}
+use Rattle.quoting.proofs.Reaching.{any-sound-if}
+use Rattle.previewing.proofs.Previews.{tells-quote, writable-in}
+use borrow.Author.Needs.{needs}
+use Rattle.previewing.proofs.preview.Statement.{statement}
+use Rattle.previewing.proofs.preview.Tie as tie
+
+judge-row-requires : tie.Need-judge-row-requires
+judge-row-requires c κs = search needs
+
+enum-told : tie.Need-enum-told
+enum-told c = search needs
+
+enum-told-2 : tie.Need-enum-told-2
+enum-told-2 c = search needs
+
+effect-of-requires : tie.Need-effect-of-requires
+effect-of-requires c κs = search needs
+
+returns : tie.Need-returns
+returns c = let q = quote-refused _ _ _ _ _ (c .before .before .before .judge-row .ensures) (c .before .enum-told2 .given .1) in tells-quote _ _ _ _ _ (c .effect-of .ensures) (q .reply) (q .out)
+
+slice-aggregate-find : tie.Need-slice-aggregate-find
+slice-aggregate-find c = search needs
+
+find-requires : tie.Need-find-requires
+find-requires c κs = let a = admitted _ _ _ _ (accepted-number _ (c .before .before .before .judge-row .ensures) (c .before .enum-told .given .1)) .0 in findable a (omega (arith, few-held a))
+
+mul-write : tie.Need-mul-write
+mul-write c = search needs
+
+sub-write : tie.Need-sub-write
+sub-write c = search needs
+
+part-write-start : tie.Need-part-write-start
+part-write-start c = search needs
+
+part-write-end : tie.Need-part-write-end
+part-write-end c = search needs
+
+write-requires : tie.Need-write-requires
+write-requires c κs = let v : Entering _ _ _ _ _ _ = record { accepted = accepted-number _ (c .before .before .before .before .before .before .before .before .judge-row .ensures) (c .before .before .before .before .before .before .enum-told .given .1); eight = omega (arith, c .before .before .before .before .before .before .before .before .before .before .before .before .before .before .before .good); finds = c .before .before .before .before .find .ensures } in (countable v, (writable-in v (omega (arith, c .before .before .before .before .find .kept)), any-sound-if))
+
+effect-of-requires-2 : tie.Need-effect-of-requires-2
+effect-of-requires-2 c κs = search needs
+
+same-length : tie.Need-same-length
+same-length c = search needs
+
+returns-2 : tie.Need-returns-2
+returns-2 c = let v : Entering _ _ _ _ _ _ = record { accepted = accepted-number _ (c .before .before .before .before .before .before .before .before .before .before .before .before .judge-row .ensures) (c .before .before .before .before .before .before .before .before .before .before .enum-told .given .1); eight = omega (arith, c .before .before .before .before .before .before .before .before .before .before .before .before .before .before .before .before .before .before .before .good); finds = c .before .before .before .before .before .before .before .before .find .ensures } in tells-quote _ _ _ _ _ (c .effect-of2 .ensures) (reply-is v (c .before .before .before .write .ensures)) (out-is v (c .before .before .before .write .ensures))
+
+pub preview-spec : {M : Type 1} → statement M
+preview-spec =
+    tie.close
+    (tie.spec
+    judge-row-requires
+    enum-told
+    enum-told-2
+    effect-of-requires
+    returns
+    slice-aggregate-find
+    find-requires
+    mul-write
+    sub-write
+    part-write-start
+    part-write-end
+    write-requires
+    effect-of-requires-2
+    same-length
+    returns-2)
