@@ -1,6 +1,6 @@
 -- Dominance between positions, by which a later quote is over an earlier equal one: what it is for a later and for an earlier position,
 -- and that it is a strict partial order, over any list of quotes.
-use mathlib.Core.Path.{_≡_, refl, sym, _∙_}
+use mathlib.Core.Path.{_≡_, refl, ap, _∙_}
 use mathlib.Core.Logic.{_⊎_, inl, inr}
 use Prim.Native.Nat.{ℕ, zero, suc, _≤_, _<_}
 use native.Mathlib.Nat.{le-refl}
@@ -78,12 +78,18 @@ module _ (d directions : ℕ) where
     -- a later quote is over the earlier ones than which it is no worse
     pub renewed-later : (p q : ℕ) → q < p → over p q ≡ noWorse d directions (quoteAt quotes p) (quoteAt quotes q)
     unfolding renewed
-    renewed-later p q h = rw (lt-ltb q p h) (no-worse-cases (quoteAt quotes p) (quoteAt quotes q))
+    renewed-later p q h =
+        let x = quoteAt quotes p in
+        let y = quoteAt quotes q in
+        ap (λ (later : Bool). dominates d directions x y || (later && equalColumns d x y)) (lt-ltb q p h) ∙ no-worse-cases x y
 
     -- an earlier quote is over the later ones that it dominates
     pub renewed-earlier : (p q : ℕ) → p ≤ q → over p q ≡ dominates d directions (quoteAt quotes p) (quoteAt quotes q)
     unfolding renewed
-    renewed-earlier p q h = rw (le-ltb q p h, or-false)
+    renewed-earlier p q h =
+        let x = quoteAt quotes p in
+        let y = quoteAt quotes q in
+        ap (λ (later : Bool). dominates d directions x y || (later && equalColumns d x y)) (le-ltb q p h) ∙ or-false (dominates d directions x y)
 
     -- no position is over itself
     pub renewed-irreflexive : (p : ℕ) → over p p ≡ false
