@@ -329,9 +329,8 @@ fn due_example() -> (Vec<String>, String) {
 /// Previews before any opening, of a quote that brings changes, of a wrong column count, and with an output one byte too
 /// short and just long enough; a preview leaves the book as it was.
 fn preview_example() -> (Vec<String>, String) {
-    let before = ["preview 1", "open 2 5 0", "quote 5 5", "quote 3 8", "watch 2"];
-    let calls =
-        ["preview 4 4", "show", "quote 4 4", "preview 7", "lend out 13", "preview 2 9", "lend out 14", "preview 2 9"];
+    let before = ["preview 1", "open 2 5 0", "quote 5 5", "quote 3 8", "watch 2", "preview 4 4", "show", "quote 4 4"];
+    let calls = ["preview 7", "lend out 13", "preview 2 9", "lend out 14", "preview 2 9", "lend out 62520"];
     let lines = before.iter().chain(&calls).map(|line| line.to_string()).collect();
     let print = "A 3 0 0 0 0 0 0 0 0 0\nN 0 0\n\
                  A 0 0 2 5 0 0 0 0 0 0\nA 0 0 2 5 0 1 1 1 0 0\nA 0 0 2 5 0 2 2 2 0 0\n\
