@@ -11,6 +11,7 @@ use judged_reads::watch;
 use lending::end_lent;
 use lending::open_lent;
 use lending::pair_lent;
+use lending::preview_lent;
 use lending::quote_lent;
 use lending::unpair_lent;
 use lending::watch_lent;
@@ -207,6 +208,30 @@ fn short_pairs(
     print_answer(unpair_lent(head, columns, positions, lower_ends, upper_ends, [0; 8], 7));
 }
 
+// Refusal of a preview on a watch list of seven records: 11.
+fn short_preview(
+    head: Head,
+    columns: &[u32],
+    positions: &[u32],
+    lower_ends: &[u32],
+    upper_ends: &[u32],
+) {
+    let mut out = [0u8; 7];
+    let one = [1];
+    let effect = preview_lent(
+        head,
+        &one,
+        columns,
+        positions,
+        lower_ends,
+        upper_ends,
+        [0; 8],
+        7,
+        &mut out,
+    );
+    print_answer(effect.reply);
+}
+
 // Refusals of an opening and a quote on a watch list of seven records, and of the calls that read the tables: 11 of each.
 pub fn short_lists() {
     let mut columns = [0u32; 2];
@@ -239,6 +264,7 @@ pub fn short_lists() {
         7,
         &mut out,
     ));
+    short_preview(head, &columns, &positions, &lower_ends, &upper_ends);
     short_watches(head, &columns, &positions, &lower_ends, &upper_ends);
     short_pairs(head, &columns, &positions, &lower_ends, &upper_ends);
 }

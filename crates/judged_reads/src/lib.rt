@@ -137,6 +137,77 @@ pub fn watch(
     made.records
 }
 
+// Previews a quote of two columns, and prints how many rows it would leave live and held and its changes, or the refusal.
+fn preview(
+    head: Head,
+    quote: [u32; 2],
+    columns: &[u32],
+    positions: &[u32],
+    lower_ends: &[u32],
+    upper_ends: &[u32],
+    records: [Watch; 8],
+    out: &mut [u8],
+) {
+    let effect = by_value::preview(
+        head,
+        &quote,
+        columns,
+        positions,
+        lower_ends,
+        upper_ends,
+        records,
+        out,
+    );
+    let reply = effect.reply;
+    let answer = reply.answer;
+    let count = reply.count;
+    match answer {
+        Answer::Accepted => {
+            let numbers = [effect.live, effect.held];
+            print(b'N', &numbers);
+            print_changes(out, count);
+        }
+        Answer::Refused(_) => {
+            print_refusal(answer);
+        }
+    }
+}
+
+// Watches the list of n, and then previews a quote of two columns. Hands back the records.
+pub fn watch_and_preview(
+    head: Head,
+    n: u32,
+    quote: [u32; 2],
+    columns: &[u32],
+    positions: &[u32],
+    lower_ends: &[u32],
+    upper_ends: &[u32],
+    records: [Watch; 8],
+    out: &mut [u8],
+) -> [Watch; 8] {
+    let watched = watch(
+        head,
+        n,
+        columns,
+        positions,
+        lower_ends,
+        upper_ends,
+        records,
+        out,
+    );
+    preview(
+        head,
+        quote,
+        columns,
+        positions,
+        lower_ends,
+        upper_ends,
+        watched,
+        out,
+    );
+    watched
+}
+
 // Ends the watch of n, and prints its line, or the refusal. Hands back the records.
 pub fn end(
     head: Head,

@@ -11,17 +11,17 @@ use quoting::judge_row;
 use settling::find;
 use writing::write;
 
-// What a preview on this head tells of the reply that the quote would give: its answer and count, the head as it came, and the counts of
-// the head that the quote would hand back.
-pub fn effect_of(head: Head, reply: Reply) -> Effect
-    ensures { λ r. ⌜ r ≡ effectOf head reply ⌝ }
+// What a preview tells of the reply that the quote would give: its answer and count, the head as it came, and how many rows are live and
+// held by the reply's head.
+pub fn effect_of(came: Head, reply: Reply) -> Effect
+    ensures { λ r. ⌜ r ≡ effectOf came reply ⌝ }
 {
     let answer = reply.answer;
     let next = reply.head;
     Effect {
         reply: Reply {
             answer,
-            head,
+            head: came,
             count: reply.count,
         },
         live: next.live,

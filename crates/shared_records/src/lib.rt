@@ -57,7 +57,8 @@ pub fn preview(
 ) -> Effect
     ensures { λ r. ⌜ Previewed head (now (quote .entry))
         (tables (now (columns .entry)) (now (positions .entry)) (now («lower_ends» .entry)) (now («upper_ends» .entry)))
-        (watched (now (watches .entry))) (now (out .entry)) r (now (out .exit)) ⌝ }
+        (watched (now (watches .entry)))
+        (now (out .entry)) r (now (out .exit)) ⌝ }
 {
     let before = numbers(watches);
     let lent = watches.len();

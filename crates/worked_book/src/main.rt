@@ -1,5 +1,5 @@
-// A worked book: opens, quotes, looks, looks back, watches, ends and audits on real buffers, and judges and prints each
-// answer; then it works a pair, draws the refusals that the calls give, writes and reads a frame, and plays one.
+// A worked book: opens, quotes, previews, looks, looks back, watches, ends and audits on real buffers, and judges and prints
+// each answer; then it works a pair, draws the refusals that the calls give, writes and reads a frame, and plays one.
 use drawn_refusals::limits;
 use drawn_refusals::refusals;
 use drawn_refusals::refuse_opening;
@@ -11,7 +11,7 @@ use judged_frames::play_opening;
 use judged_frames::there_and_back;
 use judged_reads::look;
 use judged_reads::read_book;
-use judged_reads::watch;
+use judged_reads::watch_and_preview;
 use sizes::CHANGE_BYTES;
 use worked_pair::show_pair;
 
@@ -44,9 +44,11 @@ fn main() {
         empty,
         &mut out,
     );
-    let records = watch(
+    let sixth = [6, 6];
+    let records = watch_and_preview(
         five,
         2,
+        sixth,
         &columns,
         &positions,
         &lower_ends,
@@ -54,7 +56,6 @@ fn main() {
         empty,
         &mut out,
     );
-    let sixth = [6, 6];
     let six = take_all(
         five,
         &sixth,
