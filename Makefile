@@ -12,10 +12,11 @@ SEED ?= 1
 TAPES ?= 20000
 LISTS ?= 20000
 RUNS ?= 9
-PLANTS := equal oldest window kept misprint upper pair-first nine-first pair-end
+PLANTS := equals-stay earlier-stands oldest window kept misprint upper pair-first nine-first pair-end
 CALL_PLANTS := renamed torn-first past-memory early live-lower overwritten retired-lower fourteen-first live-zeros upper-free \
-  pair-first nine-first pair-end due-equal due-cells blind-look audit-pair preview-settles preview-held preview-head
-RULE_PLANTS := upper-free pair-end due-equal preview-settles preview-held preview-head
+  pair-first nine-first pair-end due-equal due-cells blind-look audit-pair preview-settles preview-held preview-head \
+  equals-stay earlier-stands
+RULE_PLANTS := upper-free pair-end due-equal preview-settles preview-held preview-head equals-stay earlier-stands
 SAMPLES := $(basename $(wildcard tapes/*.txt))
 RUSTC := rustc --edition 2021 -O -D warnings
 

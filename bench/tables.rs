@@ -189,7 +189,7 @@ impl Tables {
     }
 
     /// The place behind the youngest of some rows that is over a quote of D columns, or 0; notes the live rows younger than it that the
-    /// quote is over. On a book that a tape leaves the youngest row over a quote is live, and no row that the quote is over is older.
+    /// quote is over, those than which it is no worse. On a book that a tape leaves the youngest row over a quote is live, and no row that the quote is over is older.
     /// Where most rows are live they are compared side by side, but for the youngest few, where the search often ends.
     pub fn find<const D: usize>(&self, quote: &Quote, rows: Range<usize>, live: u32, retired: &mut Retired) -> usize {
         let ready = Ready::<D>::new(quote);
@@ -224,7 +224,7 @@ impl Tables {
             let place = from + highest(bits);
             bits &= !(1 << highest(bits));
             let (better, worse) = quote.against(&self.columns, place);
-            if better != worse && self.upper_ends[place] == 0 {
+            if !(better & worse) && self.upper_ends[place] == 0 {
                 if worse {
                     return place + 1;
                 }

@@ -63,8 +63,10 @@ pub const BAD_LINES: [&str; 32] = [
 /// How the columns of a list's quotes are drawn.
 #[derive(Clone, Copy)]
 pub enum Values {
-    /// One of so many distinct values, so that equal quotes abound.
+    /// One of so many distinct values, so that equal quotes abound where columns are few.
     Few(u64),
+    /// One of so many distinct quotes, so that equal quotes abound whatever the column count.
+    Repeated(u64),
     /// Any value.
     Wide,
     /// Values that rise along the list.
@@ -98,11 +100,12 @@ impl List {
             6..=11 => 2,
             _ => 3 + r.below(8) as u32,
         };
-        let values = match r.below(8) {
+        let values = match r.below(10) {
             0 => Values::Wide,
             1 => Values::Rising,
             2 => Values::Falling,
             3 | 4 => Values::Extremes,
+            5 | 6 => Values::Repeated(1 + r.below(6)),
             _ => Values::Few(1 + r.below(5)),
         };
         let directions = r.below(1 << d) as u32;
@@ -135,10 +138,19 @@ impl List {
         least + self.r.below(u64::from(most - least) + 1) as u32
     }
 
+    /// The columns of a quote. One of so many distinct quotes has a generator of its own.
+    fn columns(&mut self, count: u32) -> Vec<u32> {
+        if let Values::Repeated(k) = self.values {
+            let mut repeated = Random::new(k, self.r.below(k));
+            return (0..count).map(|_| repeated.below(k) as u32).collect();
+        }
+        (0..count).map(|_| self.value()).collect()
+    }
+
     /// A value of a column.
     fn value(&mut self) -> u32 {
         match self.values {
-            Values::Few(k) => self.r.below(k) as u32,
+            Values::Few(k) | Values::Repeated(k) => self.r.below(k) as u32,
             Values::Wide => self.r.next() as u32,
             Values::Rising => 3 * self.steps + self.r.below(4) as u32,
             Values::Falling => 1_000_000_000 - 3 * self.steps + self.r.below(4) as u32,
@@ -192,7 +204,7 @@ impl List {
     pub fn quote(&mut self) -> String {
         let count = if self.once_in(30) { self.between(0, 8) } else { self.d };
         self.steps += 1;
-        (0..count).fold("quote".into(), |line, _| format!("{line} {}", self.value()))
+        self.columns(count).iter().fold("quote".into(), |line, value| format!("{line} {value}"))
     }
 
     /// Says a call; of a quote mostly its preview first, with as much output, and at times what the preview leaves.
@@ -507,7 +519,7 @@ impl List {
         for position in start..=newest {
             let lower = self.some_lower(start, position);
             let upper = self.some_upper(position, newest, retired);
-            let columns: Vec<u32> = (0..self.d).map(|_| self.value()).collect();
+            let columns = self.columns(self.d);
             self.row(position - start, position, lower, upper, &columns);
         }
         self.head(newest, 0, newest + 1 - start);

@@ -60,6 +60,10 @@ pub enum Plant {
     PreviewHeld,
     /// A preview hands back the next head.
     PreviewHead,
+    /// Equal quotes stand side by side.
+    EqualsStay,
+    /// Of equal quotes the earlier one beats the later.
+    EarlierStands,
 }
 
 /// The head of a book; the pair is n1 and n2, 0 and 0 when it is unset.
@@ -90,6 +94,13 @@ struct Row {
     columns: [u32; 6],
     lower: u32,
     upper: u32,
+}
+
+impl Row {
+    /// Its position and columns.
+    fn quote(&self) -> (u32, &[u32]) {
+        (self.position, &self.columns)
+    }
 }
 
 /// What the model holds: the head last handed back, the tables and records, what is lent of them, and the lines read.
@@ -178,8 +189,9 @@ impl Model {
         }
     }
 
-    /// Whether quote p beats quote q: no worse in every column and better in at least one.
-    fn beats(&self, p: &[u32], q: &[u32]) -> bool {
+    /// Whether quote p beats quote q, each a position and columns: no worse in every column, and better in at least one
+    /// or, equal in every column, the later one.
+    fn beats(&self, (at, p): (u32, &[u32]), (other, q): (u32, &[u32])) -> bool {
         let better = |x: &[u32], y: &[u32], i: usize| {
             if self.head.directions >> i & 1 == 1 {
                 x[i] > y[i]
@@ -187,8 +199,13 @@ impl Model {
                 x[i] < y[i]
             }
         };
+        let renews = match self.plant {
+            Plant::EqualsStay => false,
+            Plant::EarlierStands => at < other,
+            _ => at > other,
+        };
         let columns = 0..self.head.d as usize;
-        columns.clone().all(|i| !better(q, p, i)) && columns.clone().any(|i| better(p, q, i))
+        columns.clone().all(|i| !better(q, p, i)) && (renews || columns.clone().any(|i| better(p, q, i)))
     }
 
     /// The start of the window of n.
@@ -208,13 +225,13 @@ impl Model {
     }
 
     /// The lower end of a quote behind some rows: the position of the youngest of them that beats it, or 0.
-    fn lower_end<'a>(&self, older: impl DoubleEndedIterator<Item = &'a Row>, quote: &[u32]) -> u32 {
-        older.rev().find(|row| self.beats(&row.columns, quote)).map_or(0, |row| row.position)
+    fn lower_end<'a>(&self, older: impl DoubleEndedIterator<Item = &'a Row>, quote: (u32, &[u32])) -> u32 {
+        older.rev().find(|row| self.beats(row.quote(), quote)).map_or(0, |row| row.position)
     }
 
     /// The upper end of a quote before some rows: the position of the oldest of them that beats it, or 0.
-    fn upper_end(&self, younger: &[Row], quote: &[u32]) -> u32 {
-        younger.iter().find(|row| self.beats(&row.columns, quote)).map_or(0, |row| row.position)
+    fn upper_end(&self, younger: &[Row], quote: (u32, &[u32])) -> u32 {
+        younger.iter().find(|row| self.beats(row.quote(), quote)).map_or(0, |row| row.position)
     }
 
     /// Whether a table is shorter than these settings ask.
@@ -346,8 +363,8 @@ impl Model {
     }
 
     /// Whether a quote gives a row an upper end: exactly if it beats it and the row is live.
-    fn retires(&self, quote: &[u32], row: &Row) -> bool {
-        self.beats(quote, &row.columns) && (row.upper == 0 || self.plant == Plant::Overwritten)
+    fn retires(&self, quote: (u32, &[u32]), row: &Row) -> bool {
+        self.beats(quote, row.quote()) && (row.upper == 0 || self.plant == Plant::Overwritten)
     }
 
     /// The rows after a quote: without the one that ages out, those that it beats retired, and its own behind them; its
@@ -358,12 +375,12 @@ impl Model {
         let mut rows = self.rows();
         rows.retain(|row| row.position != aged);
         let sought = rows.iter().filter(|row| row.upper == 0 || self.plant != Plant::LiveLower);
-        let lower = self.lower_end(sought, quote);
+        let lower = self.lower_end(sought, (position, quote));
         for row in &mut rows {
             if self.loses_lower(row, aged) {
                 row.lower = 0;
             }
-            if self.retires(quote, row) {
+            if self.retires((position, quote), row) {
                 row.upper = position;
             }
         }
@@ -550,8 +567,8 @@ impl Model {
             return Ok(false);
         }
         let rows = self.rows();
-        let lower = |i: usize| rows[i].lower == self.lower_end(rows[..i].iter(), &rows[i].columns);
-        let upper = |i: usize| rows[i].upper == self.upper_end(&rows[i + 1..], &rows[i].columns);
+        let lower = |i: usize| rows[i].lower == self.lower_end(rows[..i].iter(), rows[i].quote());
+        let upper = |i: usize| rows[i].upper == self.upper_end(&rows[i + 1..], rows[i].quote());
         let asked = self.plant != Plant::UpperFree;
         let right = (0..rows.len()).all(|i| lower(i) && (!asked || upper(i)));
         Ok(right && self.zeros_behind())

@@ -16,7 +16,8 @@ pub struct Settings {
 pub type Cells = Vec<u32>;
 
 impl Settings {
-    /// Whether the quote with one index beats the one with another.
+    /// Whether the quote with one index beats the one with another: no worse in every column, and better in at least one
+    /// or, equal in every column, the later one.
     fn beats(self, quotes: &[u32], i: usize, j: usize) -> bool {
         let better = |i: usize, j: usize, column: usize| {
             let (x, y) = (quotes[i * self.d + column], quotes[j * self.d + column]);
@@ -26,7 +27,8 @@ impl Settings {
                 x < y
             }
         };
-        (0..self.d).all(|column| !better(j, i, column)) && (0..self.d).any(|column| better(i, j, column))
+        let no_worse = (0..self.d).all(|column| !better(j, i, column));
+        no_worse && (i > j || (0..self.d).any(|column| better(i, j, column)))
     }
 
     /// The positions of a range of quotes that no quote of that range beats.

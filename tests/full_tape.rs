@@ -72,9 +72,9 @@ impl<R: Read> Checked<R> {
     }
 }
 
-/// How many quotes of a window no younger one beats.
+/// How many quotes of a window no younger one beats: a younger one beats those that are worse and those that are equal.
 fn rows(window: &VecDeque<u32>) -> usize {
-    (0..window.len()).filter(|&p| (p + 1..window.len()).all(|q| window[q] >= window[p])).count()
+    (0..window.len()).filter(|&p| (p + 1..window.len()).all(|q| window[q] > window[p])).count()
 }
 
 /// Checks the whole print: the list of 1 is the newest position, so every quote but the first brings a leave and a join.
@@ -96,9 +96,8 @@ fn check(output: impl Read, seed: u64) {
     }
     checked.line(format_args!("R 6"));
     let best = window.iter().min().unwrap();
-    let listed = window.iter().zip(LAST_POSITION - u32::from(MEMORY) + 1..).filter(|(value, _)| *value == best);
-    let positions: String = listed.map(|(_, position)| format!(" {position}")).collect();
-    checked.line(format_args!("L {MEMORY}{positions}"));
+    let newer = window.iter().rev().take_while(|value| *value != best).count() as u32;
+    checked.line(format_args!("L {MEMORY} {}", LAST_POSITION - newer));
     checked.end();
 }
 

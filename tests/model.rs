@@ -12,8 +12,10 @@ const RECORDS: usize = 8;
 pub enum Plant {
     /// No wrong reading.
     Nothing,
-    /// Equal quotes knock each other out.
-    Equal,
+    /// Equal quotes stand side by side.
+    EqualsStay,
+    /// Of equal quotes the earlier one beats the later.
+    EarlierStands,
     /// Lists follow lower ends, and the oldest row that beats a row is its lower end.
     Oldest,
     /// n is counted back from the newest position without the larger-of-1 rule.
@@ -60,12 +62,18 @@ impl Model {
         }
     }
 
-    /// Whether the quote at position p beats the one at position q: no worse in every column and better in at least one.
+    /// Whether the quote at position p beats the one at position q: no worse in every column, and better in at least one or,
+    /// equal in every column, the later one.
     fn beats(&self, p: usize, q: usize) -> bool {
         let (one, other) = (&self.quotes[p - 1], &self.quotes[q - 1]);
         let no_worse = (0..self.d).all(|i| !self.better(i, other[i], one[i]));
         let better = (0..self.d).any(|i| self.better(i, one[i], other[i]));
-        no_worse && (better || self.plant == Plant::Equal && p != q)
+        let renews = match self.plant {
+            Plant::EqualsStay => false,
+            Plant::EarlierStands => p < q,
+            _ => p > q,
+        };
+        no_worse && (better || renews)
     }
 
     /// The window of n: the larger of 1 and M - n + 1, up to M.

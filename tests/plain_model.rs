@@ -23,8 +23,9 @@ const WORDS: [&str; 13] = ["O", "Q", "L", "P", "W", "U", "B", "E", "-", "+", "--
 /// The refusals that a tape of some quotes can bring; 6 asks for 16,777,215 of them.
 const REFUSALS: [usize; 10] = [1, 2, 3, 4, 5, 7, 8, 9, 10, 14];
 /// The planted bugs by name.
-const PLANTS: [(&str, Plant); 9] = [
-    ("equal", Plant::Equal),
+const PLANTS: [(&str, Plant); 10] = [
+    ("equals-stay", Plant::EqualsStay),
+    ("earlier-stands", Plant::EarlierStands),
     ("oldest", Plant::Oldest),
     ("window", Plant::Window),
     ("kept", Plant::Kept),
@@ -166,7 +167,7 @@ fn plant_named(name: &str) -> Plant {
 
 /// Panics if the model does not print the worked tapes as they are worked out by hand.
 fn check_examples() {
-    for (tape, print) in [random_tapes::past_example(), random_tapes::pair_example(), random_tapes::pair_refusals()] {
+    for (tape, print) in random_tapes::examples() {
         assert_eq!(print_of(&tape, Plant::Nothing), print, "the model prints a worked tape otherwise");
     }
 }

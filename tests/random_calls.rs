@@ -32,7 +32,7 @@ const BATCH: usize = 100;
 /// How many lines before a difference are shown; the whole list is saved.
 const SHOWN: usize = 20;
 /// The planted bugs by name.
-const PLANTS: [(&str, Plant); 20] = [
+const PLANTS: [(&str, Plant); 22] = [
     ("renamed", Plant::Renamed),
     ("torn-first", Plant::TornFirst),
     ("past-memory", Plant::PastMemory),
@@ -53,6 +53,8 @@ const PLANTS: [(&str, Plant); 20] = [
     ("preview-settles", Plant::PreviewSettles),
     ("preview-held", Plant::PreviewHeld),
     ("preview-head", Plant::PreviewHead),
+    ("equals-stay", Plant::EqualsStay),
+    ("earlier-stands", Plant::EarlierStands),
 ];
 /// The answers that each call can give and that have to come; a quote directly behind its preview is counted by itself.
 const ANSWERS: [(&str, &[&str]); 12] = [

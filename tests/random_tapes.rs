@@ -9,8 +9,10 @@ const SETTINGS: u64 = 2 + 4 + 8 + 16 + 32 + 64;
 /// How the columns of a tape's quotes are drawn.
 #[derive(Clone, Copy)]
 enum Values {
-    /// One of so many distinct values, so that equal quotes abound.
+    /// One of so many distinct values, so that equal quotes abound where columns are few.
     Few(u64),
+    /// One of so many distinct quotes, so that equal quotes abound whatever the column count.
+    Repeated(u64),
     /// Any value.
     Wide,
     /// Values that rise along the tape.
@@ -43,12 +45,13 @@ impl Style {
             3 => 17 + r.below(48) as u16,
             _ => 2 + r.below(14) as u16,
         };
-        let values = match r.below(8) {
+        let values = match r.below(10) {
             0 => Values::Wide,
             1 => Values::Rising,
             2 => Values::Falling,
             3 => Values::Extremes,
             4 => Values::Crossing,
+            5..=7 => Values::Repeated(1 + r.below(6)),
             _ => Values::Few(1 + r.below(5)),
         };
         Style { d, memory, directions, values, watching: [1, 2, 12][r.below(3) as usize] }
@@ -60,7 +63,7 @@ impl Style {
         let down = 1_000_000_000 - 3 * step;
         let rises = (self.directions >> i ^ i) & 1 == 0;
         match self.values {
-            Values::Few(k) => r.below(k) as u32,
+            Values::Few(k) | Values::Repeated(k) => r.below(k) as u32,
             Values::Wide => r.next() as u32,
             Values::Rising => up + r.below(4) as u32,
             Values::Falling => down + r.below(4) as u32,
@@ -110,9 +113,14 @@ impl Style {
         set_pair(tape, n1, n2);
     }
 
-    /// A quote, once in 40 with a column count of its own.
+    /// A quote, once in 40 with a column count of its own. One of so many distinct quotes has a generator of its own.
     fn quote(&self, r: &mut Random, step: u32, tape: &mut Vec<u8>) {
         let count = if r.below(40) == 0 { 1 + r.below(6) as u8 } else { self.d };
+        let mut repeated = match self.values {
+            Values::Repeated(k) => Some(Random::new(k, r.below(k))),
+            _ => None,
+        };
+        let r = repeated.as_mut().unwrap_or(r);
         let columns: Vec<u32> = (0..count).map(|i| self.column(r, i, step)).collect();
         frames::quote(tape, &columns);
     }
@@ -329,8 +337,43 @@ fn tape_of_every_kind(r: &mut Random, d: u8) -> Vec<u8> {
     tape
 }
 
+/// The paper's worked tape, on which the fifth quote renews the third, and its print.
+fn worked_example() -> (Vec<u8>, &'static str) {
+    let mut tape = Vec::new();
+    frames::open(&mut tape, 2, 5, 0);
+    for quote in [[5, 5], [3, 8], [4, 4], [7, 2], [4, 4]] {
+        frames::quote(&mut tape, &quote);
+    }
+    frames::watch(&mut tape, 2);
+    frames::quote(&mut tape, &[6, 6]);
+    look(&mut tape, 5);
+    frames::quote(&mut tape, &[2, 9]);
+    frames::quote(&mut tape, &[4, 3]);
+    look(&mut tape, 3);
+    let print = "O 2 5 0\nQ 1 1\nQ 2 2\nQ 3 2\nQ 4 3\nQ 5 3\nW 2\n+ 2 4\n+ 2 5\nQ 6 4\n- 2 4\nL 5 2 4 5\n\
+                 Q 7 4\n- 2 5\n+ 2 6\n+ 2 7\nQ 8 3\n- 2 6\n+ 2 8\nL 3 7 8\n";
+    (tape, print)
+}
+
+/// A tape on which quotes are renewed under a watch and a pair, and its print.
+fn renewed_example() -> (Vec<u8>, &'static str) {
+    let mut tape = Vec::new();
+    frames::open(&mut tape, 2, 4, 0);
+    frames::watch(&mut tape, 3);
+    set_pair(&mut tape, 2, 4);
+    for quote in [[5, 5], [5, 5], [4, 6], [5, 5], [4, 6]] {
+        frames::quote(&mut tape, &quote);
+    }
+    past(&mut tape, 3, 4);
+    past(&mut tape, 1, 4);
+    look(&mut tape, 4);
+    let print = "O 2 4 0\nW 3\nB 2 4\nQ 1 1\n+ 3 1\nQ 2 1\n- 3 1\n+ 3 2\n++ 1\nQ 3 2\n+ 3 3\n-- 1\n++ 2\n\
+                 Q 4 2\n- 3 2\n+ 3 4\n++ 3\nQ 5 2\n- 3 3\n+ 3 5\n-- 2\n++ 4\nP 3 4 2 3\nP 1 4 4 5\nL 4 4 5\n";
+    (tape, print)
+}
+
 /// The worked tape of past lists, and its print.
-pub fn past_example() -> (Vec<u8>, &'static str) {
+fn past_example() -> (Vec<u8>, &'static str) {
     let mut tape = Vec::new();
     frames::open(&mut tape, 2, 5, 0);
     for quote in [[5, 5], [3, 8], [4, 4]] {
@@ -350,13 +393,13 @@ pub fn past_example() -> (Vec<u8>, &'static str) {
         past(&mut tape, n1, n2);
     }
     look(&mut tape, 5);
-    let print = "O 2 5 0\nQ 1 1\nQ 2 2\nQ 3 2\nP 3 3 1\nP 2 3 1 2\nQ 4 3\nQ 5 4\nQ 6 5\nP 1 3 4 5\nP 2 3 4 5\nP 3 5 2 3 4\nQ 7 5\nQ 8 3\n\
+    let print = "O 2 5 0\nQ 1 1\nQ 2 2\nQ 3 2\nP 3 3 1\nP 2 3 1 2\nQ 4 3\nQ 5 3\nQ 6 4\nP 1 3 4 5\nP 2 3 4 5\nP 3 5 2 3 4\nQ 7 4\nQ 8 3\n\
                  P 1 5 4 7 8\nP 2 5 4 5 7\nP 2 2 7\nP 5 5 4\nL 5 4 7 8\n";
     (tape, print)
 }
 
 /// The worked tape of a watched pair, and its print.
-pub fn pair_example() -> (Vec<u8>, &'static str) {
+fn pair_example() -> (Vec<u8>, &'static str) {
     let mut tape = Vec::new();
     frames::open(&mut tape, 2, 6, 0);
     set_pair(&mut tape, 3, 5);
@@ -368,7 +411,7 @@ pub fn pair_example() -> (Vec<u8>, &'static str) {
 }
 
 /// A tape that brings each refusal of a pair and of its end, and its print.
-pub fn pair_refusals() -> (Vec<u8>, &'static str) {
+fn pair_refusals() -> (Vec<u8>, &'static str) {
     let mut tape = vec![22];
     set_pair(&mut tape, 2, 3);
     frames::open(&mut tape, 1, 4, 0);
@@ -381,10 +424,16 @@ pub fn pair_refusals() -> (Vec<u8>, &'static str) {
     (tape, print)
 }
 
+/// The tapes that are worked out by hand, with their prints.
+pub fn examples() -> Vec<(Vec<u8>, &'static str)> {
+    vec![worked_example(), renewed_example(), past_example(), pair_example(), pair_refusals()]
+}
+
 /// The worked tapes, tapes cut at every byte, for every column count, and every kind byte before bodies of several lengths, alone and
 /// behind an opening.
 pub fn edge_tapes(seed: u64) -> Vec<Vec<u8>> {
-    let mut tapes = vec![Vec::new(), past_example().0, pair_example().0, pair_refusals().0];
+    let mut tapes = vec![Vec::new()];
+    tapes.extend(examples().into_iter().map(|(tape, _)| tape));
     for d in 1..=6 {
         let whole = tape_of_every_kind(&mut Random::new(seed, d), d as u8);
         tapes.extend((0..=whole.len()).map(|keep| whole[..keep].to_vec()));

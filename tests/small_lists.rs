@@ -1,5 +1,5 @@
 //! Small lists of calls that go through settings, n, pairs of n, counts of watches, lengths of tables and untorn books
-//! one by one, and bring the longest answers; and three that are worked out by hand.
+//! one by one, and bring the longest answers; and some that are worked out by hand.
 
 use crate::call_lists::{List, Values, BAD_LINES};
 use crate::call_model::OUTPUT;
@@ -143,12 +143,12 @@ fn any_pairs(memory: u32) -> Vec<String> {
     list.lines
 }
 
-/// 1,024 equal quotes, of which all but the oldest are due; then eight watches and another pair, a quote that beats
-/// them all and one more, and the list before it; each call first with an output one byte or cell too short.
+/// 1,024 quotes of which none beats another, and all but the oldest are due; then eight watches and another pair, a quote
+/// that beats them all and its equal, and the list before it; each call first with an output one byte or cell too short.
 fn longest_answers() -> Vec<String> {
-    let mut list = small_list(1, 1_024, 0);
-    for _ in 0..1_024 {
-        list.say("quote 5".into());
+    let mut list = small_list(2, 1_024, 0);
+    for value in 1..=1_024 {
+        list.say(format!("quote {value} {}", 2_000 - value));
     }
     list.say("pair 1024 1024".into());
     say_tightly(&mut list, "due");
@@ -157,7 +157,7 @@ fn longest_answers() -> Vec<String> {
     for n in 1_017..=1_024 {
         list.say(format!("watch {n}"));
     }
-    for call in ["preview 4", "quote 4", "preview 4", "quote 4", "due", "past 2 1024"] {
+    for call in ["preview 1 1", "quote 1 1", "preview 1 1", "quote 1 1", "due", "past 2 1024"] {
         say_tightly(&mut list, call);
     }
     list.say("audit".into());
@@ -214,14 +214,14 @@ fn every_ends(start: u32, newest: u32) -> Vec<Vec<(u32, u32)>> {
     books
 }
 
-/// An untorn book of one column with M and the ends of its rows given, each row either beating the next quote or beaten
-/// by it, under three watches and a pair or none; two quotes on it, each previewed, with what they leave, what is due,
-/// and every past list.
-fn untorn_book(newest: u32, ends: &[(u32, u32)], beating: u32, pair: (u32, u32)) -> Vec<String> {
+/// An untorn book of one column with M and the ends of its rows given, each row beating the next quote, equal to it or
+/// beaten by it, as a number to the base 3 says, under three watches and a pair or none; two equal quotes on it, each
+/// previewed, with what they leave, what is due, and every past list.
+fn untorn_book(newest: u32, ends: &[(u32, u32)], values: u32, pair: (u32, u32)) -> Vec<String> {
     let mut list = small_list(1, 3, 0);
     let start = newest + 1 - ends.len() as u32;
     for (place, &(lower, upper)) in (0..).zip(ends) {
-        list.row(place, start + place, lower, upper, &[if beating >> place & 1 == 1 { 0 } else { 2 }]);
+        list.row(place, start + place, lower, upper, &[values / 3u32.pow(place) % 3]);
     }
     let live = ends.iter().filter(|&&(_, upper)| upper == 0).count() as u32;
     list.head(newest, live, ends.len() as u32);
@@ -244,8 +244,8 @@ fn untorn_books() -> Vec<Vec<String>> {
     let mut pairs = [(2, 3), (2, 2), (3, 3), (2, 3), (0, 0)].into_iter().cycle();
     for (start, newest) in [(1, 2), (1, 3), (2, 4)] {
         for ends in every_ends(start, newest) {
-            let books = (0..1 << ends.len()).zip(pairs.by_ref());
-            lists.extend(books.map(|(beating, pair)| untorn_book(newest, &ends, beating, pair)));
+            let books = (0..3u32.pow(ends.len() as u32)).zip(pairs.by_ref());
+            lists.extend(books.map(|(values, pair)| untorn_book(newest, &ends, values, pair)));
         }
     }
     lists
@@ -297,7 +297,7 @@ fn past_example() -> (Vec<String>, String) {
     let mut lines = vec!["open 2 5 0".to_string()];
     lines.extend(["5 5", "3 8", "4 4", "7 2", "4 4", "6 6", "2 9", "4 3"].map(|columns| format!("quote {columns}")));
     lines.extend(["show", "audit", "past 2 5"].map(String::from));
-    let counts = ["1 1 1", "2 2 2", "3 2 3", "4 3 4", "5 4 5", "6 5 5", "7 5 5", "8 3 5"];
+    let counts = ["1 1 1", "2 2 2", "3 2 3", "4 3 4", "5 3 5", "6 4 5", "7 4 5", "8 3 5"];
     let quotes: String = counts.iter().map(|counts| format!("A 0 0 2 5 0 {counts} 0 0\n")).collect();
     let tables = "C 7 2 4 4 6 6 2 9 4 3\nP 4 5 6 7 8\nE 0 0 5 0 0\nU 0 8 8 0 0\nW 0 0 0 0 0 0 0 0\nV yes\n";
     (lines, format!("A 0 0 2 5 0 0 0 0 0 0\n{quotes}{tables}A 0 3 2 5 0 8 3 5 0 0\nX 4 5 7\n"))
@@ -343,9 +343,36 @@ fn preview_example() -> (Vec<String>, String) {
     (lines, print.into())
 }
 
+/// The lists of 1 to 4 after the sixth quote of the paper's tape, on which the fifth renews the third.
+fn marked_example() -> (Vec<String>, String) {
+    let mut lines = vec!["open 2 5 0".to_string()];
+    lines.extend(["5 5", "3 8", "4 4", "7 2", "4 4", "6 6"].map(|columns| format!("quote {columns}")));
+    lines.extend((1..=4).map(|n| format!("look {n}")));
+    let counts = ["0 0 0", "1 1 1", "2 2 2", "3 2 3", "4 3 4", "5 3 5", "6 4 5"];
+    let calls: String = counts.iter().map(|counts| format!("A 0 0 2 5 0 {counts} 0 0\n")).collect();
+    let lists = ["1", "1", "2", "2"].iter().zip(["6", "5", "4 5", "4 5"]);
+    let looks: String = lists.map(|(count, list)| format!("A 0 {count} 2 5 0 6 4 5 0 0\nX {list}\n")).collect();
+    (lines, calls + &looks)
+}
+
+/// A quote renewed; the book that it leaves, which the audit takes; the same with other ends, which it does not take; and
+/// one more equal quote on such a book, where two equal rows are live.
+fn renewed_example() -> (Vec<String>, String) {
+    let left = ["open 1 3 0", "quote 7", "quote 7", "show", "audit", "cell lower 1 1", "audit", "cell lower 1 0"];
+    let made_up =
+        ["cell upper 0 0", "head 1 3 0 2 2 2 0 0", "audit", "preview 7", "quote 7", "show", "look 3", "past 2 3"];
+    let lines = left.iter().chain(&made_up).map(|line| line.to_string()).collect();
+    let print = "A 0 0 1 3 0 0 0 0 0 0\nA 0 0 1 3 0 1 1 1 0 0\nA 0 0 1 3 0 2 1 2 0 0\n\
+                 C 7 7 0\nP 1 2 0\nE 0 0 0\nU 2 0 0\nW 0 0 0 0 0 0 0 0\nV yes\nV no\nV no\n\
+                 A 0 0 1 3 0 2 2 2 0 0\nN 1 3\nA 0 0 1 3 0 3 1 3 0 0\n\
+                 C 7 7 7\nP 1 2 3\nE 0 0 0\nU 3 3 0\nW 0 0 0 0 0 0 0 0\n\
+                 A 0 1 1 3 0 3 1 3 0 0\nX 3\nA 0 2 1 3 0 3 1 3 0 0\nX 1 2\n";
+    (lines, print.into())
+}
+
 /// The lists that are worked out by hand, with their prints.
 pub fn examples() -> Vec<(Vec<String>, String)> {
-    vec![past_example(), due_example(), preview_example()]
+    vec![past_example(), due_example(), preview_example(), marked_example(), renewed_example()]
 }
 
 /// All small lists, and one of every sort of line that cannot be taken.

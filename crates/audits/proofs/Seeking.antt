@@ -12,7 +12,7 @@ use Rattle.lists.proofs.Filters.{filter-append, map-append, last-snoc}
 use Rattle.lists.proofs.Runs.{run-snoc}
 use Rattle.dominance.specs.declared.Comparison.{Comparison}
 use Rattle.dominance.specs.Compared.{compared}
-use Rattle.dominance.proofs.Comparing.{dominated-by, compared-take}
+use Rattle.dominance.proofs.Comparing.{no-worse-by, dominated-by, compared-take}
 use Rattle.model.specs.Rows.{rowAt, overOlder, overYounger}
 use Rattle.model.specs.Promises.{tables}
 use Rattle.rows.proofs.Reading.{row-within}
@@ -29,9 +29,9 @@ module _ (d directions : ℕ) (cs : List ℕ) (i k : ℕ) (c : Comparison)
   unfolding overYoungerAt overYounger rowAt
   over-younger-by = rw (dominated-by, ← rows-compared)
 
-  pub over-older-by : c .worse && not (c .better) ≡ overOlderAt d directions (tables cs [] [] []) i k
+  pub over-older-by : not (c .worse) ≡ overOlderAt d directions (tables cs [] [] []) k i
   unfolding overOlderAt overOlder rowAt
-  over-older-by = rw (dominated-by, ← rows-compared)
+  over-older-by = rw (no-worse-by, ← rows-compared)
 
 -- ---- the last and the first of a run that pass a test
 
@@ -64,7 +64,7 @@ pub record Sought (d count : ℕ) (cs ps : List ℕ) (i : ℕ) : Type 0 where
 pub columns-in : {d count : ℕ} {cs ps : List ℕ} {i : ℕ} → Sought d count cs ps i → (k : ℕ) → k < count → k * d + d ≤ length cs
 columns-in {d} {count} s k h = let f = s .columns-fit in omega (arith, row-within k count d h)
 
--- none of the rows from place j to before place i dominates the row at place i
+-- none of the rows from place j to before place i is over the row at place i
 pub record Back (d directions count : ℕ) (cs ps : List ℕ) (i j : ℕ) : Type 0 where
   pub sought : Sought d count cs ps i
   pub within : j ≤ i
@@ -72,7 +72,7 @@ pub record Back (d directions count : ℕ) (cs ps : List ℕ) (i j : ℕ) : Type
       lowerFound d directions (tables cs ps [] []) i
       ≡ lastOr 0 (map (positionAt d (tables cs ps [] [])) (filter (overYoungerAt d directions (tables cs ps [] []) i) (run 0 j)))
 
--- nor does any from behind place i to before place j
+-- nor is any from behind place i to before place j
 pub record Onward (d directions count : ℕ) (cs ps : List ℕ) (i j : ℕ) : Type 0 where
   pub sought : Sought d count cs ps i
   pub low : i < j

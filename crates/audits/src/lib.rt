@@ -31,7 +31,7 @@ fn all_zero(cells: &[u32], from: usize, to: usize) -> bool
     !found
 }
 
-// Whether an older row dominates a younger one, each given by its place.
+// Whether an older row is over a younger one, each given by its place.
 fn over_younger(directions: u32, d: usize, columns: &[u32], older: usize, younger: usize) -> bool
     requires { ⌜ older * d + d ≤ length (now columns) ⌝ }
     requires { ⌜ younger * d + d ≤ length (now columns) ⌝ }
@@ -40,22 +40,22 @@ fn over_younger(directions: u32, d: usize, columns: &[u32], older: usize, younge
     let from = younger * d;
     let to = from + d;
     let c = compare(directions, d, &columns[from..to], columns, older * d);
-    c.worse & !c.better
+    c.under_older()
 }
 
-// Whether a younger row dominates an older one, each given by its place.
+// Whether a younger row is over an older one, each given by its place.
 fn over_older(directions: u32, d: usize, columns: &[u32], younger: usize, older: usize) -> bool
     requires { ⌜ younger * d + d ≤ length (now columns) ⌝ }
     requires { ⌜ older * d + d ≤ length (now columns) ⌝ }
     ensures { λ r. ⌜ r ≡ overOlderAt d directions (tables (now (columns .entry)) [] [] []) older younger ⌝ }
 {
-    let from = older * d;
+    let from = younger * d;
     let to = from + d;
-    let c = compare(directions, d, &columns[from..to], columns, younger * d);
-    c.worse & !c.better
+    let c = compare(directions, d, &columns[from..to], columns, older * d);
+    c.over_older()
 }
 
-// The lower end of the row at place i: the position of the youngest row before it that dominates it, or 0.
+// The lower end of the row at place i: the position of the youngest row before it that is over it, or 0.
 fn lower_end(
     directions: u32,
     d: usize,
@@ -79,7 +79,7 @@ fn lower_end(
     0
 }
 
-// The upper end of the row at place i: the position of the oldest row behind it that dominates it, or 0.
+// The upper end of the row at place i: the position of the oldest row behind it that is over it, or 0.
 fn upper_end(
     directions: u32,
     d: usize,

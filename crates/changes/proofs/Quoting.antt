@@ -108,7 +108,7 @@ module _ (h : Head) (t : Tables) (x : List ℕ) (lower : ℕ) (whole : Whole h (
     before-is =
         rows-picked first d (h .held) t places (λ r. covers (w .before) M (r .lowerEnd) (r .position) (r .upperEnd)) was (λ i l. on-list (w .before) i l)
 
-    -- a row is on the list after if it was, but for the start, and the quote does not dominate it
+    -- a row is on the list after if it was, but for the start, and the quote is not over it
     now-on : (i : ℕ) → i < h .held → covers (w .after) M (getD (t .lowerEnds) i 0) (getD (t .positions) i 0) (getD (t .upperEnds) i 0) && not (overOlder d (h .directions) x (rowAt d t i)) ≡ is i
     unfolding nowListed stands overOlder over rowAt found.rowAt
     now-on i l = rw (on-list (w .after) i l) (go (live (t .upperEnds) i) (stabbed (w .after) (getD (t .lowerEnds) i 0) (first + i)) (over lent i))

@@ -33,7 +33,7 @@ fn stands(
         return false;
     }
     let c = compare(directions, d, quote, columns, place * d);
-    !(c.better & !c.worse)
+    !c.over_older()
 }
 
 // Whether a row with this lower end and position is in the window that starts at start, and no row of it is over it.

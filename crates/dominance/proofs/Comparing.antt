@@ -81,6 +81,16 @@ pub dominated-by : (d directions : ℕ) (p q : List ℕ) → dominates d directi
 unfolding compared
 dominated-by d directions p q = dominates-by d directions q p
 
+-- p is no worse than q exactly if it is worse in no column
+pub no-worse-by : (d directions : ℕ) (p q : List ℕ) → noWorse d directions p q ≡ not (compared d directions p q .worse)
+unfolding compared
+no-worse-by d directions p q = no-worse-not d directions p q
+
+-- q is no worse than p exactly if p is better in no column
+pub no-better-by : (d directions : ℕ) (p q : List ℕ) → noWorse d directions q p ≡ not (compared d directions p q .better)
+unfolding compared
+no-better-by d directions p q = no-worse-not d directions q p
+
 some-better-same : (d directions : ℕ) (p p' q q' : List ℕ) → ((i : ℕ) → i < d → getD p i 0 ≡ getD p' i 0) → ((i : ℕ) → i < d → getD q i 0 ≡ getD q' i 0)
     → someBetter d directions p q ≡ someBetter d directions p' q'
 unfolding someBetter betterAt

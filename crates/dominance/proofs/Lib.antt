@@ -3,3 +3,4 @@ pub mod Columns
 pub mod Laws
 pub mod Comparing
 pub mod Turning
+pub mod Renewal

@@ -2,3 +2,4 @@
 pub mod Dominance
 pub mod Compared
 pub mod Turned
+pub mod Renewal

@@ -1,5 +1,6 @@
 // Dominance of one quote over another (01: beats).
 ghost use mathlib.Core.Path.{_≡_};
+ghost use mathlib.Core.Bool.{_&&_, not};
 ghost use Prim.Native.Nat.{_+_, _≤_, min};
 ghost use lib.ListN.{length, drop};
 ghost use Rattle.dominance.specs.Dominance.{better, higher, dominates};
@@ -10,6 +11,22 @@ ghost use Rattle.dominance.specs.Turned.{mask};
 pub struct Comparison {
     pub better: bool,
     pub worse: bool,
+}
+
+impl Comparison {
+    // Whether the quote is over the other, which is older: it is worse in no column.
+    pub fn over_older(self) -> bool
+        ensures { λ r. ⌜ r ≡ not (self .worse) ⌝ }
+    {
+        !self.worse
+    }
+
+    // Whether the other, which is older, is over the quote: the quote is worse in some column and better in none.
+    pub fn under_older(self) -> bool
+        ensures { λ r. ⌜ r ≡ self .worse && not (self .better) ⌝ }
+    {
+        self.worse & !self.better
+    }
 }
 
 // The mask of a column whose direction bit is the lowest of bits: of two values with the mask's bits turned, the lower is the better.

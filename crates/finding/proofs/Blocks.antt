@@ -16,7 +16,7 @@ use Rattle.lists.proofs.Runs.{run-snoc, filter-from, none-any}
 use Rattle.dominance.specs.declared.Comparison.{Comparison}
 use Rattle.dominance.specs.Dominance.{someBetter}
 use Rattle.dominance.specs.Compared.{compared}
-use Rattle.dominance.proofs.Comparing.{dominates-by, dominated-by, compared-take}
+use Rattle.dominance.proofs.Comparing.{no-worse-by, dominated-by, compared-take}
 use Rattle.finding.specs.Found.{live, liveIn, Rows, rowAt, over, under, crosses, dullIn, retires, retired, Scan}
 
 -- ---- live rows counted
@@ -70,7 +70,7 @@ module _ (s : Rows) where
       let worse = someBetter (s .d) (s .directions) (rowAt s i) (s .quote) in
       let b : better ≡ true = and-left better worse e in
       let w : worse ≡ true = and-right better worse e in
-      (rw (dominates-by, b, w), rw (dominated-by, b, w))
+      (rw (no-worse-by, w), rw (dominated-by, b, w))
 
   pub dull-apart : (a k : ℕ) → dullIn s a k ≡ true → (q : ℕ) → a ≤ q → q < a + k → (over s q ≡ false) × (under s q ≡ false)
   unfolding dullIn

@@ -15,7 +15,7 @@ use borrow.Author.Tests.{eqb-true}
 use Rattle.lists.proofs.Booleans.{clash, refute}
 use Rattle.dominance.specs.declared.Comparison.{Comparison}
 use Rattle.dominance.specs.Compared.{compared}
-use Rattle.dominance.proofs.Comparing.{dominates-by, dominated-by, compared-take}
+use Rattle.dominance.proofs.Comparing.{no-worse-by, dominated-by, compared-take}
 use Rattle.finding.specs.Found.{live, Rows, rowAt, over, under, crosses, dullIn, retires, retired, Fits, Scan, Outcome, through, stopped, Room}
 use Rattle.finding.specs.declared.Found.{Found}
 
@@ -35,9 +35,9 @@ module _ (s : Rows) where
   retired-cons i b h = let e : b - i ≡ suc (b - suc i) = omega arith in rw e
 
   -- what the comparison of the quote with a row says
-  pub over-by : (i : ℕ) (c : Comparison) → c ≡ compared (s .d) (s .directions) (s .quote) (drop (i * s .d) (s .columns)) → over s i ≡ c .better && not (c .worse)
+  pub over-by : (i : ℕ) (c : Comparison) → c ≡ compared (s .d) (s .directions) (s .quote) (drop (i * s .d) (s .columns)) → over s i ≡ not (c .worse)
   unfolding over rowAt
-  over-by i c e = rw (dominates-by, compared-take, ← e)
+  over-by i c e = rw (no-worse-by, compared-take, ← e)
 
   pub under-by : (i : ℕ) (c : Comparison) → c ≡ compared (s .d) (s .directions) (s .quote) (drop (i * s .d) (s .columns)) → under s i ≡ c .worse && not (c .better)
   unfolding under rowAt
@@ -76,15 +76,14 @@ module _ (s : Rows) where
           rw (drop-set-lt at places (at - 1) i (omega arith), v .listed) (sym (rw (retired-cons i b h, l, f)))
 
       -- it is over the quote, or the rows are gone through down to it
-      pub compared-row : (f : Found) → f .at ≡ cond (c .better && not (c .worse)) (at - 1) at → f .last ≡ cond (c .worse && not (c .better)) (i + 1) 0
+      pub compared-row : (f : Found) → f .at ≡ cond (not (c .worse)) (at - 1) at → f .last ≡ cond (c .worse && not (c .better)) (i + 1) 0
           → Outcome s i b rest (set places (at - 1) i) f
       compared-row f a k = go (c .better) (c .worse) refl refl
         where
           go : (x y : Bool) → c .better ≡ x → c .worse ≡ y → Outcome s i b rest (set places (at - 1) i) f
-          go true true p q = through (k ∙ rw (p, q)) (record { listed = rw (a, p, q) (listed-more false (over-by i c e ∙ rw (p, q))); none = none-more (λ _. under-by i c e ∙ rw (p, q)) })
-          go true false p q = through (k ∙ rw (p, q)) (record { listed = rw (a, p, q) (listed-more true (over-by i c e ∙ rw (p, q))); none = none-more (λ _. under-by i c e ∙ rw (p, q)) })
-          go false false p q = through (k ∙ rw (p, q)) (record { listed = rw (a, p) (listed-more false (over-by i c e ∙ rw p)); none = none-more (λ _. under-by i c e ∙ rw q) })
+          go b false p q = through (k ∙ rw q) (record { listed = rw (a, q) (listed-more true (over-by i c e ∙ rw q)); none = none-more (λ _. under-by i c e ∙ rw q) })
+          go true true p q = through (k ∙ rw (p, q)) (record { listed = rw (a, q) (listed-more false (over-by i c e ∙ rw q)); none = none-more (λ _. under-by i c e ∙ rw (p, q)) })
           go false true p q =
               let n = r .least in
-              stopped i (k ∙ rw (p, q, add-one)) (omega arith) h l (under-by i c e ∙ rw (p, q)) (rw (a, p) n)
-              (record { listed = rw (a, p) (drop-set-lt at places (at - 1) i (omega arith) ∙ v .listed); none = v .none })
+              stopped i (k ∙ rw (p, q, add-one)) (omega arith) h l (under-by i c e ∙ rw (p, q)) (rw (a, q) n)
+              (record { listed = rw (a, q) (drop-set-lt at places (at - 1) i (omega arith) ∙ v .listed); none = v .none })

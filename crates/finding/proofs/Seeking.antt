@@ -17,7 +17,7 @@ use Rattle.lists.proofs.Filters.{filter-append}
 use Rattle.lists.proofs.Runs.{Last, last-spec, last-none, last-at, run-append, filter-from}
 use Rattle.dominance.specs.declared.Comparison.{Comparison}
 use Rattle.dominance.specs.Compared.{compared}
-use Rattle.dominance.proofs.Comparing.{dominates-by, dominated-by}
+use Rattle.dominance.proofs.Comparing.{no-worse-by, dominated-by}
 use Rattle.finding.specs.Found.{live, Rows, rowAt, over, under, retires, retired, youngest, dullIn, Scan, Outcome, through, stopped, Room, Finds}
 use Rattle.finding.specs.declared.Found.{Found}
 use Rattle.finding.proofs.Scanning.{over-by, under-by, retired-cons}
@@ -31,12 +31,11 @@ module _ (s : Rows) where
   -- of two quotes at most one is over the other
   asym : (i : ℕ) → under s i ≡ true → over s i ≡ false
   unfolding over under
-  asym i t = let c : Comparison = compared (s .d) (s .directions) (s .quote) (rowAt s i) in rw dominates-by (go (c .better) (c .worse) (sym (dominated-by (s .d) (s .directions) (s .quote) (rowAt s i)) ∙ t))
+  asym i t = let c : Comparison = compared (s .d) (s .directions) (s .quote) (rowAt s i) in rw no-worse-by (go (c .better) (c .worse) (sym (dominated-by (s .d) (s .directions) (s .quote) (rowAt s i)) ∙ t))
     where
-      go : (b w : Bool) → w && not b ≡ true → b && not w ≡ false
-      go true true e = refl
-      go true false e = sym e
-      go false w e = refl
+      go : (b w : Bool) → w && not b ≡ true → not w ≡ false
+      go b true e = refl
+      go b false e = sym e
 
   -- ---- the youngest row over the quote
 

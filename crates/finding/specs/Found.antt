@@ -6,7 +6,7 @@ use mathlib.Core.List.{List, _++_}
 use lib.Dec.{eqb}
 use lib.ListN.{length, getD, take, drop}
 use Rattle.lists.specs.Lists.{filter, any, lastOr, run}
-use Rattle.dominance.specs.Dominance.{dominates, someBetter}
+use Rattle.dominance.specs.Dominance.{noWorse, dominates, someBetter}
 use Rattle.finding.specs.declared.Found.{Found}
 
 -- the row at place i is live: its upper end is 0
@@ -33,11 +33,11 @@ module _ (s : Rows) where
   unfoldable pub rowAt : ℕ → List ℕ
   rowAt i = take (s .d) (drop (i * s .d) (s .columns))
 
-  -- the quote is over the row at place i
+  -- the quote is over the row at place i, which is older: it is no worse in every column
   unfoldable pub over : ℕ → Bool
-  over i = dominates (s .d) (s .directions) (s .quote) (rowAt i)
+  over i = noWorse (s .d) (s .directions) (s .quote) (rowAt i)
 
-  -- the row at place i is over the quote
+  -- the row at place i is over the quote, which is younger: it dominates it
   unfoldable pub under : ℕ → Bool
   under i = dominates (s .d) (s .directions) (rowAt i) (s .quote)
 

@@ -185,10 +185,10 @@ fn step(
         return Found { at, last: 0 };
     }
     let c = compare(directions, d, quote, columns, place * d);
-    let next = push(places, at, place, c.better & !c.worse);
+    let next = push(places, at, place, c.over_older());
     Found {
         at: next,
-        last: chosen(c.worse & !c.better, place + 1, 0),
+        last: chosen(c.under_older(), place + 1, 0),
     }
 }
 
@@ -332,7 +332,7 @@ fn seek(
     while from < i {
         i -= 1;
         let c = compare(directions, d, quote, columns, i * d);
-        if c.worse & !c.better {
+        if c.under_older() {
             return i + 1;
         }
     }

@@ -7,13 +7,14 @@ use mathlib.Core.Bool.{true, false}
 use mathlib.Core.List.{List}
 use lib.ListN.{length, length-map}
 use Rattle.lists.specs.Lists.{any}
+use Rattle.dominance.specs.Renewal.{quoteAt}
 use Rattle.skyline.specs.Skyline.{windowStart}
 use Rattle.head.specs.declared.Head.{Head}
 use Rattle.head.specs.Replies.{yes}
 use Rattle.head.specs.Heads.{settingsHold, lastPosition}
 use Rattle.head.proofs.Settings.{settings-within}
 use Rattle.model.specs.Rows.{Row, Tables, rowsIn, filled}
-use Rattle.model.specs.Reference.{Reference, quoteAt, newest, headOf, rowOf, rowsOf}
+use Rattle.model.specs.Reference.{Reference, newest, headOf, rowOf, rowsOf}
 use Rattle.model.specs.Book.{bookRows}
 use Rattle.model.specs.Audit.{Small, wrongEnd, auditFinding, Tape}
 use Rattle.model.proofs.Tables.{rows-filled}

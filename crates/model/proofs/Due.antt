@@ -10,6 +10,7 @@ use borrow.Author.Tests.{ltb-true, ne-eqb}
 use Rattle.lists.specs.Lists.{filter, insert, without}
 use Rattle.lists.proofs.Booleans.{clash, and-left, and-right}
 use Rattle.lists.proofs.Members.{of-filter, of-map}
+use Rattle.dominance.proofs.Renewal.{renewed-irreflexive}
 use Rattle.skyline.specs.Skyline.{windowStart}
 use Rattle.skyline.specs.Past.{lowerEnd}
 use Rattle.skyline.proofs.Ends.{lower-cong}
@@ -21,7 +22,7 @@ use Rattle.model.specs.Reference.{Reference, newest, over, pastOf, paire
 use Rattle.model.specs.Calls.{Call, Open, Quote, Look, Watch, End, Past, Pair, Unpair, Due, Preview, Outputs, Lending, Lent, Seen, Expected, lengthsOf, expectedStep, bookStep, runs, worldFirst, expectedFirst, expectedAtEnd, referenceAtEnd}
 use Rattle.model.specs.Audit.{plays}
 use Rattle.model.specs.Claims.{isQuote, isOpening, acceptedIn, stretch, IsDue, dueAfter}
-use Rattle.model.proofs.Quotes.{at-irreflexive, over-within}
+use Rattle.model.proofs.Quotes.{over-within}
 use Rattle.model.proofs.Sound.{row-held}
 use Rattle.model.proofs.Simulation.{Bounded, bounded, watched-pair}
 use Rattle.model.proofs.Replay.{replay, replay-ends}
@@ -92,7 +93,7 @@ module _ (s : Reference) (p : ℕ) where
       let same = lower-cong (over (withQuotes s more)) (over s) S M
       (λ q r u v i j. over-within (s .dimensions) (s .directions) (s .quotes) more q r (omega arith) v (omega arith) j) p (d .low) (d .high) in
       rw (length-append, e)
-      (Joining.due-joins (over (withQuotes s more)) (at-irreflexive (s .dimensions) (s .directions) (s .quotes ++ more)) S M (s .n1) (s .n2) p
+      (Joining.due-joins (over (withQuotes s more)) (renewed-irreflexive (s .dimensions) (s .directions) (s .quotes ++ more)) S M (s .n1) (s .n2) p
       (omega arith) (w .order) (d .some) (d .younger) (rw same (d .free)))
 
   -- and not while fewer are in

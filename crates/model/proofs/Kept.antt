@@ -13,6 +13,7 @@ use Rattle.lists.specs.Lists.{filter, between}
 use Rattle.lists.proofs.Filters.{filter-map, map-map, map-id}
 use Rattle.lists.proofs.Members.{into-filter, of-filter}
 use Rattle.lists.proofs.Runs.{into-run, of-run}
+use Rattle.dominance.proofs.Renewal.{renewed-irreflexive}
 use Rattle.skyline.specs.Skyline.{windowStart}
 use Rattle.skyline.specs.Past.{upperEnd}
 use Rattle.skyline.proofs.Free.{of-skyline}
@@ -21,7 +22,7 @@ use Rattle.skyline.proofs.Past.{live-iff-listed, retired-never-listed, held-lis
 use Rattle.model.specs.Rows.{Row, isLive, liveRows}
 use Rattle.model.specs.Reference.{Reference, newest, over, skylineOf, pastOf, rowOf, rowsOf, withQuotes}
 use Rattle.model.specs.Calls.{Lending, Lent, Expected, World, expectedStep, runs, expectedFirst, worldAtEnd, referenceAtEnd, positionsIn, livePositionsIn}
-use Rattle.model.proofs.Quotes.{at-irreflexive, over-within}
+use Rattle.model.proofs.Quotes.{over-within}
 use Rattle.model.proofs.Sound.{positions-are}
 use Rattle.model.proofs.Simulation.{Simulation, simulation-rows}
 use Rattle.model.proofs.Replay.{replay-ends}
@@ -36,7 +37,7 @@ module _ (s : Reference) where
   S = windowStart (newest s) (s .capacity)
 
   abbrev irr : (p : ℕ) → over s p p ≡ false
-  irr = at-irreflexive (s .dimensions) (s .directions) (s .quotes)
+  irr = renewed-irreflexive (s .dimensions) (s .directions) (s .quotes)
 
   -- they are the positions of the window without an upper end
   live-are : live ≡ filter (λ p. eqb (upperEnd (over s) (newest s) p) 0) (between S (newest s))

@@ -13,36 +13,37 @@ use Rattle.lists.specs.Lists.{filter, lastOr, run, between}
 use Rattle.lists.proofs.Filters.{filter-map, map-append, map-map, map-id}
 use Rattle.lists.proofs.Members.{map-same-mem}
 use Rattle.lists.proofs.Runs.{between-snoc, filter-same, filter-all, filter-from, of-run}
-use Rattle.dominance.specs.Dominance.{dominates}
-use Rattle.dominance.proofs.Laws.{dominates-irreflexive, dominates-transitive}
+use Rattle.dominance.specs.Renewal.{quoteAt, renewed}
+use Rattle.dominance.proofs.Renewal.{renewed-later, renewed-earlier, renewed-irreflexive}
 use Rattle.skyline.specs.Skyline.{windowStart}
 use Rattle.skyline.specs.Past.{lowerEnd, upperEnd}
 use Rattle.skyline.proofs.Ends.{upper-new, lower-new, lower-step, upper-step, lower-cong, upper-cong}
 use Rattle.skyline.proofs.Past.{past-covered, past-of-one}
 use Rattle.head.specs.Heads.{lastPosition, afterQuote}
 use Rattle.model.specs.Rows.{Row, liveRows, expiring, renamed, listed, overOlder, overYounger, retiredBy, rowAfter, lowerEndAmong, rowsAfter}
-use Rattle.model.specs.Reference.{Reference, quoteAt, dominatesAt, newest, over, skylineOf, pastOf, rowOf, rowsOf, headOf, withQuote}
+use Rattle.model.specs.Reference.{Reference, newest, over, skylineOf, pastOf, rowOf, rowsOf, headOf, withQuote}
 
-module _ (d directions : ℕ) (quotes : List (List ℕ)) where
-  -- dominance on positions is irreflexive
-  pub at-irreflexive : (p : ℕ) → dominatesAt d directions quotes p p ≡ false
-  unfolding dominatesAt
-  at-irreflexive p = dominates-irreflexive d directions (quoteAt quotes p)
+-- a row of an older position, with the columns of the quote there, and the quote at a younger position p
+module _ (d directions : ℕ) (quotes : List (List ℕ)) (p : ℕ) (r : Row) (h : r .position < p) (e : quoteAt quotes (r .position) ≡ r .columns) where
+  -- the younger position is over the older one exactly if its quote is over the row
+  pub younger-over : renewed d directions quotes p (r .position) ≡ overOlder d directions (quoteAt quotes p) r
+  unfolding overOlder
+  younger-over = renewed-later d directions quotes p (r .position) h ∙ rw e
 
-  -- dominance on positions is transitive
-  pub at-transitive : (p q r : ℕ) → dominatesAt d directions quotes p q ≡ true → dominatesAt d directions quotes q r ≡ true → dominatesAt d directions quotes p r ≡ true
-  unfolding dominatesAt
-  at-transitive p q r = dominates-transitive d directions (quoteAt quotes p) (quoteAt quotes q) (quoteAt quotes r)
+  -- the older position is over the younger one exactly if the row is over its quote
+  pub older-over : renewed d directions quotes (r .position) p ≡ overYounger d directions r (quoteAt quotes p)
+  unfolding overYounger
+  older-over = renewed-earlier d directions quotes (r .position) p (omega arith) ∙ rw e
 
 -- quotes that come later leave a position's quote as it is
 pub quote-within : (quotes more : List (List ℕ)) (p : ℕ) → 1 ≤ p → p ≤ length quotes → quoteAt (quotes ++ more) p ≡ quoteAt quotes p
 unfolding quoteAt
 quote-within quotes more p h k = List·getD-append quotes more [] (p - 1) (omega arith)
 
--- and they leave dominance between positions that were there
+-- and they leave what is over what between positions that were there
 pub over-within : (d directions : ℕ) (quotes more : List (List ℕ)) (p q : ℕ) → 1 ≤ p → p ≤ length quotes → 1 ≤ q → q ≤ length quotes
-    → dominatesAt d directions (quotes ++ more) p q ≡ dominatesAt d directions quotes p q
-unfolding dominatesAt
+    → renewed d directions (quotes ++ more) p q ≡ renewed d directions quotes p q
+unfolding renewed
 over-within d directions quotes more p q a b u v = rw (quote-within quotes more p a b, quote-within quotes more q u v)
 
 -- for 1 ≤ n1 ≤ n2 ≤ N the list by the rows' ends is the past list of n1 and n2
@@ -50,7 +51,7 @@ pub past-listed : (s : Reference) (n1 n2 : ℕ) → 1 ≤ n1 → n1 ≤ n2 → n
     → listed (windowStart (newest s) n2) (newest s + 1 - n1) (rowsOf s) ≡ pastOf s n1 n2
 unfolding listed rowsOf rowOf pastOf
 past-listed s n1 n2 h k l =
-    rw (filter-map, map-map, map-id) (sym (past-covered (over s) (at-irreflexive (s .dimensions) (s .directions) (s .quotes)) (s .capacity) (newest s) n1 n2 h k l))
+    rw (filter-map, map-map, map-id) (sym (past-covered (over s) (renewed-irreflexive (s .dimensions) (s .directions) (s .quotes)) (s .capacity) (newest s) n1 n2 h k l))
 
 -- with n1 = 1 it is the list of n
 pub past-is-skyline : (s : Reference) (n : ℕ) → pastOf s 1 n ≡ skylineOf s n
@@ -116,9 +117,9 @@ module _ (s : Reference) (x : List ℕ) (some : 1 ≤ s .capacity) where
   abbrev more : List (List ℕ)
   more = s .quotes ++ (x ∷ [])
 
-  -- dominance with x behind
+  -- which position is over which, with x behind
   abbrev D : ℕ → ℕ → Bool
-  D = dominatesAt (s .dimensions) (s .directions) more
+  D = renewed (s .dimensions) (s .directions) more
 
   moves : windowStart (suc M) (s .capacity) ≡ suc g
   moves = window-moves M (s .capacity) some
@@ -133,18 +134,18 @@ module _ (s : Reference) (x : List ℕ) (some : 1 ≤ s .capacity) where
   unfolding quoteAt
   quote-new = let e : suc M - 1 ≡ M = omega arith in rw e (getD-append-seam (s .quotes) x [] [])
 
-  -- the quote changes no dominance in the window before it
+  -- the quote changes nothing of that in the window before it
   pub unchanged : (p q : ℕ) → S ≤ p → p ≤ M → S ≤ q → q ≤ M → D p q ≡ over s p q
   unchanged p q a b u v = over-within (s .dimensions) (s .directions) (s .quotes) (x ∷ []) p q (omega (arith, onward)) b (omega (arith, onward)) v
 
   -- the new quote over an older one, and the other way round
-  pub new-over : (p : ℕ) → 1 ≤ p → p ≤ M → D (suc M) p ≡ dominates (s .dimensions) (s .directions) x (quoteAt (s .quotes) p)
-  unfolding dominatesAt
-  new-over p u v = rw (quote-new, quote-within (s .quotes) (x ∷ []) p u v)
+  pub new-over : (p : ℕ) → 1 ≤ p → p ≤ M → D (suc M) p ≡ overOlder (s .dimensions) (s .directions) x (rowOf s p)
+  unfolding rowOf
+  new-over p u v = younger-over (s .dimensions) (s .directions) more (suc M) (rowOf s p) (omega arith) (quote-within (s .quotes) (x ∷ []) p u v) ∙ rw quote-new
 
-  pub over-old : (q : ℕ) → 1 ≤ q → q ≤ M → D q (suc M) ≡ dominates (s .dimensions) (s .directions) (quoteAt (s .quotes) q) x
-  unfolding dominatesAt
-  over-old q u v = rw (quote-new, quote-within (s .quotes) (x ∷ []) q u v)
+  pub over-old : (q : ℕ) → 1 ≤ q → q ≤ M → D q (suc M) ≡ overYounger (s .dimensions) (s .directions) (rowOf s q) x
+  unfolding rowOf
+  over-old q u v = older-over (s .dimensions) (s .directions) more (suc M) (rowOf s q) (omega arith) (quote-within (s .quotes) (x ∷ []) q u v) ∙ rw quote-new
 
   -- the rows that stay, by the book model's rule
   abbrev left : List Row
@@ -165,23 +166,23 @@ module _ (s : Reference) (x : List ℕ) (some : 1 ≤ s .capacity) where
 
   -- its upper end
   old-upper : (p : ℕ) → suc g ≤ p → p ≤ M
-      → upperEnd D (suc M) p ≡ cond (eqb (upperEnd (over s) M p) 0 && dominates (s .dimensions) (s .directions) x (quoteAt (s .quotes) p)) (suc M) (upperEnd (over s) M p)
+      → upperEnd D (suc M) p ≡ cond (eqb (upperEnd (over s) M p) 0 && overOlder (s .dimensions) (s .directions) x (rowOf s p)) (suc M) (upperEnd (over s) M p)
   old-upper p u v = rw (← (upper-cong D (over s) S M unchanged p (within p u .0) v), ← over-new) (upper-step D M p v)
     where
-      over-new : D (suc M) p ≡ dominates (s .dimensions) (s .directions) x (quoteAt (s .quotes) p)
+      over-new : D (suc M) p ≡ overOlder (s .dimensions) (s .directions) x (rowOf s p)
       over-new = new-over p (within p u .1) v
 
   -- a row that stays
   old-row : (p : ℕ) → suc g ≤ p → p ≤ M → rowOf (withQuote s x) p ≡ rowAfter (s .dimensions) (s .directions) x (M + 1) g (rowOf s p)
-  unfolding rowOf withQuote rowAfter retiredBy overOlder renamed
+  unfolding rowOf withQuote rowAfter retiredBy renamed
   old-row p u v = rw (newest-after, add-one, moves, old-lower p u v, old-upper p u v, quote-within (s .quotes) (x ∷ []) p (within p u .1) v)
 
   -- the lower end of the new row is sought among all rows that stay
   pub new-lower : lowerEnd D (suc g) (suc M) ≡ lowerEndAmong (s .dimensions) (s .directions) x left
-  unfolding lowerEndAmong overYounger rowOf between
+  unfolding lowerEndAmong rowOf between
   new-lower =
       lower-new D (suc g) M
-      ∙ ap (lastOr 0) (filter-same (λ q. D q (suc M)) (λ q. dominates (s .dimensions) (s .directions) (quoteAt (s .quotes) q) x) (suc g) (suc M - suc g) (λ q u v. over-old q (omega arith) (omega (arith, onward))))
+      ∙ ap (lastOr 0) (filter-same (λ q. D q (suc M)) (λ q. overYounger (s .dimensions) (s .directions) (rowOf s q) x) (suc g) (suc M - suc g) (λ q u v. over-old q (omega arith) (omega (arith, onward))))
       ∙ sym (ap (lowerEndAmong (s .dimensions) (s .directions) x) left-is ∙ rw (filter-map, map-map, map-id))
 
   -- the new row

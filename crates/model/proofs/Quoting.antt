@@ -10,12 +10,13 @@ use lib.Dec.{ltb, leb, eqb}
 use lib.ListN.{length}
 use borrow.Author.Tests.{leb-false, eqb-true, not-false}
 use Rattle.lists.specs.Lists.{laid}
+use Rattle.dominance.specs.Renewal.{quoteAt}
 use Rattle.head.specs.declared.Refusal.the-variants.{Settings, ColumnCount, TapeFull, ShortOutput}
 use Rattle.head.specs.Refusals.{number, firstOf, granted}
 use Rattle.head.specs.Heads.{lastPosition}
 use Rattle.head.proofs.Numbers.{zero-passed, firstOf-alike}
 use Rattle.model.specs.Rows.{filled}
-use Rattle.model.specs.Reference.{Reference, quoteAt, newest, rowsOf, headOf, opened, withQuote, tells, foretells, referenceStep}
+use Rattle.model.specs.Reference.{Reference, newest, rowsOf, headOf, opened, withQuote, tells, foretells, referenceStep}
 use Rattle.model.specs.Book.{shortLoan, replyOf, quoteRows, quoteHead, quoteBytes, quoteAnswer, quoteReply, quoteTables, quoteOut, previewReply, previewCounts, previewOut}
 use Rattle.model.specs.Calls.{Quote, Preview, Outputs, Lent, bookSeen, headAfter, worldAfter, bookStep, lengthsOf, shown, expectedStep}
 use Rattle.model.proofs.Quotes.{newest-after, quote-within, quote-new, rows-after-quote, head-after-quote}

@@ -14,9 +14,10 @@ use Rattle.lists.proofs.Filters.{map-map, map-id}
 use Rattle.lists.proofs.Members.{into-map, map-same-mem}
 use Rattle.lists.proofs.Runs.{length-run, getD-run}
 use Rattle.lists.proofs.Rising.{rising-cons, rising-between, rising-bounds}
+use Rattle.dominance.specs.Renewal.{quoteAt}
 use Rattle.skyline.specs.Skyline.{windowStart}
 use Rattle.model.specs.Rows.{Row}
-use Rattle.model.specs.Reference.{quoteAt, rowOf, rowsOf}
+use Rattle.model.specs.Reference.{rowOf, rowsOf}
 use Rattle.model.specs.Audit.{Small, wrongEnd}
 use Rattle.model.proofs.Tables.{Fit}
 use Rattle.model.proofs.Plays.{holding, WideAll}

@@ -11,14 +11,15 @@ use Rattle.lists.specs.Lists.{filter, lastOr, between}
 use Rattle.lists.proofs.Filters.{filter-map, filter-filter, map-map, map-id}
 use Rattle.lists.proofs.Members.{of-map}
 use Rattle.lists.proofs.Runs.{filter-same, of-run}
-use Rattle.dominance.specs.Dominance.{dominates}
+use Rattle.dominance.specs.Renewal.{renewed}
+use Rattle.dominance.proofs.Renewal.{renewed-irreflexive, renewed-transitive}
 use Rattle.skyline.specs.Skyline.{windowStart}
 use Rattle.skyline.specs.Past.{lowerEnd, upperEnd}
 use Rattle.skyline.proofs.Ends.{upper-cong}
 use Rattle.skyline.proofs.Sought.{lower-among-live, retired-behind-lower, lower-before-upper, gained-from-live, upper-behind-lower}
 use Rattle.model.specs.Rows.{Row, isLive, liveRows, expiring, overOlder, overYounger, lowerEndAmong}
-use Rattle.model.specs.Reference.{Reference, quoteAt, dominatesAt, newest, over, rowOf, rowsOf}
-use Rattle.model.proofs.Quotes.{at-irreflexive, at-transitive, unchanged, onward, new-over, over-old, left-is, new-lower}
+use Rattle.model.specs.Reference.{Reference, newest, over, rowOf, rowsOf}
+use Rattle.model.proofs.Quotes.{unchanged, onward, new-over, over-old, left-is, new-lower}
 
 module _ (s : Reference) (x : List ℕ) (some : 1 ≤ s .capacity) where
   abbrev M : ℕ
@@ -31,15 +32,15 @@ module _ (s : Reference) (x : List ℕ) (some : 1 ≤ s .capacity) where
   abbrev g : ℕ
   g = expiring M (s .capacity)
 
-  -- dominance with x behind
+  -- which position is over which, with x behind
   abbrev D : ℕ → ℕ → Bool
-  D = dominatesAt (s .dimensions) (s .directions) (s .quotes ++ (x ∷ []))
+  D = renewed (s .dimensions) (s .directions) (s .quotes ++ (x ∷ []))
 
   abbrev irr : (p : ℕ) → D p p ≡ false
-  irr = at-irreflexive (s .dimensions) (s .directions) (s .quotes ++ (x ∷ []))
+  irr = renewed-irreflexive (s .dimensions) (s .directions) (s .quotes ++ (x ∷ []))
 
   abbrev tra : (p q r : ℕ) → D p q ≡ true → D q r ≡ true → D p r ≡ true
-  tra = at-transitive (s .dimensions) (s .directions) (s .quotes ++ (x ∷ []))
+  tra = renewed-transitive (s .dimensions) (s .directions) (s .quotes ++ (x ∷ []))
 
   -- the rows that stay
   abbrev left : List Row
@@ -51,7 +52,7 @@ module _ (s : Reference) (x : List ℕ) (some : 1 ≤ s .capacity) where
 
   -- the lower end of the new row is found among the live rows that stay
   pub lower-among-live-rows : lowerEndAmong (s .dimensions) (s .directions) x left ≡ lowerEndAmong (s .dimensions) (s .directions) x (liveRows left)
-  unfolding lowerEndAmong liveRows isLive overYounger rowOf between
+  unfolding lowerEndAmong liveRows isLive rowOf between
   lower-among-live-rows =
       sym (new-lower s x some)
       ∙ lower-among-live D tra (suc g) M (omega arith)
@@ -63,12 +64,12 @@ module _ (s : Reference) (x : List ℕ) (some : 1 ≤ s .capacity) where
       ∙ sym (ap (λ (l : List Row). lowerEndAmong (s .dimensions) (s .directions) x (liveRows l)) (left-is s x some) ∙ rw (filter-map, filter-map, map-map, map-id))
     where
       beats : ℕ → Bool
-      beats q = dominates (s .dimensions) (s .directions) (quoteAt (s .quotes) q) x
+      beats q = overYounger (s .dimensions) (s .directions) (rowOf s q) x
 
-  -- a live row that the quote dominates is younger than the quote's lower end
+  -- a live row that the quote is over is younger than the quote's lower end
   pub retired-behind : (r : Row) → List·Memᴰ r left → isLive r ≡ true → overOlder (s .dimensions) (s .directions) x r ≡ true
       → lowerEndAmong (s .dimensions) (s .directions) x left < r .position
-  unfolding isLive overOlder rowOf between
+  unfolding isLive rowOf between
   retired-behind r m live beaten =
       let t = of-map (rowOf s) r (between (suc g) M) (rw (left-is s x some) at m) in
       let b = of-run (suc g) (suc M - suc g) (t .0) (t .1) in
@@ -79,10 +80,10 @@ module _ (s : Reference) (x : List ℕ) (some : 1 ≤ s .capacity) where
 
 module _ (s : Reference) where
   abbrev own-irr : (p : ℕ) → over s p p ≡ false
-  own-irr = at-irreflexive (s .dimensions) (s .directions) (s .quotes)
+  own-irr = renewed-irreflexive (s .dimensions) (s .directions) (s .quotes)
 
   abbrev own-tra : (p q r : ℕ) → over s p q ≡ true → over s q r ≡ true → over s p r ≡ true
-  own-tra = at-transitive (s .dimensions) (s .directions) (s .quotes)
+  own-tra = renewed-transitive (s .dimensions) (s .directions) (s .quotes)
 
   -- a row whose lower end is p lies before p's upper end, if p has one
   pub named-before-upper : (p q : ℕ) → 0 < p → rowOf s q .lowerEnd ≡ p → 0 < rowOf s p .upperEnd → q < rowOf s p .upperEnd

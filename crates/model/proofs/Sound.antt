@@ -16,12 +16,13 @@ use Rattle.lists.proofs.Members.{of-map, none-mem}
 use Rattle.lists.proofs.Runs.{of-run}
 use Rattle.lists.proofs.Rising.{rising-cons}
 use Rattle.lists.proofs.Writing.{take-padded}
+use Rattle.dominance.specs.Renewal.{quoteAt}
 use Rattle.skyline.specs.Skyline.{windowStart}
 use Rattle.skyline.specs.Past.{lowerEnd, upperEnd}
 use Rattle.skyline.proofs.Ends.{lower-below, upper-within}
 use Rattle.head.specs.Heads.{lastPosition}
 use Rattle.model.specs.Rows.{Row}
-use Rattle.model.specs.Reference.{Reference, quoteAt, newest, over, rowOf, rowsOf, headOf}
+use Rattle.model.specs.Reference.{Reference, newest, over, rowOf, rowsOf, headOf}
 use Rattle.model.specs.Book.{tornRows, ordered, tornWatches, standing}
 use Rattle.model.proofs.Tables.{Fit}
 use Rattle.model.proofs.Torn.{Whole, lowerAstray, upperAstray, window-few, whole-untorn}

@@ -29,11 +29,11 @@ unfoldable pub zeroFrom : ℕ → ℕ → List ℕ → Bool
 zeroFrom a b cells = not (any (ltb 0) (take (b - a) (drop a cells)))
 
 module _ (d directions : ℕ) (rs : List Row) where
-  -- the lower end that this row is to have: the youngest older row that dominates it, or 0
+  -- the lower end that this row is to have: the youngest older row that is over it, or 0
   unfoldable pub rightLower : Row → ℕ
   rightLower r = lastOr 0 (map Row.position (filter (λ q. ltb (q .position) (r .position) && overYounger d directions q (r .columns)) rs))
 
-  -- the upper end that this row is to have: the oldest younger row that dominates it, or 0
+  -- the upper end that this row is to have: the oldest younger row that is over it, or 0
   unfoldable pub rightUpper : Row → ℕ
   rightUpper r = headOr 0 (map Row.position (filter (λ q. ltb (r .position) (q .position) && overOlder d directions (q .columns) r) rs))
 

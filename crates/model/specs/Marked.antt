@@ -1,5 +1,5 @@
--- 01's marked cases M1 to M10 and its worked tape, a tape with past lists and two with a watched pair: one table of questions with their
--- answers, and the answers that the definitions give.
+-- 01's marked cases M1 to M10 and its worked tape as 02 has them, books with equal rows, a tape with past lists and two with a watched
+-- pair: one table of questions with their answers, and the answers that the definitions give.
 use Prim.Native.Nat.{ℕ, _+_}
 use mathlib.Core.Bool.{Bool, true, false, _&&_}
 use mathlib.Core.List.{List, [], _∷_, _++_, map}
@@ -91,7 +91,7 @@ leave n p = 32 ∷ n ∷ 0 ∷ p ∷ 0 ∷ 0 ∷ 0 ∷ []
 abbrev join : ℕ → ℕ → List ℕ
 join n p = 33 ∷ n ∷ 0 ∷ p ∷ 0 ∷ 0 ∷ 0 ∷ []
 
--- 01's print of the tape: no refusal, newest position, rows, and what is written
+-- the print of the tape (02, 5/13): no refusal, newest position, rows, and what is written
 abbrev print : List (List ℕ)
 print =
     (0 ∷ 0 ∷ 0 ∷ [])
@@ -99,11 +99,11 @@ print =
     ∷ (0 ∷ 2 ∷ 2 ∷ [])
     ∷ (0 ∷ 3 ∷ 2 ∷ [])
     ∷ (0 ∷ 4 ∷ 3 ∷ [])
-    ∷ (0 ∷ 5 ∷ 4 ∷ [])
-    ∷ (0 ∷ 5 ∷ 4 ∷ join 2 4 ++ join 2 5)
-    ∷ (0 ∷ 6 ∷ 5 ∷ leave 2 4)
-    ∷ (0 ∷ 6 ∷ 5 ∷ 2 ∷ 3 ∷ 4 ∷ 5 ∷ [])
-    ∷ (0 ∷ 7 ∷ 5 ∷ leave 2 5 ++ join 2 6 ++ join 2 7)
+    ∷ (0 ∷ 5 ∷ 3 ∷ [])
+    ∷ (0 ∷ 5 ∷ 3 ∷ join 2 4 ++ join 2 5)
+    ∷ (0 ∷ 6 ∷ 4 ∷ leave 2 4)
+    ∷ (0 ∷ 6 ∷ 4 ∷ 2 ∷ 4 ∷ 5 ∷ [])
+    ∷ (0 ∷ 7 ∷ 4 ∷ leave 2 5 ++ join 2 6 ++ join 2 7)
     ∷ (0 ∷ 8 ∷ 3 ∷ leave 2 6 ++ join 2 8)
     ∷ (0 ∷ 8 ∷ 3 ∷ 7 ∷ 8 ∷ [])
     ∷ []
@@ -124,12 +124,12 @@ pastPrint =
     ∷ (0 ∷ 3 ∷ 2 ∷ 1 ∷ [])
     ∷ (0 ∷ 3 ∷ 2 ∷ 1 ∷ 2 ∷ [])
     ∷ (0 ∷ 4 ∷ 3 ∷ [])
-    ∷ (0 ∷ 5 ∷ 4 ∷ [])
-    ∷ (0 ∷ 6 ∷ 5 ∷ [])
-    ∷ (0 ∷ 6 ∷ 5 ∷ 4 ∷ 5 ∷ [])
-    ∷ (0 ∷ 6 ∷ 5 ∷ 4 ∷ 5 ∷ [])
-    ∷ (0 ∷ 6 ∷ 5 ∷ 2 ∷ 3 ∷ 4 ∷ [])
-    ∷ (0 ∷ 7 ∷ 5 ∷ [])
+    ∷ (0 ∷ 5 ∷ 3 ∷ [])
+    ∷ (0 ∷ 6 ∷ 4 ∷ [])
+    ∷ (0 ∷ 6 ∷ 4 ∷ 4 ∷ 5 ∷ [])
+    ∷ (0 ∷ 6 ∷ 4 ∷ 4 ∷ 5 ∷ [])
+    ∷ (0 ∷ 6 ∷ 4 ∷ 2 ∷ 3 ∷ 4 ∷ [])
+    ∷ (0 ∷ 7 ∷ 4 ∷ [])
     ∷ (0 ∷ 8 ∷ 3 ∷ [])
     ∷ (0 ∷ 8 ∷ 3 ∷ 4 ∷ 7 ∷ 8 ∷ [])
     ∷ (0 ∷ 8 ∷ 3 ∷ 4 ∷ 5 ∷ 7 ∷ [])
@@ -222,13 +222,21 @@ sole value = record { columns = value ∷ 0 ∷ []; positions = 2 ∷ 0 ∷ []; 
 abbrev pair : ℕ → Tables
 pair end = record { columns = 3 ∷ 5 ∷ []; positions = 1 ∷ 2 ∷ []; lowerEnds = 0 ∷ end ∷ []; upperEnds = 0 ∷ 0 ∷ [] }
 
+-- two rows, the second live
+abbrev renewedBook : Head
+renewedBook = record { dimensions = 1; capacity = 2; directions = 0; newest = 2; live = 1; held = 2; n1 = 0; n2 = 0 }
+
+-- rows of value 3 at 1 and at 2, the first with this upper end, the second with this lower end
+abbrev equals : ℕ → ℕ → Tables
+equals upper lower = record { columns = 3 ∷ 3 ∷ []; positions = 1 ∷ 2 ∷ []; lowerEnds = 0 ∷ lower ∷ []; upperEnds = upper ∷ 0 ∷ [] }
+
 -- ---- the table
 
 -- each marked case with its answer
 abbrev pub table : List Case
 table =
     -- M1
-    record { question = Lists 6 (1 ∷ 2 ∷ 3 ∷ 4 ∷ []); answer = (6 ∷ []) ∷ (5 ∷ []) ∷ (4 ∷ 5 ∷ []) ∷ (3 ∷ 4 ∷ 5 ∷ []) ∷ [] }
+    record { question = Lists 6 (1 ∷ 2 ∷ 3 ∷ 4 ∷ []); answer = (6 ∷ []) ∷ (5 ∷ []) ∷ (4 ∷ 5 ∷ []) ∷ (4 ∷ 5 ∷ []) ∷ [] }
     -- M2
     ∷ record { question = LowerEnd 6 6; answer = (5 ∷ []) ∷ [] }
     -- M3
@@ -252,6 +260,12 @@ table =
     ∷ record { question = Audit (book 2) (pair 2); answer = (0 ∷ []) ∷ [] }
     -- the audit judges no pair
     ∷ record { question = Audit pairedBook (pair 1); answer = (1 ∷ []) ∷ [] }
+    -- of two equal rows the later one is over the earlier one, and in no other way
+    ∷ record { question = Audit renewedBook (equals 2 0); answer = (1 ∷ []) ∷ [] }
+    ∷ record { question = Audit (book 2) (equals 0 0); answer = (0 ∷ []) ∷ [] }
+    ∷ record { question = Audit (book 2) (equals 0 1); answer = (0 ∷ []) ∷ [] }
+    ∷ record { question = Audit renewedBook (equals 2 1); answer = (0 ∷ []) ∷ [] }
+    ∷ record { question = Ends 7; answer = (0 ∷ 0 ∷ 0 ∷ 5 ∷ 0 ∷ []) ∷ (5 ∷ 0 ∷ 0 ∷ 0 ∷ 0 ∷ []) ∷ [] }
     -- the worked tape
     ∷ record { question = Lines ByReference tape; answer = print }
     ∷ record { question = Lines ByBook tape; answer = print }

@@ -3,9 +3,9 @@ use Prim.Native.Nat.{ℕ, _+_, _-_, _*_}
 use mathlib.Core.Bool.{Bool, _&&_, _||_, not, cond}
 use mathlib.Core.List.{List, [], _∷_, _++_, map}
 use lib.Dec.{ltb, leb, eqb}
-use lib.ListN.{length, getD}
+use lib.ListN.{length}
 use Rattle.lists.specs.Lists.{between, contains, insert, without}
-use Rattle.dominance.specs.Dominance.{dominates}
+use Rattle.dominance.specs.Renewal.{quoteAt, renewed}
 use Rattle.skyline.specs.Skyline.{windowStart, skyline}
 use Rattle.skyline.specs.Past.{lowerEnd, upperEnd}
 use Rattle.head.specs.declared.Head.{Head}
@@ -30,22 +30,14 @@ pub record Reference : Type 0 where
 abbrev pub unopened : Reference
 unopened = record { dimensions = 0; capacity = 0; directions = 0; quotes = []; watched = []; n1 = 0; n2 = 0 }
 
--- the columns of the quote at a position; the first is at 1
-unfoldable pub quoteAt : List (List ℕ) → ℕ → List ℕ
-quoteAt quotes p = getD quotes (p - 1) []
-
--- the quote at position p dominates the one at position q
-unfoldable pub dominatesAt : ℕ → ℕ → List (List ℕ) → ℕ → ℕ → Bool
-dominatesAt d directions quotes p q = dominates d directions (quoteAt quotes p) (quoteAt quotes q)
-
 module _ (s : Reference) where
   -- the newest position (01: M)
   abbrev pub newest : ℕ
   newest = length (s .quotes)
 
-  -- one position dominates another
+  -- one position is over another
   abbrev pub over : ℕ → ℕ → Bool
-  over = dominatesAt (s .dimensions) (s .directions) (s .quotes)
+  over = renewed (s .dimensions) (s .directions) (s .quotes)
 
   -- the skyline of the window of n (01: the list of n)
   unfoldable pub skylineOf : ℕ → List ℕ

@@ -5,7 +5,7 @@ use mathlib.Core.List.{List, [], _∷_, _++_, map}
 use lib.Dec.{ltb, eqb}
 use lib.ListN.{getD, take, drop}
 use Rattle.lists.specs.Lists.{filter, lastOr, flat, run, padded}
-use Rattle.dominance.specs.Dominance.{dominates}
+use Rattle.dominance.specs.Dominance.{noWorse, dominates}
 use Rattle.skyline.specs.Skyline.{windowStart}
 use Rattle.skyline.specs.Past.{covers}
 
@@ -78,15 +78,15 @@ unfoldable pub renamed : ℕ → ℕ → ℕ
 renamed g lower = cond (eqb lower g) 0 lower
 
 module _ (d directions : ℕ) where
-  -- a younger quote x dominates this row
+  -- a younger quote x is over this row: it dominates it or is equal, which is to be no worse in every column
   unfoldable pub overOlder : List ℕ → Row → Bool
-  overOlder x r = dominates d directions x (r .columns)
+  overOlder x r = noWorse d directions x (r .columns)
 
-  -- this row dominates a younger quote x
+  -- this row is over a younger quote x: it dominates it
   unfoldable pub overYounger : Row → List ℕ → Bool
   overYounger r x = dominates d directions (r .columns) x
 
-  -- a row's upper end once quote x stands at position p: p if the row was live and x dominates it
+  -- a row's upper end once quote x stands at position p: p if the row was live and x is over it
   unfoldable pub retiredBy : List ℕ → ℕ → Row → ℕ
   retiredBy x p r = cond (eqb (r .upperEnd) 0 && overOlder x r) p (r .upperEnd)
 
@@ -94,7 +94,7 @@ module _ (d directions : ℕ) where
   unfoldable pub rowAfter : List ℕ → ℕ → ℕ → Row → Row
   rowAfter x p g r = record { position = r .position; lowerEnd = renamed g (r .lowerEnd); upperEnd = retiredBy x p r; columns = r .columns }
 
-  -- the lower end of quote x among these rows, live or retired: the position of the youngest that dominates it, or 0
+  -- the lower end of quote x among these rows, live or retired: the position of the youngest that is over it, or 0
   unfoldable pub lowerEndAmong : List ℕ → List Row → ℕ
   lowerEndAmong x rs = lastOr 0 (map Row.position (filter (λ r. overYounger r x) rs))
 

@@ -13,14 +13,16 @@ use borrow.Author.Tests.{eqb-true, eqb-false, eq-eqb}
 use Rattle.lists.specs.Lists.{flat, between, padded}
 use Rattle.lists.proofs.Booleans.{either, clash, and-left, and-right}
 use Rattle.lists.proofs.Runs.{order}
-use Rattle.dominance.specs.Dominance.{dominates}
-use Rattle.dominance.proofs.Laws.{dominates-irreflexive, dominates-transitive}
+use Rattle.dominance.specs.Dominance.{noWorse, dominates}
+use Rattle.dominance.specs.Renewal.{quoteAt}
+use Rattle.dominance.proofs.Laws.{dominates-no-less, dominates-irreflexive, dominates-no-worse, no-worse-dominates}
+use Rattle.dominance.proofs.Renewal.{renewed-later}
 use Rattle.skyline.specs.Skyline.{windowStart}
 use Rattle.skyline.specs.Past.{lowerEnd, upperEnd}
 use Rattle.skyline.proofs.Ends.{NoneOrYounger, upper-spec, lower-below, upper-most}
 use Rattle.head.specs.declared.Head.{Head}
 use Rattle.model.specs.Rows.{Row, Tables, rowAt, rowsIn, filled, expiring, renamed}
-use Rattle.model.specs.Reference.{Reference, unopened, quoteAt, dominatesAt, newest, rowOf, rowsOf, headOf}
+use Rattle.model.specs.Reference.{Reference, unopened, newest, rowOf, rowsOf, headOf}
 use Rattle.model.specs.Reference as reference
 use Rattle.model.specs.Book.{bookRows}
 use Rattle.model.specs.Calls.{Lent, Reached}
@@ -114,13 +116,17 @@ module _ (s : Reference) (l : Lent) (f : Invariant s l) where
     unfolding under headOf
     under-at i k = rw (columns-at x i k)
 
-    over-at : (i : ℕ) → i < h .held → over rs i ≡ dominates (s .dimensions) (s .directions) x (quoteAt (s .quotes) (S + i))
+    over-at : (i : ℕ) → i < h .held → over rs i ≡ noWorse (s .dimensions) (s .directions) x (quoteAt (s .quotes) (S + i))
     unfolding over headOf
     over-at i k = rw (columns-at x i k)
 
+    -- a later position is over an earlier one if its quote is no worse
+    abbrev later : (p q : ℕ) → q < p → reference.over s p q ≡ noWorse (s .dimensions) (s .directions) (quoteAt (s .quotes) p) (quoteAt (s .quotes) q)
+    later = renewed-later (s .dimensions) (s .directions) (s .quotes)
+
     -- the youngest row over the quote is live, since a younger one over it would be over the quote too
     alive : (i : ℕ) → i < h .held → under rs i ≡ true → ((j : ℕ) → i < j → j < h .held → under rs j ≡ false) → live (t .upperEnds) i ≡ true
-    unfolding live dominatesAt
+    unfolding live
     alive i k u none = rw (upper-at i k) (go (upperEnd (reference.over s) M (S + i)) (upper-spec (reference.over s) M (S + i) .named))
       where
         go : (y : ℕ) → NoneOrYounger (reference.over s) M (S + i) y → eqb y 0 ≡ true
@@ -131,17 +137,17 @@ module _ (s : Reference) (l : Lent) (f : Invariant s l) where
             let high : j < h .held = omega (arith, n .1, held-is) in
             let at : S + j ≡ y = omega (arith, n .0) in
             absurd (clash (under rs j)
-            (under-at j high ∙ rw at (dominates-transitive (s .dimensions) (s .directions) (quoteAt (s .quotes) y) (quoteAt (s .quotes) (S + i)) x (n .2) (sym (under-at i k) ∙ u)))
+            (under-at j high ∙ rw at (no-worse-dominates (s .dimensions) (s .directions) (quoteAt (s .quotes) y) (quoteAt (s .quotes) (S + i)) x (sym (later y (S + i) (n .0)) ∙ n .2) (sym (under-at i k) ∙ u)))
             (none j low high))
 
     -- a live row that the quote is over is younger than each row over the quote
     younger : (i j : ℕ) → i < h .held → j < h .held → retires rs i ≡ true → under rs j ≡ true → j < i
-    unfolding retires live dominatesAt
+    unfolding retires live
     younger i j k m r u = go (order j i)
       where
         above : dominates (s .dimensions) (s .directions) (quoteAt (s .quotes) (S + j)) (quoteAt (s .quotes) (S + i)) ≡ true
         above =
-            dominates-transitive (s .dimensions) (s .directions) (quoteAt (s .quotes) (S + j)) x (quoteAt (s .quotes) (S + i)) (sym (under-at j m) ∙ u)
+            dominates-no-worse (s .dimensions) (s .directions) (quoteAt (s .quotes) (S + j)) x (quoteAt (s .quotes) (S + i)) (sym (under-at j m) ∙ u)
             (sym (over-at i k) ∙ and-right (eqb (getD (t .upperEnds) i 0) 0) (over rs i) r)
 
         free : upperEnd (reference.over s) M (S + i) ≡ 0
@@ -150,7 +156,7 @@ module _ (s : Reference) (l : Lent) (f : Invariant s l) where
         go : (j < i) ⊎ ((j ≡ i) ⊎ (i < j)) → j < i
         go (inl w) = w
         go (inr (inl e)) = absurd (clash _ (rw e at above) (dominates-irreflexive (s .dimensions) (s .directions) (quoteAt (s .quotes) (S + i))))
-        go (inr (inr w)) = absurd (clash _ above (upper-spec (reference.over s) M (S + i) .live free (S + j) (omega arith) (omega (arith, held-is))))
+        go (inr (inr w)) = absurd (clash _ (later (S + j) (S + i) (omega arith) ∙ dominates-no-less (s .dimensions) (s .directions) (quoteAt (s .quotes) (S + j)) (quoteAt (s .quotes) (S + i)) above) (upper-spec (reference.over s) M (S + i) .live free (S + j) (omega arith) (omega (arith, held-is))))
 
     sound : (a : ℕ) → Sound rs a (h .held)
     sound a = record { alive = λ i u k v n. alive i k v n; younger = λ i j u k r w m v. younger i j k m r v }

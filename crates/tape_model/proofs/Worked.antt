@@ -1,7 +1,8 @@
--- 01's print of 01's tape, that of a tape with past looks and that of one with a pair, shown of the definitions.
+-- The print of 01's tape, that of a tape with past looks and that of one with a pair, shown of the definitions.
 use mathlib.Core.Path.{_≡_, refl}
 use Rattle.lists.specs.Lists.{filter, any, headOr, lastOr, flat, run, between, contains, insert}
 use Rattle.dominance.specs.Dominance.{higher, better, betterAt, noWorse, someBetter, dominates}
+use Rattle.dominance.specs.Renewal.{quoteAt, equalColumns, renewed}
 use Rattle.skyline.specs.Skyline.{windowStart, dominatedIn, skyline}
 use Rattle.skyline.specs.Past.{lowerEnd, upperEnd}
 use Rattle.head.specs.Refusals.{firstOf, granted}
@@ -11,7 +12,7 @@ use Rattle.frames.specs.Kinds.{kinds, shapeIn, shapeOf, lengthOf, bodyLength}
 use Rattle.frames.specs.Frames.{frame, messageBy, messageAt, columnsAt, stays, readAt, toldFirst, messagesFrom}
 use Rattle.model.specs.Changes.{missing, changesBy, changes, allChanges, pairChanges, frames}
 use Rattle.model.specs.Rows.{isLive, liveRows}
-use Rattle.model.specs.Reference.{unopened, ample, quoteAt, dominatesAt, skylineOf, pastOf, paired, pairOf, rowOf, rowsOf, headOf, opened, outside, outsidePast, outsidePair, withQuote, withWatched, withPairOf, opening, tooShort, tells, referenceStep}
+use Rattle.model.specs.Reference.{unopened, ample, skylineOf, pastOf, paired, pairOf, rowOf, rowsOf, headOf, opened, outside, outsidePast, outsidePair, withQuote, withWatched, withPairOf, opening, tooShort, tells, referenceStep}
 use Rattle.text.specs.Text.{digitsUpTo, digits, field, line, line2}
 use Rattle.printed.specs.Printed.{changeLine, changeLines, changesText}
 use Rattle.asking.specs.Asking.{sizedAsks, pairAsks, bareAsks, asks, inPlace, placed, asked}
@@ -19,12 +20,12 @@ use Rattle.tape_model.specs.Print.{linesOf, textOf}
 use Rattle.tape_model.specs.Play.{playAsked, playAt, printFrom, print, referenceMake}
 use Rattle.tape_model.specs.Worked.{workedTape, workedText, pastTape, pastText, pairTape, pairText}
 
--- the reference model prints 01's tape as 01 does
+-- the reference model prints 01's tape as 02 says
 pub worked-print : print opened (referenceMake ample) workedTape unopened ≡ workedText
 unfolding filter any headOr lastOr flat run between contains insert
-    higher better betterAt noWorse someBetter dominates windowStart dominatedIn skyline lowerEnd upperEnd
+    higher better betterAt noWorse someBetter dominates quoteAt equalColumns renewed windowStart dominatedIn skyline lowerEnd upperEnd
     firstOf granted settingsHold bytes2 bytes4 number2 number4 kinds shapeIn shapeOf lengthOf bodyLength frame messageBy messageAt columnsAt stays readAt toldFirst messagesFrom
-    missing changesBy changes allChanges pairChanges frames quoteAt dominatesAt skylineOf paired pairOf rowOf rowsOf isLive liveRows headOf opened outside
+    missing changesBy changes allChanges pairChanges frames skylineOf paired pairOf rowOf rowsOf isLive liveRows headOf opened outside
     withQuote withWatched opening tooShort tells referenceStep
     digitsUpTo digits field line changeLine changeLines changesText linesOf textOf
     sizedAsks asks inPlace placed asked playAsked playAt printFrom print referenceMake
@@ -33,9 +34,9 @@ worked-print = refl
 -- and the tape with past looks
 pub past-print : print opened (referenceMake ample) pastTape unopened ≡ pastText
 unfolding filter any headOr lastOr flat run between contains insert
-    higher better betterAt noWorse someBetter dominates windowStart dominatedIn skyline lowerEnd upperEnd
+    higher better betterAt noWorse someBetter dominates quoteAt equalColumns renewed windowStart dominatedIn skyline lowerEnd upperEnd
     firstOf granted settingsHold bytes2 bytes4 number2 number4 kinds shapeIn shapeOf lengthOf bodyLength frame messageBy messageAt columnsAt stays readAt toldFirst messagesFrom
-    missing changesBy changes allChanges pairChanges frames quoteAt dominatesAt skylineOf pastOf paired pairOf rowOf rowsOf isLive liveRows headOf opened outside outsidePast
+    missing changesBy changes allChanges pairChanges frames skylineOf pastOf paired pairOf rowOf rowsOf isLive liveRows headOf opened outside outsidePast
     withQuote withWatched opening tooShort tells referenceStep
     digitsUpTo digits field line changeLine changeLines changesText linesOf textOf
     sizedAsks pairAsks asks inPlace placed asked playAsked playAt printFrom print referenceMake
@@ -44,9 +45,9 @@ past-print = refl
 -- and the tape with a pair
 pub pair-print : print opened (referenceMake ample) pairTape unopened ≡ pairText
 unfolding filter any headOr lastOr flat run between contains insert
-    higher better betterAt noWorse someBetter dominates windowStart dominatedIn skyline lowerEnd upperEnd
+    higher better betterAt noWorse someBetter dominates quoteAt equalColumns renewed windowStart dominatedIn skyline lowerEnd upperEnd
     firstOf granted settingsHold bytes2 bytes4 number2 number4 kinds shapeIn shapeOf lengthOf bodyLength frame messageBy messageAt columnsAt stays readAt toldFirst messagesFrom
-    missing changesBy changes allChanges pairChanges frames quoteAt dominatesAt skylineOf pastOf paired pairOf rowOf rowsOf isLive liveRows headOf opened outsidePair
+    missing changesBy changes allChanges pairChanges frames skylineOf pastOf paired pairOf rowOf rowsOf isLive liveRows headOf opened outsidePair
     withQuote withPairOf opening tooShort tells referenceStep
     digitsUpTo digits field line line2 changeLine changeLines changesText linesOf textOf
     pairAsks bareAsks asks inPlace placed asked playAsked playAt printFrom print referenceMake

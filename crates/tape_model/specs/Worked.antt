@@ -1,4 +1,4 @@
--- 01's tape and its print, and those of a tape with past looks (02, 1/13) and of one with a pair (02, 2/13).
+-- 01's tape and its print as 02 has it (5/13), and those of a tape with past looks (02, 1/13) and of one with a pair (02, 2/13).
 use Prim.Native.Nat.{ℕ, _+_}
 use mathlib.Core.List.{List, [], _∷_, _++_, map}
 use Rattle.lists.specs.Lists.{flat}
@@ -19,7 +19,7 @@ workedTape =
 abbrev plain : ℕ → List ℕ → List ℕ
 plain letter numbers = letter ∷ (flat (map (λ n. 32 ∷ (48 + n) ∷ []) numbers) ++ (10 ∷ []))
 
--- 01's print
+-- its print
 abbrev pub workedText : List ℕ
 workedText = flat (
     plain 79 (2 ∷ 5 ∷ 0 ∷ [])
@@ -27,14 +27,14 @@ workedText = flat (
     ∷ plain 81 (2 ∷ 2 ∷ [])
     ∷ plain 81 (3 ∷ 2 ∷ [])
     ∷ plain 81 (4 ∷ 3 ∷ [])
-    ∷ plain 81 (5 ∷ 4 ∷ [])
+    ∷ plain 81 (5 ∷ 3 ∷ [])
     ∷ plain 87 (2 ∷ [])
     ∷ plain 43 (2 ∷ 4 ∷ [])
     ∷ plain 43 (2 ∷ 5 ∷ [])
-    ∷ plain 81 (6 ∷ 5 ∷ [])
+    ∷ plain 81 (6 ∷ 4 ∷ [])
     ∷ plain 45 (2 ∷ 4 ∷ [])
-    ∷ plain 76 (5 ∷ 2 ∷ 3 ∷ 4 ∷ 5 ∷ [])
-    ∷ plain 81 (7 ∷ 5 ∷ [])
+    ∷ plain 76 (5 ∷ 2 ∷ 4 ∷ 5 ∷ [])
+    ∷ plain 81 (7 ∷ 4 ∷ [])
     ∷ plain 45 (2 ∷ 5 ∷ [])
     ∷ plain 43 (2 ∷ 6 ∷ [])
     ∷ plain 43 (2 ∷ 7 ∷ [])
@@ -63,12 +63,12 @@ pastText = flat (
     ∷ plain 80 (3 ∷ 3 ∷ 1 ∷ [])
     ∷ plain 80 (2 ∷ 3 ∷ 1 ∷ 2 ∷ [])
     ∷ plain 81 (4 ∷ 3 ∷ [])
-    ∷ plain 81 (5 ∷ 4 ∷ [])
-    ∷ plain 81 (6 ∷ 5 ∷ [])
+    ∷ plain 81 (5 ∷ 3 ∷ [])
+    ∷ plain 81 (6 ∷ 4 ∷ [])
     ∷ plain 80 (1 ∷ 3 ∷ 4 ∷ 5 ∷ [])
     ∷ plain 80 (2 ∷ 3 ∷ 4 ∷ 5 ∷ [])
     ∷ plain 80 (3 ∷ 5 ∷ 2 ∷ 3 ∷ 4 ∷ [])
-    ∷ plain 81 (7 ∷ 5 ∷ [])
+    ∷ plain 81 (7 ∷ 4 ∷ [])
     ∷ plain 81 (8 ∷ 3 ∷ [])
     ∷ plain 80 (1 ∷ 5 ∷ 4 ∷ 7 ∷ 8 ∷ [])
     ∷ plain 80 (2 ∷ 5 ∷ 4 ∷ 5 ∷ 7 ∷ [])

@@ -1,4 +1,5 @@
--- `over_older` meets its contract: the older row is worse in a column and better in none.
+-- `over_older` meets its contract: the younger row is worse in no column.
+use mathlib.Core.Path.{_∙_}
 use borrow.Author.Needs.{needs}
 use Rattle.audits.proofs.Seeking.{over-older-by}
 use Rattle.audits.proofs.over_older.Statement.{statement}
@@ -28,8 +29,11 @@ mul-compare-2 c = search needs
 compare-requires : tie.Need-compare-requires
 compare-requires c κs = search needs
 
+over-older-requires : tie.Need-over-older-requires
+over-older-requires c κs = search needs
+
 returns : tie.Need-returns
-returns c = over-older-by _ _ _ _ _ _ (c .before .before .compare .ensures)
+returns c = c .over-older .ensures ∙ over-older-by _ _ _ _ _ _ (c .before .compare .ensures)
 
 pub over-older-spec : {M : Type 1} → statement M
 over-older-spec =
@@ -43,4 +47,5 @@ over-older-spec =
     part-compare-end
     mul-compare-2
     compare-requires
+    over-older-requires
     returns)

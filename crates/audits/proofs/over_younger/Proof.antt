@@ -1,4 +1,5 @@
 -- `over_younger` meets its contract: the younger row is worse in a column and better in none.
+use mathlib.Core.Path.{_∙_}
 use borrow.Author.Needs.{needs}
 use Rattle.audits.proofs.Seeking.{over-younger-by}
 use Rattle.audits.proofs.over_younger.Statement.{statement}
@@ -28,8 +29,11 @@ mul-compare-2 c = search needs
 compare-requires : tie.Need-compare-requires
 compare-requires c κs = search needs
 
+under-older-requires : tie.Need-under-older-requires
+under-older-requires c κs = search needs
+
 returns : tie.Need-returns
-returns c = over-younger-by _ _ _ _ _ _ (c .before .before .compare .ensures)
+returns c = c .under-older .ensures ∙ over-younger-by _ _ _ _ _ _ (c .before .compare .ensures)
 
 pub over-younger-spec : {M : Type 1} → statement M
 over-younger-spec =
@@ -43,4 +47,5 @@ over-younger-spec =
     part-compare-end
     mul-compare-2
     compare-requires
+    under-older-requires
     returns)

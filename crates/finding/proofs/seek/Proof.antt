@@ -1,4 +1,5 @@
 -- `seek` meets its contract: each turn asks one row.
+use mathlib.Core.Path.{sym, _∙_}
 use Prim.Native.Nat.{_-_}
 use native.Mathlib.Omega.{arith}
 use borrow.Author.Needs.{needs}
@@ -26,17 +27,20 @@ mul-compare c = omega (arith, c .before .before .before .before .before .pre .1 
 compare-requires : tie.Need-compare-requires Inv-loop μ-loop
 compare-requires c κs = omega (arith, c .before .before .before .before .before .pre .1 .quoted, c .before .before .before .before .before .pre .1 .columns, row-in (c .before .loop .i - 1) (c .before .before .before .before .before .args .to) (c .before .before .before .before .before .args .d) (omega (arith, c .before .loop .inv .most, c .loop-test .taken)))
 
+under-older-requires : tie.Need-under-older-requires Inv-loop μ-loop
+under-older-requires c κs = search needs
+
 add-result : tie.Need-add-result Inv-loop μ-loop
 add-result c = search needs
 
 returns : tie.Need-returns Inv-loop μ-loop
-returns c = row-over _ (c .before .before .before .before .before .loop .inv) (c .before .before .before .before .loop-test .taken) _ (c .before .before .before .compare .ensures) (c .if1 .taken)
+returns c = row-over _ (c .before .before .before .before .loop .inv) (c .before .before .before .loop-test .taken) _ (c .before .before .compare .ensures) (sym (c .before .under-older .ensures) ∙ c .if1 .taken)
 
 loop-less : tie.Need-loop-less Inv-loop μ-loop
 loop-less c = search needs
 
 loop-again : tie.Need-loop-again Inv-loop μ-loop
-loop-again c = row-not _ (c .before .before .before .before .before .loop .inv) (c .before .before .before .before .loop-test .taken) _ (c .before .before .before .compare .ensures) (c .if1 .left)
+loop-again c = row-not _ (c .before .before .before .before .loop .inv) (c .before .before .before .loop-test .taken) _ (c .before .before .compare .ensures) (sym (c .before .under-older .ensures) ∙ c .if1 .left)
 
 returns-2 : tie.Need-returns-2 Inv-loop μ-loop
 returns-2 c = seek-end _ (c .before .loop .inv) (c .loop-test .left)
@@ -51,6 +55,7 @@ seek-spec =
     sub-i
     mul-compare
     compare-requires
+    under-older-requires
     add-result
     returns
     loop-less

@@ -1,5 +1,5 @@
 -- `step` meets its contract: a row that is not live is passed, a live one is compared.
-use mathlib.Core.Path.{refl}
+use mathlib.Core.Path.{refl, _∙_}
 use Prim.Native.Nat.{suc}
 use native.Mathlib.Omega.{arith}
 use borrow.Author.Needs.{needs}
@@ -25,8 +25,14 @@ mul-compare c = omega (arith, c .before .before .before .before .before .before 
 compare-requires : tie.Need-compare-requires
 compare-requires c κs = omega (arith, c .before .before .before .before .before .before .pre .0 .quoted, c .before .before .before .before .before .before .pre .0 .columns, row-in (c .before .before .before .before .before .before .args .place) (suc (c .before .before .before .before .before .before .args .place)) (c .before .before .before .before .before .before .args .d) (omega arith))
 
+over-older-requires : tie.Need-over-older-requires
+over-older-requires c κs = search needs
+
 push-requires : tie.Need-push-requires
 push-requires c κs = search needs
+
+under-older-requires : tie.Need-under-older-requires
+under-older-requires c κs = search needs
 
 add-chosen : tie.Need-add-chosen
 add-chosen c = search needs
@@ -38,7 +44,7 @@ same-length : tie.Need-same-length
 same-length c = search needs
 
 returns-2 : tie.Need-returns-2
-returns-2 c = (room-pushed _ (c .before .before .before .before .before .before .before .before .before .before .before .before .before .before .before .before .pre .1) _ (c .before .before .before .before .before .push .ensures .1 .0) (c .before .before .before .before .before .push .kept .0), λ b rest l v. rw (c .before .before .before .before .before .push .ensures .1 .1) (compared-row _ l v (c .before .before .before .before .before .before .before .before .before .before .before .before .before .before .before .before .pre .1) _ (c .before .before .before .before .before .before .before .before .before .compare .ensures) (live-zero _ _ (c .before .before .before .before .before .before .before .before .before .before .if1 .left)) _ (c .before .before .before .before .before .push .ensures .0) (c .chosen .ensures)))
+returns-2 c = (room-pushed _ (c .before .before .before .before .before .before .before .before .before .before .before .before .before .before .pre .1) _ (c .before .before .before .before .push .ensures .1 .0) (c .before .before .before .before .push .kept .0), λ b rest l v. rw (c .before .before .before .before .push .ensures .1 .1) (compared-row _ l v (c .before .before .before .before .before .before .before .before .before .before .before .before .before .before .pre .1) _ (c .before .before .before .before .before .before .before .compare .ensures) (live-zero _ _ (c .before .before .before .before .before .before .before .before .if1 .left)) _ (c .before .before .before .before .push .ensures .0 ∙ rw (c .before .before .before .before .before .over-older .ensures)) (c .chosen .ensures ∙ rw (c .before .under-older .ensures))))
 
 pub step-spec : {M : Type 1} → statement M
 step-spec =
@@ -49,7 +55,9 @@ step-spec =
     returns
     mul-compare
     compare-requires
+    over-older-requires
     push-requires
+    under-older-requires
     add-chosen
     chosen-requires
     same-length

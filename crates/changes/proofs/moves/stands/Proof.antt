@@ -23,11 +23,16 @@ mul-compare c = search needs
 compare-requires : tie.Need-compare-requires
 compare-requires c κs = search needs
 
+over-older-requires : tie.Need-over-older-requires
+over-older-requires c κs = search needs
+
 returns-2 : tie.Need-returns-2
 unfolding stands
-returns-2 c = rw (live-zero (now (c .before .before .before .before .before .before .before .before .args .upper-ends)) (c .before .before .before .before .before .before .before .before .args .place) (c .before .before .before .if1 .left), over-by (rows (c .before .before .before .before .before .before .before .before .args .d) (c .before .before .before .before .before .before .before .before .args .directions) (now (c .before .before .before .before .before .before .before .before .args .columns)) (now (c .before .before .before .before .before .before .before .before .args .upper-ends)) (now (c .before .before .before .before .before .before .before .before .args .quote))) (c .before .before .before .before .before .before .before .before .args .place) (c .before .before .compare .result) (c .before .before .compare .ensures))
+returns-2 c =
+    let a = c .before .before .before .before .before .before .before .args in
+    rw (c .over-older .ensures, live-zero (now (a .upper-ends)) (a .place) (c .before .before .if1 .left), over-by (rows (a .d) (a .directions) (now (a .columns)) (now (a .upper-ends)) (now (a .quote))) (a .place) (c .before .compare .result) (c .before .compare .ensures))
 
 pub stands-spec : {M : Type 1} → statement M
 stands-spec =
     tie.close
-    (tie.spec mul-if1 shared-slice-read-if1 returns mul-compare compare-requires returns-2)
+    (tie.spec mul-if1 shared-slice-read-if1 returns mul-compare compare-requires over-older-requires returns-2)
