@@ -86,11 +86,6 @@ pub no-worse-by : (d directions : ℕ) (p q : List ℕ) → noWorse d directions
 unfolding compared
 no-worse-by d directions p q = no-worse-not d directions p q
 
--- q is no worse than p exactly if p is better in no column
-pub no-better-by : (d directions : ℕ) (p q : List ℕ) → noWorse d directions q p ≡ not (compared d directions p q .better)
-unfolding compared
-no-better-by d directions p q = no-worse-not d directions q p
-
 some-better-same : (d directions : ℕ) (p p' q q' : List ℕ) → ((i : ℕ) → i < d → getD p i 0 ≡ getD p' i 0) → ((i : ℕ) → i < d → getD q i 0 ≡ getD q' i 0)
     → someBetter d directions p q ≡ someBetter d directions p' q'
 unfolding someBetter betterAt
