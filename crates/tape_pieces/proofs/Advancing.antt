@@ -2,10 +2,13 @@
 use mathlib.Core.Path.{_≡_, sym, ap, _∙_}
 use Prim.Native.Nat.{ℕ, _+_, _≤_, _<_}
 use native.Mathlib.Omega.{arith}
-use mathlib.Core.Bool.{Bool, true, false, _&&_, _||_, not, true≢false}
+use mathlib.Core.Bool.{Bool, true, false, _&&_, not, true≢false}
 use mathlib.Core.List.{List}
+use lib.Dec.{leb}
 use lib.ListN.{length, getD, drop, length-append, length-drop}
+use borrow.Author.Tests.{leb-true, le-leb, lt-leb}
 use Rattle.lists.specs.Lists.{laid}
+use Rattle.lists.proofs.Booleans.{and-left, and-right}
 use Rattle.frames.specs.Frames.{messageAt, columnsAt, told, Reading, stays, readAt}
 use Rattle.frames.proofs.Reading.{Found, beyond, at-end, unknown, cut, whole, found}
 use Rattle.asking.specs.Asking.{Asked, finished, unread, misplaced, request, asked}
@@ -17,7 +20,7 @@ use Rattle.model.specs.Calls.{Reached}
 use Rattle.model.specs.Promises.{tables, world}
 use Rattle.tape.specs.declared.Step.{Step}
 use Rattle.tape.specs.Steps.{Stepped}
-use Rattle.tape_printer.specs.Stands.{left, Advanced}
+use Rattle.tape_pieces.specs.Stands.{GoesOn, left, Advanced}
 
 module _ (tape : List ℕ) (place : ℕ) (k : Player) (h : place ≤ length tape) where
   -- what is asked for is played
@@ -46,17 +49,9 @@ module _ (tape : List ℕ) (place : ℕ) (k : Player) (h : place ≤ length tape
 -- ---- what a frame that was played leaves
 
 module _ {tape : List ℕ} {place : ℕ} {k : Player} {before : List ℕ} {r : Step} {t' : Tables} {bytes' after : List ℕ} (s : Stepped tape place k before r t' bytes' after) where
-  -- the place went on, whatever else ends the tape
-  pub stepped-on : (over : Bool) {from : ℕ} → place ≡ from → from ≤ length tape → Advanced tape from (r .next) (over || r .over)
-  unfolding left
-  stepped-on over e h = rw (← e) (go over)
-    where
-      one : Advanced tape place (r .next) (r .over)
-      one = rw (s .next, s .over) (advanced tape place k (omega (arith, e)))
-
-      go : (b : Bool) → Advanced tape place (r .next) (b || r .over)
-      go true = record { inside = one .inside; less = omega arith }
-      go false = one
+  -- the place went on
+  pub stepped-on : place ≤ length tape → Advanced tape place (r .next) (r .over)
+  stepped-on h = rw (s .next, s .over) (advanced tape place k h)
 
   -- the lines fit the text
   pub stepped-fits : length after ≡ length before → r .count ≤ length before
@@ -70,7 +65,6 @@ module _ {tape : List ℕ} {place : ℕ} {k : Player} {before : List ℕ} {r : S
 -- what holds from frame to frame: the lines fit the text, the place stands within the tape, and the book is one that calls left
 pub record Playing (tape : List ℕ) (end : ℕ) (text₀ columns positions lower-ends upper-ends text : List ℕ) (place ended used : ℕ) (head : Head) (watches : List ℕ) : Type 0 where
   pub long : length text ≡ length text₀
-  pub room : textBytes ≤ length text
   pub inside : place ≤ length tape
   pub same : ended ≡ end
   pub fits : used ≤ length text
@@ -84,8 +78,28 @@ fits-as e h = omega (arith, e)
 pub same-reached : {h h' : Head} {t : Tables} {ws ws' : List ℕ} → h' ≡ h → ws' ≡ ws → Reached (world h t ws) → Reached (world h' t ws')
 same-reached e f c = rw (e, f) c
 
--- a frame that is played leaves less
-pub less-left : (over ready : Bool) {tape : List ℕ} {place next : ℕ} {over' result : Bool} → Advanced tape place next over' → result ≡ not over && ready → result ≡ true → left tape next over' < left tape place over
+-- ---- whether a frame is played
+
+-- one whose lines may find no room is not
+pub no-room : {over ready : Bool} {room : ℕ} → over ≡ false → room < textBytes → GoesOn over room ready false
+no-room {room = room} e h = record { is = rw (e, lt-leb textBytes room h) }
+
+-- where they find room, it is played if it is ready
+pub some-room : {over ready result : Bool} {room : ℕ} → over ≡ false → textBytes ≤ room → result ≡ ready → GoesOn over room ready result
+some-room {room = room} e h r = record { is = r ∙ rw (e, le-leb textBytes room h) }
+
+-- nor is one where the tape is over
+pub none-over : {over ready : Bool} {room : ℕ} → over ≡ true → GoesOn over room ready false
+none-over e = record { is = rw e }
+
+-- the lines of a frame that is played have room
+pub lines-room : {over ready result : Bool} {room : ℕ} → GoesOn over room ready result → result ≡ true → textBytes ≤ room
+lines-room {over} {ready} {room = room} g t =
+    leb-true textBytes room (and-left (leb textBytes room) ready (and-right (not over) (leb textBytes room && ready) (sym (g .is) ∙ t)))
+
+-- and less is left behind it
+pub less-left : {over ready result : Bool} {room : ℕ} {tape : List ℕ} {place next : ℕ} {over' : Bool} → Advanced tape place next over' → GoesOn over room ready result → result ≡ true
+    → left tape next over' < left tape place over
 unfolding left
-less-left true ready a e t = absurd (true≢false (sym t ∙ e))
-less-left false ready a e t = a .less
+less-left {over = true} a g t = absurd (true≢false (sym t ∙ g .is))
+less-left {over = false} a g t = a .less
