@@ -1,4 +1,4 @@
-// The desk of the book player: a head, eight records and how much of each buffer is lent, and what a line changes
+// The state of the book player: a head, eight records and how much of each buffer is lent, and what a line changes
 // without a call.
 mod poking;
 
@@ -36,7 +36,7 @@ pub struct Loan {
 }
 
 // The head for the next call, the records, what is lent, what is to be printed, and the last reply and verdict.
-pub struct Desk {
+pub struct State {
     pub head: Head,
     pub records: [Watch; 8],
     pub loan: Loan,
@@ -45,13 +45,13 @@ pub struct Desk {
     pub verdict: Verdict,
 }
 
-impl Desk {
-    // The desk before the first line: a head of zeros, no watches, every buffer lent whole.
-    pub fn first() -> Desk {
+impl State {
+    // The state before the first line: a head of zeros, no watches, every buffer lent whole.
+    pub fn first() -> State {
         let zeros = Head::fresh(0, 0, 0);
-        Desk {
+        State {
             head: zeros,
-            records: [Watch { n: 0 }; 8],
+            records: [Watch { n: 0, desk: 0 }; 8],
             loan: Loan {
                 columns: COLUMN_CELLS,
                 positions: PLACES,
@@ -69,14 +69,14 @@ impl Desk {
         }
     }
 
-    // The desk with something else to print.
-    pub fn showing(self, seen: Seen) -> Desk {
+    // The state with something else to print.
+    pub fn showing(self, seen: Seen) -> State {
         let head = self.head;
         let records = self.records;
         let loan = self.loan;
         let reply = self.reply;
         let verdict = self.verdict;
-        Desk {
+        State {
             head,
             records,
             loan,
@@ -86,13 +86,13 @@ impl Desk {
         }
     }
 
-    // The desk with another head and other records.
-    pub fn holding(self, head: Head, records: [Watch; 8]) -> Desk {
+    // The state with another head and other records.
+    pub fn holding(self, head: Head, records: [Watch; 8]) -> State {
         let loan = self.loan;
         let seen = self.seen;
         let reply = self.reply;
         let verdict = self.verdict;
-        Desk {
+        State {
             head,
             records,
             loan,
@@ -102,14 +102,14 @@ impl Desk {
         }
     }
 
-    // The desk with another loan.
-    pub fn lending(self, loan: Loan) -> Desk {
+    // The state with another loan.
+    pub fn lending(self, loan: Loan) -> State {
         let head = self.head;
         let records = self.records;
         let seen = self.seen;
         let reply = self.reply;
         let verdict = self.verdict;
-        Desk {
+        State {
             head,
             records,
             loan,
@@ -119,13 +119,13 @@ impl Desk {
         }
     }
 
-    // The desk after a reply that is to be printed so, with the head that it hands back.
-    pub fn answered(self, reply: Reply, seen: Seen) -> Desk {
+    // The state after a reply that is to be printed so, with the head that it hands back.
+    pub fn answered(self, reply: Reply, seen: Seen) -> State {
         let head = reply.head;
         let records = self.records;
         let loan = self.loan;
         let verdict = self.verdict;
-        Desk {
+        State {
             head,
             records,
             loan,
@@ -135,13 +135,13 @@ impl Desk {
         }
     }
 
-    // The desk after an audit.
-    pub fn judged(self, verdict: Verdict) -> Desk {
+    // The state after an audit.
+    pub fn judged(self, verdict: Verdict) -> State {
         let head = self.head;
         let records = self.records;
         let loan = self.loan;
         let reply = self.reply;
-        Desk {
+        State {
             head,
             records,
             loan,

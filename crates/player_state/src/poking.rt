@@ -1,7 +1,7 @@
 // What a line changes without a call: lengths lent, the head, a cell; and what it is to print before any call.
-use crate::Desk;
 use crate::Loan;
 use crate::Seen;
+use crate::State;
 use head::Head;
 use head::Watch;
 use player_lines::Command;
@@ -27,6 +27,7 @@ fn full(name: Name) -> usize {
 fn can_lend(name: Name) -> bool {
     match name {
         Name::Watches => false,
+        Name::Desks => false,
         Name::None => false,
         _ => true,
     }
@@ -56,24 +57,24 @@ fn lent(loan: Loan, name: Name, k: usize) -> Loan {
 }
 
 // A length lent from now on; one beyond its buffer is a line that cannot be taken.
-fn lend(desk: Desk, line: Line) -> Desk {
+fn lend(state: State, line: Line) -> State {
     let numbers = line.numbers;
     let name = line.name;
     let k = numbers[0] as usize;
     if full(name) < k {
-        return desk.showing(Seen::Unread);
+        return state.showing(Seen::Unread);
     }
     if !can_lend(name) {
-        return desk.showing(Seen::Unread);
+        return state.showing(Seen::Unread);
     }
-    let loan = desk.loan;
-    desk.lending(lent(loan, name, k))
+    let loan = state.loan;
+    state.lending(lent(loan, name, k))
 }
 
 // The head replaced.
-fn replace_head(desk: Desk, line: Line) -> Desk {
+fn replace_head(state: State, line: Line) -> State {
     let numbers = line.numbers;
-    let records = desk.records;
+    let records = state.records;
     let head = Head {
         dimensions: numbers[0],
         capacity: numbers[1],
@@ -84,13 +85,13 @@ fn replace_head(desk: Desk, line: Line) -> Desk {
         n1: numbers[6],
         n2: numbers[7],
     };
-    desk.holding(head, records)
+    state.holding(head, records)
 }
 
-// The desk before a line's call or its cell: what is lent, the head, and what the line prints unless it is a call.
-pub fn begin(desk: Desk, line: Line) -> Desk {
+// The state before a line's call or its cell: what is lent, the head, and what the line prints unless it is a call.
+pub fn begin(state: State, line: Line) -> State {
     let command = line.command;
-    let begun = desk.showing(Seen::Nothing);
+    let begun = state.showing(Seen::Nothing);
     match command {
         Command::Unread => begun.showing(Seen::Unread),
         Command::Show => begun.showing(Seen::Tables),
@@ -101,45 +102,59 @@ pub fn begin(desk: Desk, line: Line) -> Desk {
 }
 
 // A table with a cell poked, where it has one.
-fn poked(desk: Desk, cells: &mut [u32], i: usize, v: u32) -> Desk {
+fn poked(state: State, cells: &mut [u32], i: usize, v: u32) -> State {
     if i < cells.len() {
         cells[i] = v;
-        return desk;
+        return state;
     }
-    desk.showing(Seen::Unread)
+    state.showing(Seen::Unread)
 }
 
-// The records with one poked, where there is one.
-fn marked(desk: Desk, i: usize, v: u32) -> Desk {
-    if i < 8 {
-        let head = desk.head;
-        let mut records = desk.records;
-        let record = Watch { n: v };
-        records[i] = record;
-        return desk.holding(head, records);
+// A record with another desk where the desks are named, else with another n.
+fn marked(record: Watch, name: Name, v: u32) -> Watch {
+    match name {
+        Name::Desks => Watch {
+            n: record.n,
+            desk: v,
+        },
+        _ => Watch {
+            n: v,
+            desk: record.desk,
+        },
     }
-    desk.showing(Seen::Unread)
+}
+
+// The records with the n or the desk of one poked, where there is one.
+fn recorded(state: State, name: Name, i: usize, v: u32) -> State {
+    if i < 8 {
+        let head = state.head;
+        let mut records = state.records;
+        let record = records[i];
+        records[i] = marked(record, name, v);
+        return state.holding(head, records);
+    }
+    state.showing(Seen::Unread)
 }
 
 // A cell of a table or a record poked.
 pub fn poke(
-    desk: Desk,
+    state: State,
     line: Line,
     columns: &mut [u32],
     positions: &mut [u32],
     lower_ends: &mut [u32],
     upper_ends: &mut [u32],
-) -> Desk {
+) -> State {
     let name = line.name;
     let numbers = line.numbers;
     let i = numbers[0] as usize;
     let v = numbers[1];
     match name {
-        Name::Columns => poked(desk, columns, i, v),
-        Name::Positions => poked(desk, positions, i, v),
-        Name::Lower => poked(desk, lower_ends, i, v),
-        Name::Upper => poked(desk, upper_ends, i, v),
-        Name::Watches => marked(desk, i, v),
-        _ => desk.showing(Seen::Unread),
+        Name::Columns => poked(state, columns, i, v),
+        Name::Positions => poked(state, positions, i, v),
+        Name::Lower => poked(state, lower_ends, i, v),
+        Name::Upper => poked(state, upper_ends, i, v),
+        Name::Watches | Name::Desks => recorded(state, name, i, v),
+        _ => state.showing(Seen::Unread),
     }
 }
