@@ -12,11 +12,13 @@ SEED ?= 1
 TAPES ?= 20000
 LISTS ?= 20000
 RUNS ?= 9
-PLANTS := equals-stay earlier-stands oldest window kept misprint upper pair-first nine-first pair-end
+PLANTS := equals-stay earlier-stands oldest window kept misprint upper pair-first nine-first pair-end nine-at-eight \
+  desk-two-first watch2-by-one
 CALL_PLANTS := renamed torn-first past-memory early live-lower overwritten retired-lower fourteen-first live-zeros upper-free \
   pair-first nine-first pair-end due-equal due-cells blind-look audit-pair preview-settles preview-held preview-head \
-  equals-stay earlier-stands
-RULE_PLANTS := upper-free pair-end due-equal preview-settles preview-held preview-head equals-stay earlier-stands
+  equals-stay earlier-stands nine-at-eight shares-free thirteen-fits desk-two-first watch2-by-one desk-left
+RULE_PLANTS := upper-free pair-end due-equal preview-settles preview-held preview-head equals-stay earlier-stands \
+  watch2-by-one
 SAMPLES := $(basename $(wildcard tapes/*.txt))
 RUSTC := rustc --edition 2021 -O -D warnings
 
@@ -45,7 +47,7 @@ random-calls: build/random_calls $(PLAYER)
 	@build/random_calls $(PLAYER) $(SEED) $(LISTS)
 
 # the audit's plain rules, lists and what is due, as that model has them, against every tape of small settings; its
-# previews against its quotes
+# previews against its quotes; what a desk sees of a list against what it sees of one that differs in all else
 rules: build/random_calls
 	@build/random_calls --rules
 

@@ -1,5 +1,6 @@
 //! Measures printers of tapes, and what a user would pick instead, on the same tapes in one run, and prints one table; then what a watched
-//! pair adds, and what it costs to move the rows of full tables down at each quote, and nothing else, in two others.
+//! pair adds, what eight watches of two desks take beside five of one, and what it costs to move the rows of full tables down at each
+//! quote, and nothing else, in three others.
 //!
 //! usage: bench PRINTER [RUNS]     PRINTER is ours; the other programs stand in build/, and so do the tapes made here
 
@@ -28,24 +29,35 @@ const SHORT: usize = 512;
 /// The quotes that moves alone are timed on.
 const MOVES: usize = 200_000;
 
-/// A tape's shape, memory and number of quotes, and whether a pair is watched.
+/// A tape's shape, memory and number of quotes, whether two desks watch or one, and whether a pair is watched.
 #[derive(Clone, Copy)]
 struct Tape {
     shape: &'static str,
     memory: usize,
     quotes: usize,
+    desks: bool,
     paired: bool,
 }
 
 impl Tape {
+    /// The tape that is measured if nothing else is said: eight watches, which take two desks, and no pair.
+    fn new(shape: &'static str, memory: usize) -> Tape {
+        Tape { shape, memory, quotes: QUOTES, desks: true, paired: false }
+    }
+
     /// The same tape with another number of quotes.
     fn with(self, quotes: usize) -> Tape {
         Tape { quotes, ..self }
     }
 
+    /// The options that it is made with.
+    fn options(self) -> Vec<&'static str> {
+        self.desks.then_some("--desks").into_iter().chain(self.paired.then_some("--pair")).collect()
+    }
+
     /// The file that holds it.
     fn path(self) -> String {
-        format!("{FOLDER}/{}{}_{}_{}.tape", self.shape, if self.paired { "_pair" } else { "" }, self.memory, self.quotes)
+        format!("{FOLDER}/{}{}_{}_{}.tape", self.shape, self.options().join(""), self.memory, self.quotes)
     }
 
     /// Makes its file, and opens it.
@@ -53,8 +65,7 @@ impl Tape {
         if !std::path::Path::new(&self.path()).exists() {
             let file = File::create(self.path()).expect("a tape is made");
             let numbers = [self.quotes.to_string(), self.memory.to_string()];
-            let pair = self.paired.then_some("--pair");
-            let made = Command::new(MAKER).args(pair).arg(self.shape).args(numbers).stdout(file).status();
+            let made = Command::new(MAKER).args(self.options()).arg(self.shape).args(numbers).stdout(file).status();
             assert!(made.expect("the maker of tapes runs").success());
         }
         File::open(self.path()).expect("a tape is opened")
@@ -129,13 +140,15 @@ fn compare_prints(ours: &str, tape: Tape) {
 
 /// How long the watches' lists are at the end of a tape, by the joins and leaves that a printer prints, in the order of the watches.
 fn list_lengths(printer: &str, tape: Tape) -> Vec<i64> {
-    let mut lengths: Vec<(String, i64)> = Vec::new();
+    let mut lengths: Vec<([String; 2], i64)> = Vec::new();
     for line in print_of(&[printer], tape).lines().map(Result::unwrap) {
-        let mut fields = line.split(' ');
-        let (letter, n) = (fields.next().unwrap(), fields.next().unwrap());
-        match letter {
-            "W" => lengths.push((n.to_string(), 0)),
-            "+" | "-" => lengths.iter_mut().find(|(watched, _)| watched == n).unwrap().1 += if letter == "+" { 1 } else { -1 },
+        let mut fields = line.split(' ').map(str::to_string);
+        let (mut desk, n) = (fields.next().unwrap(), fields.next().unwrap());
+        let sign = desk.remove(0);
+        let watch = [desk, n];
+        match sign {
+            'W' => lengths.push((watch, 0)),
+            '+' | '-' => lengths.iter_mut().find(|(watched, _)| *watched == watch).unwrap().1 += if sign == '+' { 1 } else { -1 },
             _ => {}
         }
     }
@@ -248,17 +261,18 @@ impl Row {
     }
 }
 
-/// The table of what a watched pair adds to a quote's instructions, for the longest memory.
-fn print_pairs(ours: &str) {
+/// A table of a quote's instructions on tapes without something and on tapes with it, of each shape.
+fn print_added(ours: &str, name: &str, tapes: [Tape; 2]) {
     println!();
-    println!("| a watched pair, instr | ours without | with | x | yardstick without | with | x |");
+    println!("| {name}, instr | ours without | with | x | yardstick without | with | x |");
     println!("|{}", "---|".repeat(7));
     for shape in SHAPES {
-        let tape = Tape { shape, memory: MEMORIES[0], quotes: QUOTES, paired: true };
-        compare_prints(ours, tape);
+        let tapes = tapes.map(|tape| Tape { shape, ..tape });
+        for tape in tapes {
+            compare_prints(ours, tape);
+        }
         let counts = [&[ours][..], YARDSTICK].map(|printer| {
-            let count = |paired| instructions_a_quote(printer, Tape { paired, ..tape });
-            let (without, with) = (count(false), count(true));
+            let [without, with] = tapes.map(|tape| instructions_a_quote(printer, tape));
             format!("{} | {}", without.map_or("-".to_string(), number), beside(with, without.unwrap_or(f64::NAN)))
         });
         println!("| {shape} | {} |", counts.join(" | "));
@@ -284,7 +298,7 @@ fn notes(rows: &[Row], runs: usize) {
     println!();
     println!("ns: nanoseconds a quote; x: times ours; instr: instructions a quote by callgrind.");
     println!("Ours and the yardstick, without the judgement of 11 and 12 at every call and with it (judged): median of {runs} runs over");
-    println!("{QUOTES} quotes and eight watches, in turn; their prints are equal.");
+    println!("{QUOTES} quotes and eight watches, four of each desk, in turn; their prints are equal.");
     println!("Plain model: median of {runs} runs over the first {SHORT} quotes, in turn with them, when longer windows are not full yet;");
     println!("its print is equal to ours.");
     if rows[0].times[4].is_some() {
@@ -305,7 +319,7 @@ fn main() {
     let runs = arguments.next().map_or(9, |s| s.parse().expect("a number of runs"));
     let _ = std::fs::remove_dir_all(FOLDER);
     std::fs::create_dir_all(FOLDER).expect("a folder for the tapes is made");
-    let of_shape = |shape| MEMORIES.map(|memory| Tape { shape, memory, quotes: QUOTES, paired: false });
+    let of_shape = |shape| MEMORIES.map(|memory| Tape::new(shape, memory));
     let tapes: Vec<Tape> = SHAPES.into_iter().flat_map(of_shape).collect();
     for &tape in &tapes {
         compare_prints(&ours, tape);
@@ -322,7 +336,9 @@ fn main() {
         row.print();
         rows.push(row);
     }
-    print_pairs(&ours);
+    let tape = Tape::new(SHAPES[0], MEMORIES[0]);
+    print_added(&ours, "a watched pair", [tape, Tape { paired: true, ..tape }]);
+    print_added(&ours, "eight watches of two desks for five of one", [Tape { desks: false, ..tape }, tape]);
     print_moves(runs);
     notes(&rows, runs);
 }

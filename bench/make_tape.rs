@@ -1,6 +1,7 @@
-//! Makes a tape to measure with: an opening, eight watches, with --pair a watched pair, then quotes of one shape.
+//! Makes a tape to measure with: an opening, the five watches that one desk may have, or with --desks eight, four of them desk two's,
+//! with --pair a watched pair, then quotes of one shape.
 //!
-//! usage: make_tape [--pair] uniform|frontier|drift|duplicates QUOTES [MEMORY [SEED]] > TAPE
+//! usage: make_tape [--desks] [--pair] uniform|frontier|drift|duplicates QUOTES [MEMORY [SEED]] > TAPE
 
 #[path = "../tests/frames.rs"]
 mod frames;
@@ -10,9 +11,12 @@ mod random;
 use random::Random;
 use std::io::Write;
 
-/// The watched n for a memory of 1,024; for a shorter one they shrink with it.
+/// The watched n for a memory of 1,024; for a shorter one they shrink with it. Of two desks they are set in turn.
 const WATCHED: [u32; 8] = [1_024, 900, 700, 500, 300, 100, 50, 10];
-/// The kind of a frame that sets the pair.
+/// How many of them one desk may have.
+const ONE_DESK: usize = 5;
+/// The kinds of the frames that set a watch of desk two, and the pair.
+const WATCHES_TWO: u8 = 19;
 const SETS_PAIR: u8 = 21;
 /// The pair, likewise.
 const PAIR: [u32; 2] = [100, 900];
@@ -79,22 +83,41 @@ fn drift(r: &mut Random, step: u32) -> Vec<u32> {
     vec![1_000_000 + level + r.below(5_000) as u32, 1_000_000 - level + r.below(5_000) as u32]
 }
 
+/// What stands on a tape before its quotes: the watches of two desks or of one, and a pair or none.
+struct Watches {
+    desks: bool,
+    pair: bool,
+}
+
+impl Watches {
+    /// Their frames, for a memory.
+    fn write(&self, tape: &mut Vec<u8>, memory: u16) {
+        let scaled = |n: u32, least: u32| (n * u32::from(memory) / WATCHED[0]).max(least) as u16;
+        let count = if self.desks { WATCHED.len() } else { ONE_DESK };
+        for (i, &n) in WATCHED[..count].iter().enumerate() {
+            if self.desks && i % 2 == 1 {
+                tape.push(WATCHES_TWO);
+                tape.extend(scaled(n, 1).to_le_bytes());
+            } else {
+                frames::watch(tape, scaled(n, 1));
+            }
+        }
+        if self.pair {
+            tape.push(SETS_PAIR);
+            for n in PAIR {
+                tape.extend(scaled(n, 2).to_le_bytes());
+            }
+        }
+    }
+}
+
 /// The whole tape.
-fn tape_of(shape: Shape, paired: bool, quotes: u32, memory: u16, seed: u64) -> Vec<u8> {
+fn tape_of(shape: Shape, watches: &Watches, quotes: u32, memory: u16, seed: u64) -> Vec<u8> {
     let mut r = Random::new(seed, 0);
     let mut tape = Vec::new();
     let (d, directions) = shape.settings();
     frames::open(&mut tape, d, memory, directions);
-    let scaled = |n: u32| n * u32::from(memory) / WATCHED[0];
-    for n in WATCHED {
-        frames::watch(&mut tape, scaled(n).max(1) as u16);
-    }
-    if paired {
-        tape.push(SETS_PAIR);
-        for n in PAIR {
-            tape.extend((scaled(n).max(2) as u16).to_le_bytes());
-        }
-    }
+    watches.write(&mut tape, memory);
     for step in 0..quotes {
         frames::quote(&mut tape, &shape.quote(&mut r, step));
     }
@@ -103,10 +126,17 @@ fn tape_of(shape: Shape, paired: bool, quotes: u32, memory: u16, seed: u64) -> V
 
 fn main() {
     let mut arguments = std::env::args().skip(1).peekable();
-    let paired = arguments.next_if(|word| word == "--pair").is_some();
-    let shape = Shape::named(&arguments.next().expect("usage: make_tape [--pair] SHAPE QUOTES [MEMORY [SEED]]"));
+    let mut watches = Watches { desks: false, pair: false };
+    while let Some(option) = arguments.next_if(|word| word.starts_with("--")) {
+        match option.as_str() {
+            "--desks" => watches.desks = true,
+            "--pair" => watches.pair = true,
+            _ => panic!("no option has the name {option}"),
+        }
+    }
+    let shape = Shape::named(&arguments.next().expect("usage: make_tape [--desks] [--pair] SHAPE QUOTES [MEMORY [SEED]]"));
     let quotes = arguments.next().expect("the number of quotes").parse().expect("a number of quotes");
     let memory = arguments.next().map_or(1_024, |s| s.parse().expect("a memory"));
     let seed = arguments.next().map_or(1, |s| s.parse().expect("a seed"));
-    std::io::stdout().write_all(&tape_of(shape, paired, quotes, memory, seed)).expect("the tape is written");
+    std::io::stdout().write_all(&tape_of(shape, &watches, quotes, memory, seed)).expect("the tape is written");
 }

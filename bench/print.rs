@@ -7,7 +7,7 @@ const LONGEST: usize = 256 << 10;
 /// So many bytes are gathered before they are written out.
 const PIECE: usize = 64 << 10;
 
-/// A field that is printed often: its digits with a space before them, at most 15 bytes.
+/// A field that is printed often: its digits with a space before them, and before that a byte or none; at most 15 bytes.
 #[derive(Clone, Copy)]
 pub struct Field {
     text: u128,
@@ -25,6 +25,11 @@ impl Field {
         let zeros = (digits | 1 << 56).trailing_zeros() / 8;
         let text = (digits | 0x3030_3030_3030_3030) >> (8 * zeros);
         Field { text: u128::from(text) << 8 | u128::from(b' '), length: 9 - zeros as usize }
+    }
+
+    /// The same field with a byte before it.
+    pub fn behind(self, byte: u8) -> Field {
+        Field { text: self.text << 8 | u128::from(byte), length: self.length + 1 }
     }
 }
 
@@ -58,6 +63,13 @@ impl Print {
         for &number in numbers {
             self.field(&Field::new(number));
         }
+        self.byte(b'\n');
+    }
+
+    /// A line of a letter and a field.
+    pub fn one(&mut self, letter: u8, field: &Field) {
+        self.byte(letter);
+        self.field(field);
         self.byte(b'\n');
     }
 

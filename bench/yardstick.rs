@@ -13,11 +13,29 @@ use tables::{places_of, Quote, Retired, Tables, CAPACITY};
 
 const LAST_POSITION: u32 = 16_777_215;
 const RECORDS: usize = 8;
+/// How many watches each desk is sure of, and how many more the two share.
+const SURE: usize = 3;
+const LEFT_OVER: usize = 2;
+/// The numbers from one desk's records to the next desk's.
+const DESK: u64 = 1 << 32;
 
-/// A watch: its n, as a number and in print.
+/// A watch: its desk and n as one number, so that records stand as their numbers rise, and what its lines have behind their sign.
 struct Watch {
-    n: u32,
+    record: u64,
     field: Field,
+}
+
+impl Watch {
+    /// The watch of n by a desk, 1 or 2.
+    fn new(desk: usize, n: u32) -> Watch {
+        let field = Field::new(n);
+        Watch { record: desk as u64 * DESK + u64::from(n), field: if desk == 1 { field } else { field.behind(b'2') } }
+    }
+
+    /// Its n.
+    fn n(&self) -> u32 {
+        self.record as u32
+    }
 }
 
 /// What the changes of all watches by one quote have in common.
@@ -33,7 +51,7 @@ struct New {
     named: Range<usize>,
 }
 
-/// The book: the head, the tables, the watches, n rising, and the watched pair.
+/// The book: the head, the tables, the watches, desk one's and then desk two's, n rising in each, and the watched pair.
 struct Book {
     judged: bool,
     opened: bool,
@@ -52,6 +70,11 @@ struct Book {
 /// The first position of the window of n.
 fn window_start(newest: u32, n: u32) -> u32 {
     (newest + 1).saturating_sub(n).max(1)
+}
+
+/// How many watches the desks have above those that each is sure of.
+fn above(shares: [usize; 2]) -> usize {
+    shares[0].saturating_sub(SURE) + shares[1].saturating_sub(SURE)
 }
 
 impl Book {
@@ -104,10 +127,33 @@ impl Book {
 
     /// Whether 12 holds.
     fn torn(&self) -> bool {
-        let rising = self.watches.windows(2).all(|pair| pair[0].n < pair[1].n);
-        let within = self.watches.first().map_or(true, |w| w.n > 0) && self.watches.last().map_or(true, |w| w.n <= self.memory);
         let paired = self.pair.map_or(true, |(n1, n2)| 2 <= n1 && n1 <= n2 && n2 <= self.memory);
-        !(rising && within && paired) || self.newest > LAST_POSITION || self.tables.torn(self.first(), self.newest, self.held(), self.live)
+        let torn = self.torn_watches() || !paired || self.newest > LAST_POSITION;
+        torn || self.tables.torn(self.first(), self.newest, self.held(), self.live)
+    }
+
+    /// Whether the watches do not rise, one of them is no desk's or not of an n from 1 to N, or the desks are over their shares. Of
+    /// records that rise only the first and the last of each desk need be looked at.
+    fn torn_watches(&self) -> bool {
+        let shares = self.shares();
+        let (one, two) = self.watches.split_at(shares[0]);
+        let within = |watches: &[Watch], desk: u64| {
+            let least = watches.first().map_or(true, |w| w.record > desk * DESK);
+            least && watches.last().map_or(true, |w| w.record <= desk * DESK + u64::from(self.memory))
+        };
+        let rising = self.watches.windows(2).all(|pair| pair[0].record < pair[1].record);
+        !(rising && within(one, 1) && within(two, 2)) || above(shares) > LEFT_OVER
+    }
+
+    /// How many watches each desk has.
+    fn shares(&self) -> [usize; 2] {
+        let one = self.watches.partition_point(|w| w.record < 2 * DESK);
+        [one, self.watches.len() - one]
+    }
+
+    /// Whether a desk, 1 or 2, has no watch free.
+    fn full(&self, desk: usize) -> bool {
+        self.shares()[desk - 1] >= SURE && above(self.shares()) >= LEFT_OVER
     }
 
     /// An opening.
@@ -175,8 +221,8 @@ impl Book {
     /// lower end falls out of it and for the new row. Rows that a quote retires have its position for an upper end already. Live rows
     /// with a lower end are there only if the row at it is live.
     fn changes(&self, watch: &Watch, new: &New, print: &mut Print) {
-        let (tables, full) = (&self.tables, new.position > watch.n);
-        let before = if full { new.position - watch.n } else { 1 };
+        let (tables, full) = (&self.tables, new.position > watch.n());
+        let before = if full { new.position - watch.n() } else { 1 };
         let after = before + u32::from(full);
         let out = (before - new.first) as usize;
         let end = if full { tables.upper_ends[out] } else { u32::MAX };
@@ -189,7 +235,7 @@ impl Book {
             }
         }
         if end == 0 {
-            let rows = if watch.n == self.memory { new.named.clone() } else { out + 1..new.held };
+            let rows = if watch.n() == self.memory { new.named.clone() } else { out + 1..new.held };
             tables.with_lower_end(rows, before, |place| {
                 print.pair(b'+', &watch.field, &Field::new(new.first + place as u32));
             });
@@ -277,20 +323,21 @@ impl Book {
         print.byte(b'\n');
     }
 
-    /// A watch of n set, with its joins.
-    fn watch(&mut self, n: u32, print: &mut Print) {
-        let at = self.watches.partition_point(|w| w.n < n);
-        let watched = self.watches.get(at).is_some_and(|w| w.n == n);
+    /// A watch of n set by a desk, with its joins. Like an end it is rare, and kept out of the code of a quote.
+    #[cold]
+    fn watch(&mut self, desk: usize, n: u32, print: &mut Print) {
+        let watch = Watch::new(desk, n);
+        let at = self.watches.partition_point(|w| w.record < watch.record);
+        let watched = self.watches.get(at).is_some_and(|w| w.record == watch.record);
         let refusal = self.refusal(n).or(if watched { Some(8) } else { None });
-        if let Some(number) = refusal.or(if self.watches.len() == RECORDS { Some(9) } else { None }) {
+        if let Some(number) = refusal.or(if self.full(desk) { Some(9) } else { None }) {
             return print.refuse(number);
         }
-        print.line(b'W', &[n]);
-        let field = Field::new(n);
+        print.one(b'W', &watch.field);
         for p in self.list(n) {
-            print.pair(b'+', &field, &Field::new(p));
+            print.pair(b'+', &watch.field, &Field::new(p));
         }
-        self.watches.insert(at, Watch { n, field });
+        self.watches.insert(at, watch);
     }
 
     /// The pair set, with its joins.
@@ -316,15 +363,17 @@ impl Book {
         }
     }
 
-    /// The watch of n ended.
-    fn end(&mut self, n: u32, print: &mut Print) {
-        let found = self.watches.iter().position(|w| w.n == n);
+    /// A desk's watch of n ended.
+    #[cold]
+    fn end(&mut self, desk: usize, n: u32, print: &mut Print) {
+        let watch = Watch::new(desk, n);
+        let found = self.watches.iter().position(|w| w.record == watch.record);
         match (self.refusal(n), found) {
             (Some(number), _) => print.refuse(number),
             (None, None) => print.refuse(10),
             (None, Some(at)) => {
                 self.watches.remove(at);
-                print.line(b'U', &[n]);
+                print.one(b'U', &watch.field);
             }
         }
     }
@@ -334,10 +383,10 @@ impl Book {
 fn body_length(kind: u8) -> Option<usize> {
     match kind {
         1..=6 => Some(4 * usize::from(kind)),
-        16..=18 => Some(2),
+        16..=20 => Some(2),
         22 => Some(0),
         21 | 23 | 36 | 37 | 48 => Some(4),
-        32 | 33 => Some(6),
+        32..=35 => Some(6),
         _ => None,
     }
 }
@@ -354,8 +403,10 @@ fn play(book: &mut Book, kind: u8, body: &[u8], print: &mut Print) {
             book.quote(kind.into(), columns, print);
         }
         16 => book.look(number(0), print),
-        17 => book.watch(number(0), print),
-        18 => book.end(number(0), print),
+        17 => book.watch(1, number(0), print),
+        18 => book.end(1, number(0), print),
+        19 => book.watch(2, number(0), print),
+        20 => book.end(2, number(0), print),
         21 => book.set_pair(number(0), number(2), print),
         22 => book.end_pair(print),
         23 => book.past(number(0), number(2), print),

@@ -13,13 +13,17 @@
      kind     body bytes   meaning
      1 to 6   4 * kind     a quote with that many columns, each little-endian, 0 to 4294967295
      16       2            look: the list of n
-     17       2            watch n
-     18       2            end the watch of n
+     17       2            desk one: watch n
+     18       2            desk one: end the watch of n
+     19       2            desk two: watch n
+     20       2            desk two: end the watch of n
      21       4            watch the pair n1 (2), n2 (2)
      22       0            end the watch of the pair
      23       4            past look: the past list of n1 (2), n2 (2)
-     32       6            change: n (2), position (4) leaves
-     33       6            change: n (2), position (4) joins
+     32       6            change for desk one: n (2), position (4) leaves
+     33       6            change for desk one: n (2), position (4) joins
+     34       6            change for desk two: n (2), position (4) leaves
+     35       6            change for desk two: n (2), position (4) joins
      36       4            change of the pair: position (4) leaves
      37       4            change of the pair: position (4) joins
      48       4            open: d (1), N (2), directions (1)                                    */

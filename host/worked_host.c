@@ -37,8 +37,8 @@ static size_t quote(uint8_t *frame, uint8_t count, const uint32_t *columns) {
 /* The body length that the format gives each kind, 255 for an unknown one. */
 static size_t body_length(int kind) {
     if (1 <= kind && kind <= 6) return 4 * (size_t)kind;
-    if (16 <= kind && kind <= 18) return 2;
-    if (kind == 32 || kind == 33) return 6;
+    if (16 <= kind && kind <= 20) return 2;
+    if (32 <= kind && kind <= 35) return 6;
     if (kind == 22) return 0;
     if (kind == 21 || kind == 23 || kind == 36 || kind == 37 || kind == 48) return 4;
     return 255;

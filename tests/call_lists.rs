@@ -1,7 +1,9 @@
 //! Lists of calls made at random from a seed: sound books, made-up tables with any ends, torn ones, short loans,
 //! outputs around the answer's length, heads of any values.
 
-use crate::call_model::{settings_hold, Head, Model, Plant, COLUMN_CELLS, LAST_POSITION, OUTPUT, PLACES, RECORDS};
+use crate::call_model::{
+    settings_hold, Head, Model, Plant, CHANGE_BYTES, COLUMN_CELLS, LAST_POSITION, OUTPUT, PLACES, RECORDS,
+};
 use crate::random::Random;
 
 /// Values around the edges of the fields.
@@ -25,7 +27,7 @@ const EDGES: [u32; 16] = [
 ];
 
 /// Lines that cannot be taken.
-pub const BAD_LINES: [&str; 32] = [
+pub const BAD_LINES: [&str; 39] = [
     "",
     "quoted 1",
     "open 1 2",
@@ -44,7 +46,11 @@ pub const BAD_LINES: [&str; 32] = [
     "preview 1 4294967296",
     "previewed 1",
     "watch x",
+    "watch2",
+    "watch2 x",
+    "watch3 1",
     "end -1",
+    "end2 1 2",
     "audit 1",
     "look 4294967296",
     "head 1 2 0 0 0 0",
@@ -54,7 +60,10 @@ pub const BAD_LINES: [&str; 32] = [
     "lend ends 1",
     "lend out 62521",
     "lend watches 8",
+    "lend desks 8",
     "cell watches 8 1",
+    "cell desks 8 1",
+    "cell desk 0 1",
     "cell lower 1024 1",
     "cell upper 1024 1",
     "cell columns 6144 0",
@@ -77,7 +86,14 @@ pub enum Values {
     Extremes,
 }
 
-/// A list being made: its lines, and the model that has played them.
+/// The words that begin the calls which write changes.
+const CHANGING: [&str; 4] = ["quote", "preview", "watch", "pair"];
+
+/// The shares of the desks, as numbers of watches, that are just allowed, and some just over them.
+const FULL_SHARES: [(usize, usize); 3] = [(5, 3), (4, 4), (3, 5)];
+const OVER_SHARES: [(usize, usize); 7] = [(6, 0), (0, 6), (6, 2), (5, 4), (4, 5), (8, 0), (0, 8)];
+
+/// A list being made: its lines, and the model that has played them; of its watches so many in four are desk two's.
 pub struct List {
     r: Random,
     model: Model,
@@ -86,6 +102,7 @@ pub struct List {
     pub memory: u32,
     pub directions: u32,
     pub values: Values,
+    leaning: u64,
     steps: u32,
 }
 
@@ -108,9 +125,9 @@ impl List {
             5 | 6 => Values::Repeated(1 + r.below(6)),
             _ => Values::Few(1 + r.below(5)),
         };
-        let directions = r.below(1 << d) as u32;
-        let mut list =
-            List { r, model: Model::new(Plant::Nothing), lines: Vec::new(), d, memory, directions, values, steps: 0 };
+        let (directions, leaning) = (r.below(1 << d) as u32, r.below(5));
+        let (model, lines) = (Model::new(Plant::Nothing), Vec::new());
+        let mut list = List { r, model, lines, d, memory, directions, values, leaning, steps: 0 };
         list.lend_all();
         list.say("open 6 1024 0".into());
         list.say("head 0 0 0 0 0 0 0 0".into());
@@ -123,8 +140,13 @@ impl List {
         self.lines.push(line);
     }
 
+    /// A number below a bound.
+    pub fn below(&mut self, bound: u64) -> u64 {
+        self.r.below(bound)
+    }
+
     /// Yes once in so many times.
-    fn once_in(&mut self, times: u64) -> bool {
+    pub fn once_in(&mut self, times: u64) -> bool {
         self.r.below(times) == 0
     }
 
@@ -159,7 +181,7 @@ impl List {
     }
 
     /// A window size: mostly in range, sometimes at or beyond an edge.
-    fn window_size(&mut self) -> u32 {
+    pub fn window_size(&mut self) -> u32 {
         match self.r.below(16) {
             0 => 1,
             1 => self.memory,
@@ -186,18 +208,24 @@ impl List {
     }
 
     /// The line of a past look.
-    fn past(&mut self) -> String {
+    pub fn past(&mut self) -> String {
         let (n1, n2) = self.window_sizes();
         format!("past {n1} {n2}")
     }
 
     /// The line of a pair set; while one stands it is mostly ended instead.
-    fn pair(&mut self) -> String {
+    pub fn pair(&mut self) -> String {
         if self.has_pair() && !self.once_in(3) {
             return "unpair".into();
         }
         let (n1, n2) = self.window_sizes();
         format!("pair {n1} {n2}")
+    }
+
+    /// The line of a call on n by one of the desks.
+    fn by_desk(&mut self, word: &str) -> String {
+        let sign = if self.r.below(4) < self.leaning { "2" } else { "" };
+        format!("{word}{sign} {}", self.window_size())
     }
 
     /// The line of a quote, once in 30 with a column count of its own.
@@ -229,7 +257,7 @@ impl List {
     fn writing_call(&mut self) -> String {
         match self.r.below(9) {
             0 => format!("look {}", self.window_size()),
-            1 => format!("watch {}", self.window_size()),
+            1 => self.by_desk("watch"),
             2 => self.past(),
             3 => self.pair(),
             4 => "due".into(),
@@ -241,7 +269,7 @@ impl List {
     /// The line of some call other than an opening.
     fn any_call(&mut self) -> String {
         match self.r.below(12) {
-            0 => format!("end {}", self.window_size()),
+            0 => self.by_desk("end"),
             1 => "audit".into(),
             2 => "unpair".into(),
             _ => self.writing_call(),
@@ -337,21 +365,37 @@ impl List {
         self.say(format!("lend {name} {longest}"));
     }
 
-    /// How many bytes or cells the answer of a call has, were the output long enough.
-    pub fn answer_length(&self, call: &str) -> usize {
-        let mut trial = self.model.clone();
-        let mut print = String::new();
-        trial.lent.out = OUTPUT;
+    /// What a call would print, were so much output lent.
+    pub fn trial(&self, call: &str, out: usize) -> String {
+        let (mut trial, mut print) = (self.model.clone(), String::new());
+        trial.lent.out = out;
         trial.play(call, &mut print);
+        print
+    }
+
+    /// How many bytes or cells the answer of a call has, were the output long enough.
+    fn answer_length(&self, call: &str) -> usize {
+        let print = self.trial(call, OUTPUT);
         print.lines().find_map(|line| line.strip_prefix("X ")).map_or(0, |output| output.split(' ').count())
     }
 
-    /// A call with an output that is one too short, just long enough, or one longer.
+    /// How much output a call asks for: as much as always suffices if it writes changes, else as much as its answer has.
+    pub fn asked(&self, call: &str) -> usize {
+        if CHANGING.iter().any(|word| call.starts_with(word)) {
+            return CHANGE_BYTES;
+        }
+        self.answer_length(call)
+    }
+
+    /// A call with an output that is one too short, or less at times, just long enough, or one longer.
     pub fn tight_output(&mut self) {
         let call = self.writing_call();
-        let length = self.answer_length(&call);
+        let length = self.asked(&call);
         if length > 0 && !self.once_in(4) {
-            self.say(format!("lend out {}", length - 1));
+            let short = length - 1;
+            let shorter = self.one_of(&[0, short.min(57_400) as u32, short.min(self.answer_length(&call)) as u32]);
+            let less = if self.once_in(3) { shorter as usize } else { short };
+            self.say(format!("lend out {less}"));
             self.make(call.clone());
         }
         let more = usize::from(self.once_in(4) && length < OUTPUT);
@@ -363,12 +407,13 @@ impl List {
     /// A cell of a table or a record gets an odd value; after a call or two it is mostly put back.
     fn poke(&mut self) {
         let places = self.memory.min(PLACES as u32 - 2) + 2;
-        let (name, i) = match self.r.below(5) {
+        let (name, i) = match self.r.below(6) {
             0 => ("columns", self.between(0, places * self.d - 1)),
             1 => ("positions", self.between(0, places - 1)),
             2 => ("lower", self.between(0, places - 1)),
             3 => ("upper", self.between(0, places - 1)),
-            _ => ("watches", self.between(0, RECORDS as u32 - 1)),
+            4 => ("watches", self.between(0, RECORDS as u32 - 1)),
+            _ => ("desks", self.between(0, RECORDS as u32 - 1)),
         };
         let at = i as usize;
         let old = match name {
@@ -376,7 +421,8 @@ impl List {
             "positions" => self.model.positions[at],
             "lower" => self.model.lower[at],
             "upper" => self.model.upper[at],
-            _ => self.model.watches[at],
+            "watches" => self.model.watches[at].n,
+            _ => self.model.watches[at].desk,
         };
         let near = [old.wrapping_sub(1), old.wrapping_add(1), self.model.head.newest, 0, 1, u32::MAX];
         let value = self.one_of(&near);
@@ -415,8 +461,8 @@ impl List {
                 self.say(BAD_LINES[bad].into());
             }
             11..=16 => {
-                let n = self.window_size();
-                self.say(format!("watch {n}"));
+                let watch = self.by_desk("watch");
+                self.say(watch);
             }
             17 | 18 => {
                 let pair = self.pair();
@@ -445,16 +491,17 @@ impl List {
     }
 
     /// Odd values in some cells before anything is called, past N too.
-    fn litter(&mut self) {
+    pub fn litter(&mut self) {
         let places = self.memory.min(30) + 3;
         for _ in 0..self.r.below(12) {
             let value = self.one_of(&EDGES);
-            let line = match self.r.below(5) {
+            let line = match self.r.below(6) {
                 0 => format!("cell columns {} {value}", self.between(0, places * self.d)),
                 1 => format!("cell positions {} {value}", self.between(0, places)),
                 2 => format!("cell lower {} {value}", self.between(0, places)),
                 3 => format!("cell upper {} {value}", self.between(0, places)),
-                _ => format!("cell watches {} {value}", self.between(0, 7)),
+                4 => format!("cell watches {} {value}", self.between(0, 7)),
+                _ => format!("cell desks {} {value}", self.between(0, 7)),
             };
             self.say(line);
         }
@@ -538,15 +585,40 @@ impl List {
         self.paired(n1, n2);
     }
 
-    /// Some watches, rising and followed by empties.
-    fn made_up_watches(&mut self) {
-        let odds = 1 + self.r.below(4);
-        let most = self.memory;
-        let mut watched: Vec<u32> = (1..=most).filter(|_| self.r.below(5) < odds).take(RECORDS).collect();
-        watched.resize(RECORDS, 0);
-        for (i, n) in watched.into_iter().enumerate() {
-            self.say(format!("cell watches {i} {n}"));
+    /// A record with a place, n and a desk.
+    pub fn record(&mut self, i: usize, n: u32, desk: u32) {
+        self.say(format!("cell watches {i} {n}"));
+        self.say(format!("cell desks {i} {desk}"));
+    }
+
+    /// The records of the n that each desk watches, then empties.
+    pub fn records(&mut self, one: &[u32], two: &[u32]) {
+        let watches = one.iter().map(|&n| (n, 1)).chain(two.iter().map(|&n| (n, 2)));
+        let watches: Vec<(u32, u32)> = watches.chain([(0, 0); RECORDS]).take(RECORDS).collect();
+        for (i, (n, desk)) in watches.into_iter().enumerate() {
+            self.record(i, n, desk);
         }
+    }
+
+    /// Some n within N, rising, no more than so many.
+    fn some_watched(&mut self, most: usize) -> Vec<u32> {
+        let (odds, memory) = (1 + self.r.below(5), self.memory);
+        (1..=memory).filter(|_| self.r.below(5) < odds).take(most).collect()
+    }
+
+    /// Some watches of each desk, within their shares, and empties behind them.
+    fn made_up_watches(&mut self) {
+        let (one, two) = FULL_SHARES[self.r.below(3) as usize];
+        let (one, two) = (self.some_watched(one), self.some_watched(two));
+        self.records(&one, &two);
+    }
+
+    /// Watches over the shares of the desks, as far as N has numbers for them, otherwise in order.
+    fn over_shares(&mut self) {
+        let (one, two) = OVER_SHARES[self.r.below(7) as usize];
+        let watched = |count: usize| (1..=self.memory).take(count).collect::<Vec<_>>();
+        let (one, two) = (watched(one), watched(two));
+        self.records(&one, &two);
     }
 
     /// Tears head or rows in one of the ways that the papers name.
@@ -640,25 +712,38 @@ impl List {
 
     /// Tears the watches in one of the ways that the papers name.
     fn tear_watches(&mut self) {
-        let i = self.between(0, 6);
-        match self.r.below(4) {
-            0 => {
-                let n = self.model.watches[i as usize].max(1);
-                self.say(format!("cell watches {i} {n}"));
-                self.say(format!("cell watches {} {n}", i + 1));
+        let (i, memory) = (self.r.below(7) as usize, self.memory);
+        let (n, desk) = (self.between(1, memory), self.between(1, 2));
+        let empty = self.model.watches.iter().position(|watch| watch.desk == 0).unwrap_or(7);
+        let standing = self.r.below(empty as u64 + 1) as usize;
+        match self.r.below(9) {
+            0 => self.over_shares(),
+            1 => self.records(&[n, n], &[]),
+            2 => self.records(&[], &[n, n]),
+            3 => self.record(empty, memory + 1, desk),
+            4 => self.record(empty, 0, desk),
+            5 => self.record(standing, n, 0),
+            6 => {
+                let odd = self.one_of(&[3, 4, 256, u32::MAX]);
+                self.record(standing, n, odd);
             }
-            1 => {
-                self.say(format!("cell watches {i} 0"));
-                self.say(format!("cell watches {} {}", i + 1, self.memory));
+            7 => {
+                self.record(i, 0, 0);
+                self.record(i + 1, n, desk);
             }
-            2 => {
-                let at = self.model.watches.iter().position(|&n| n == 0).unwrap_or(7);
-                self.say(format!("cell watches {at} {}", self.memory + 1));
-            }
-            _ => {
-                self.say(format!("cell watches {i} 2"));
-                self.say(format!("cell watches {} 1", i + 1));
-            }
+            _ => self.disorder(i),
+        }
+    }
+
+    /// Two records in the wrong order: desk two's before desk one's, or the higher n of a desk before the lower.
+    fn disorder(&mut self, i: usize) {
+        let (n, desk) = (self.between(1, self.memory), self.between(1, 2));
+        if self.once_in(2) {
+            self.record(i, n, 2);
+            self.record(i + 1, n, 1);
+        } else {
+            self.record(i, n + 1, desk);
+            self.record(i + 1, n, desk);
         }
     }
 
@@ -674,7 +759,7 @@ impl List {
             1 => self.tear_pair(),
             _ => self.tear_rows(),
         }
-        for word in ["look", "watch", "end"] {
+        for word in ["look", "watch", "end", "watch2", "end2"] {
             let n = self.window_size();
             self.say(format!("{word} {n}"));
         }

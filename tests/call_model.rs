@@ -10,8 +10,14 @@ pub const RECORDS: usize = 8;
 pub const MOST_COLUMNS: u32 = 6;
 pub const LARGEST_MEMORY: u32 = 1_024;
 pub const LAST_POSITION: u32 = 16_777_215;
-const LEAVES: u8 = 32;
-const JOINS: u8 = 33;
+/// How many bytes of output every call that writes changes asks for.
+pub const CHANGE_BYTES: usize = 62_520;
+/// How many watches each desk is sure of, and how many more the two share.
+const SURE: usize = 3;
+const LEFT_OVER: usize = 2;
+/// The kinds of leaves and joins, desk one's and desk two's.
+const LEAVES: [u8; 2] = [32, 34];
+const JOINS: [u8; 2] = [33, 35];
 const PAIR_LEAVES: u8 = 36;
 const PAIR_JOINS: u8 = 37;
 
@@ -64,6 +70,18 @@ pub enum Plant {
     EqualsStay,
     /// Of equal quotes the earlier one beats the later.
     EarlierStands,
+    /// 9 is said only where eight watches stand.
+    NineAtEight,
+    /// Watches over the shares of the desks are not torn.
+    SharesFree,
+    /// A call that writes changes is refused with 13 only where they do not fit.
+    ThirteenFits,
+    /// The changes of desk two stand before those of desk one.
+    DeskTwoFirst,
+    /// A watch of desk two is judged by the n that desk one watches.
+    Watch2ByOne,
+    /// An ended watch leaves its desk in the record that becomes empty.
+    DeskLeft,
 }
 
 /// The head of a book; the pair is n1 and n2, 0 and 0 when it is unset.
@@ -76,6 +94,13 @@ pub struct Head {
     pub live: u32,
     pub held: u32,
     pub pair: (u32, u32),
+}
+
+/// A watch record: n and the desk, 1 or 2; 0 and 0 when it is empty.
+#[derive(Clone, Copy, Default, PartialEq)]
+pub struct Record {
+    pub n: u32,
+    pub desk: u32,
 }
 
 /// How much of each buffer is lent to the calls.
@@ -112,7 +137,7 @@ pub struct Model {
     pub positions: Vec<u32>,
     pub lower: Vec<u32>,
     pub upper: Vec<u32>,
-    pub watches: [u32; RECORDS],
+    pub watches: [Record; RECORDS],
     pub lent: Lent,
     lines: usize,
 }
@@ -149,10 +174,10 @@ fn changes(leaves: &[u8], joins: &[u8], before: &[u32], after: &[u32]) -> Vec<u3
     left.chain(joined).map(u32::from).collect()
 }
 
-/// The frames of the changes from one list of n to another.
-fn plain_changes(n: u32, before: &[u32], after: &[u32]) -> Vec<u32> {
-    let [low, high, ..] = n.to_le_bytes();
-    changes(&[LEAVES, low, high], &[JOINS, low, high], before, after)
+/// The frames of the changes of a desk's watch from one list of n to another.
+fn watch_changes(desk: u32, n: u32, before: &[u32], after: &[u32]) -> Vec<u32> {
+    let ([low, high, ..], i) = (n.to_le_bytes(), desk as usize - 1);
+    changes(&[LEAVES[i], low, high], &[JOINS[i], low, high], before, after)
 }
 
 /// The frames of the changes from one list of the pair to another.
@@ -173,6 +198,20 @@ fn pair_list(rows: &[Row], newest: u32, pair: (u32, u32)) -> Vec<u32> {
     }
 }
 
+/// The records of the n that each desk watches: desk one's, then desk two's, then empties.
+fn records_of(one: &[u32], two: &[u32]) -> [Record; RECORDS] {
+    let ones = one.iter().map(|&n| Record { n, desk: 1 });
+    let twos = two.iter().map(|&n| Record { n, desk: 2 });
+    let mut records = [Record::default(); RECORDS];
+    records.iter_mut().zip(ones.chain(twos)).for_each(|(record, watch)| *record = watch);
+    records
+}
+
+/// How many watches the desks have above 3 each.
+fn above_sure(one: &[u32], two: &[u32]) -> usize {
+    one.len().saturating_sub(SURE) + two.len().saturating_sub(SURE)
+}
+
 impl Model {
     /// A model whose buffers are zeros and wholly lent.
     pub fn new(plant: Plant) -> Model {
@@ -183,7 +222,7 @@ impl Model {
             positions: vec![0; PLACES],
             lower: vec![0; PLACES],
             upper: vec![0; PLACES],
-            watches: [0; RECORDS],
+            watches: records_of(&[], &[]),
             lent: Lent { columns: COLUMN_CELLS, positions: PLACES, lower: PLACES, upper: PLACES, out: OUTPUT },
             lines: 0,
         }
@@ -265,18 +304,29 @@ impl Model {
         (n1, n2) != (0, 0) && (n1 < 2 || n1 > n2 || n2 > self.head.memory)
     }
 
-    /// Whether the watches are not rising, not ending in empties, or above N.
+    /// Whether the records are anything but desk one's watches, then desk two's, each rising within 1 to N, then empties;
+    /// or over the shares of the desks.
     fn torn_watches(&self) -> bool {
-        let standing = self.standing();
-        let rising = standing.windows(2).all(|pair| pair[0] < pair[1]);
-        let empties = self.watches[standing.len()..].iter().all(|&n| n == 0);
-        let inside = standing.iter().all(|&n| n <= self.head.memory);
-        !(rising && empties && inside)
+        let (one, two) = (self.standing(1), self.standing(2));
+        let rising = |watched: &[u32]| watched.windows(2).all(|pair| pair[0] < pair[1]);
+        let inside = |watched: &[u32]| watched.iter().all(|&n| 1 <= n && n <= self.head.memory);
+        let arranged = self.watches == records_of(&one, &two);
+        let shared = above_sure(&one, &two) <= LEFT_OVER || self.plant == Plant::SharesFree;
+        !(arranged && rising(&one) && rising(&two) && inside(&one) && inside(&two) && shared)
     }
 
-    /// The watched n, up to the first empty record.
-    fn standing(&self) -> Vec<u32> {
-        self.watches.iter().copied().take_while(|&n| n != 0).collect()
+    /// The n of the records of a desk.
+    fn standing(&self, desk: u32) -> Vec<u32> {
+        self.watches.iter().filter(|record| record.desk == desk).map(|record| record.n).collect()
+    }
+
+    /// 9 of a plain watch: the desk has 3 or more, and what the desks have above 3 each comes to 2.
+    fn full(&self, desk: u32) -> bool {
+        let (one, two) = (self.standing(1), self.standing(2));
+        if self.plant == Plant::NineAtEight {
+            return one.len() + two.len() == RECORDS;
+        }
+        self.standing(desk).len() >= SURE && above_sure(&one, &two) >= LEFT_OVER
     }
 
     /// The refusals that a call on the book begins with: 3, 11, 12; a look is lent no watches.
@@ -316,6 +366,14 @@ impl Model {
         Ok(answer)
     }
 
+    /// The answer of a call that writes changes, or 13 if the output is below what always suffices.
+    fn with_room(&self, answer: Vec<u32>) -> Result<Vec<u32>, u32> {
+        if self.lent.out < CHANGE_BYTES && self.plant != Plant::ThirteenFits {
+            return Err(13);
+        }
+        self.fitting(answer)
+    }
+
     /// An opening: 3, 11; else a new book.
     fn open(&mut self, d: u32, memory: u32, directions: u32) -> Result<Vec<u32>, u32> {
         if !settings_hold(d, memory, directions) {
@@ -326,7 +384,7 @@ impl Model {
         }
         self.head = Head { d, memory, directions, ..Head::default() };
         self.store(&[]);
-        self.watches = [0; RECORDS];
+        self.watches = records_of(&[], &[]);
         Ok(Vec::new())
     }
 
@@ -390,19 +448,21 @@ impl Model {
         rows
     }
 
-    /// The changes that a quote brings: those of each watch, n rising, then those of the pair.
+    /// The changes that a quote brings: those of desk one's watches, n rising, then desk two's, then those of the pair.
     fn changes_to(&self, after: &[Row]) -> Vec<u32> {
         let (before, newest, pair) = (self.rows(), self.head.newest + 1, self.head.pair);
         let list = |n: u32| listed(&before, self.start(n));
-        let change = |n: u32| plain_changes(n, &list(n), &listed(after, start_of(newest, n)));
-        let plain: Vec<u32> = self.standing().into_iter().flat_map(change).collect();
+        let change = |desk: u32, n: u32| watch_changes(desk, n, &list(n), &listed(after, start_of(newest, n)));
+        let of_desk = |desk: u32| self.standing(desk).into_iter().flat_map(|n| change(desk, n)).collect::<Vec<_>>();
+        let (one, two) = (of_desk(1), of_desk(2));
         let early = u32::from(self.plant == Plant::PairEnd && pair != (0, 0));
         let pair_after = pair_list(after, newest, (pair.0 + early, pair.1));
         let pairs = pair_changes(&pair_list(&before, self.head.newest, pair), &pair_after);
-        if self.plant == Plant::PairFirst {
-            return [pairs, plain].concat();
+        match self.plant {
+            Plant::PairFirst => [pairs, one, two].concat(),
+            Plant::DeskTwoFirst => [two, one, pairs].concat(),
+            _ => [one, two, pairs].concat(),
         }
-        [plain, pairs].concat()
     }
 
     /// A quote: 3, 11, 12, 4, 6, 13; else its row and the changes of each watch and of the pair.
@@ -415,7 +475,7 @@ impl Model {
             return Err(6);
         }
         let after = self.rows_after(quote);
-        let answer = self.fitting(self.changes_to(&after))?;
+        let answer = self.with_room(self.changes_to(&after))?;
         let live = after.iter().filter(|row| row.upper == 0).count() as u32;
         self.head = Head { newest: self.head.newest + 1, live, held: after.len() as u32, ..self.head };
         self.store(&after);
@@ -484,7 +544,7 @@ impl Model {
         if stands {
             return Err(9);
         }
-        let answer = self.fitting(pair_changes(&[], &past_list(&self.rows(), self.head.newest, n1, n2)))?;
+        let answer = self.with_room(pair_changes(&[], &past_list(&self.rows(), self.head.newest, n1, n2)))?;
         self.head.pair = (n1, n2);
         Ok(answer)
     }
@@ -516,41 +576,49 @@ impl Model {
         self.fitting(due.flat_map(|row| [row.position, row.position + n1 - 1 - self.head.newest]).collect())
     }
 
-    /// A watch: 3, 11, 12, 5, 8, 9, 13; else n is added, and its joins are the answer.
-    fn watch(&mut self, n: u32) -> Result<Vec<u32>, u32> {
+    /// A watch of a desk: 3, 11, 12, 5, 8, 9, 13; else n is added, and its joins are the answer.
+    fn watch(&mut self, desk: u32, n: u32) -> Result<Vec<u32>, u32> {
         self.judged(true)?;
         self.in_memory(n)?;
-        let mut standing = self.standing();
-        if standing.contains(&n) {
+        let judged = if self.plant == Plant::Watch2ByOne { 1 } else { desk };
+        if self.standing(judged).contains(&n) {
             return Err(8);
         }
-        if standing.len() == RECORDS {
+        if self.full(desk) {
             return Err(9);
         }
-        let answer = self.fitting(plain_changes(n, &[], &listed(&self.rows(), self.start(n))))?;
+        let answer = self.with_room(watch_changes(desk, n, &[], &listed(&self.rows(), self.start(n))))?;
+        let mut standing = self.standing(desk);
         standing.push(n);
         standing.sort_unstable();
-        self.set_watches(&standing);
+        self.set_watches(desk, standing);
         Ok(answer)
     }
 
-    /// An end: 3, 11, 12, 5, 10; else n is dropped.
-    fn end(&mut self, n: u32) -> Result<Vec<u32>, u32> {
+    /// An end of a desk: 3, 11, 12, 5, 10; else n is dropped.
+    fn end(&mut self, desk: u32, n: u32) -> Result<Vec<u32>, u32> {
         self.judged(true)?;
         self.in_memory(n)?;
-        let mut standing = self.standing();
+        let mut standing = self.standing(desk);
         if !standing.contains(&n) {
             return Err(10);
         }
         standing.retain(|&watched| watched != n);
-        self.set_watches(&standing);
+        let last = self.watches.iter().rposition(|record| record.desk != 0).unwrap_or(0);
+        let left = self.watches[last].desk;
+        self.set_watches(desk, standing);
+        if self.plant == Plant::DeskLeft {
+            self.watches[last].desk = left;
+        }
         Ok(Vec::new())
     }
 
-    /// The watched n into the records, empties behind them.
-    fn set_watches(&mut self, standing: &[u32]) {
-        self.watches = [0; RECORDS];
-        self.watches[..standing.len()].copy_from_slice(standing);
+    /// The n that a desk watches into the records, with those of the other desk, empties behind them.
+    fn set_watches(&mut self, desk: u32, standing: Vec<u32>) {
+        self.watches = match desk {
+            1 => records_of(&standing, &self.standing(2)),
+            _ => records_of(&self.standing(1), &standing),
+        };
     }
 
     /// The audit: 3, 11; else whether some tape leaves these rows, by the plain rules: not torn, both ends of every row
@@ -607,7 +675,8 @@ impl Model {
         line_of("P", &self.positions[..places], print);
         line_of("E", &self.lower[..places], print);
         line_of("U", &self.upper[..places], print);
-        line_of("W", &self.watches, print);
+        line_of("W", &self.watches.map(|record| record.n), print);
+        line_of("D", &self.watches.map(|record| record.desk), print);
     }
 
     /// Lends another length of a buffer; none if the buffer has no such length.
@@ -629,15 +698,17 @@ impl Model {
 
     /// Pokes a cell of a table or a record; none if there is no such cell.
     fn cell(&mut self, name: &str, i: u32, value: u32) -> Option<()> {
-        let cells = match name {
-            "columns" => &mut self.columns[..],
-            "positions" => &mut self.positions[..],
-            "lower" => &mut self.lower[..],
-            "upper" => &mut self.upper[..],
-            "watches" => &mut self.watches[..],
+        let i = i as usize;
+        let cell = match name {
+            "columns" => self.columns.get_mut(i)?,
+            "positions" => self.positions.get_mut(i)?,
+            "lower" => self.lower.get_mut(i)?,
+            "upper" => self.upper.get_mut(i)?,
+            "watches" => &mut self.watches.get_mut(i)?.n,
+            "desks" => &mut self.watches.get_mut(i)?.desk,
             _ => return None,
         };
-        *cells.get_mut(i as usize)? = value;
+        *cell = value;
         Some(())
     }
 
@@ -651,8 +722,10 @@ impl Model {
             ("pair", &[n1, n2]) => self.pair(n1, n2),
             ("unpair", &[]) => self.unpair(),
             ("due", &[]) => self.due(),
-            ("watch", &[n]) => self.watch(n),
-            ("end", &[n]) => self.end(n),
+            ("watch", &[n]) => self.watch(1, n),
+            ("end", &[n]) => self.end(1, n),
+            ("watch2", &[n]) => self.watch(2, n),
+            ("end2", &[n]) => self.end(2, n),
             _ => return None,
         };
         let refused_opening = word == "open" && answer.is_err();

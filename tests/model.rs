@@ -6,6 +6,11 @@ use std::ops::RangeInclusive;
 const LAST_POSITION: usize = 16_777_215;
 const LARGEST_MEMORY: u16 = 1_024;
 const RECORDS: usize = 8;
+/// How many watches each desk is sure of, and how many more the two share.
+const SURE: usize = 3;
+const LEFT_OVER: usize = 2;
+/// What stands behind the sign of a line, for each desk.
+const SIGNS: [&str; 2] = ["", "2"];
 
 /// A wrong reading of the rules that can be planted in the model, to show that a comparison with it fails.
 #[derive(Clone, Copy, PartialEq)]
@@ -32,10 +37,38 @@ pub enum Plant {
     NineFirst,
     /// The pair's list after a quote ends where the one before it did.
     PairEnd,
+    /// 9 is said only where eight watches stand.
+    NineAtEight,
+    /// The changes of desk two stand before those of desk one.
+    DeskTwoFirst,
+    /// A watch of desk two is judged by the n that desk one watches.
+    Watch2ByOne,
 }
 
-/// What the model holds: the settings, every quote accepted since they were taken, the watched n, rising, and the watched pair of n1
-/// and n2.
+/// Which numbers of watches the two desks had at some time, and how often each got 9 while fewer than eight stood.
+#[derive(Default)]
+pub struct Shares {
+    pub stood: [[bool; RECORDS + 1]; RECORDS + 1],
+    pub early_nines: [usize; 2],
+}
+
+impl Shares {
+    /// Whether the desks may have so many watches: what they have above 3 each is no more than the 2 left over.
+    pub fn allowed(one: usize, two: usize) -> bool {
+        one.saturating_sub(SURE) + two.saturating_sub(SURE) <= LEFT_OVER
+    }
+
+    /// Adds what another has seen.
+    pub fn add(&mut self, other: &Shares) {
+        for (row, more) in self.stood.iter_mut().zip(other.stood) {
+            row.iter_mut().zip(more).for_each(|(stood, more)| *stood |= more);
+        }
+        self.early_nines.iter_mut().zip(other.early_nines).for_each(|(sum, more)| *sum += more);
+    }
+}
+
+/// What the model holds: the settings, every quote accepted since they were taken, the n that each desk watches, rising, and the
+/// watched pair of n1 and n2.
 struct Model {
     plant: Plant,
     opened: bool,
@@ -43,14 +76,25 @@ struct Model {
     memory: usize,
     directions: u8,
     quotes: Vec<[u32; 6]>,
-    watched: Vec<u16>,
+    watched: [Vec<u16>; 2],
     pair: Option<(u16, u16)>,
+    shares: Shares,
 }
 
 impl Model {
     /// A model before any opening.
     fn new(plant: Plant) -> Model {
-        Model { plant, opened: false, d: 0, memory: 0, directions: 0, quotes: Vec::new(), watched: Vec::new(), pair: None }
+        Model {
+            plant,
+            opened: false,
+            d: 0,
+            memory: 0,
+            directions: 0,
+            quotes: Vec::new(),
+            watched: [Vec::new(), Vec::new()],
+            pair: None,
+            shares: Shares::default(),
+        }
     }
 
     /// Whether value x is better than value y in column i.
@@ -146,6 +190,7 @@ impl Model {
         self.d = d.into();
         self.memory = memory.into();
         self.directions = directions;
+        self.note_shares();
         writeln!(print, "O {d} {memory} {directions}").unwrap();
     }
 
@@ -160,19 +205,37 @@ impl Model {
         if self.quotes.len() >= LAST_POSITION {
             return refuse(6, print);
         }
-        let before: Vec<_> = self.watched.iter().map(|&n| self.list(n.into())).collect();
+        let before = self.watched_lists();
         let pair_before = self.pair_list(0);
         let mut quote = [0; 6];
         quote[..self.d].copy_from_slice(columns);
         self.quotes.push(quote);
         writeln!(print, "Q {} {}", self.quotes.len(), self.rows().len()).unwrap();
-        let (mut plain, mut pairs) = (String::new(), String::new());
-        for (&n, before) in self.watched.iter().zip(&before) {
-            plain_changes(n, before, &self.list(n.into()), &mut plain);
+        let [one, two] = self.plain_changes(&before);
+        let (early, mut pair) = (usize::from(self.plant == Plant::PairEnd), String::new());
+        changes("--", "++", &pair_before, &self.pair_list(early), &mut pair);
+        *print += &match self.plant {
+            Plant::PairFirst => pair + &one + &two,
+            Plant::DeskTwoFirst => two + &one + &pair,
+            _ => one + &two + &pair,
+        };
+    }
+
+    /// The lists that each desk watches, n rising.
+    fn watched_lists(&self) -> [Vec<Vec<usize>>; 2] {
+        let lists = |desk: usize| self.watched[desk].iter().map(|&n| self.list(n.into())).collect();
+        [lists(0), lists(1)]
+    }
+
+    /// The changes of each desk's watches, n rising, from their lists before to those now.
+    fn plain_changes(&self, before: &[Vec<Vec<usize>>; 2]) -> [String; 2] {
+        let mut prints = [String::new(), String::new()];
+        for (desk, now) in self.watched_lists().iter().enumerate() {
+            for ((&n, before), now) in self.watched[desk].iter().zip(&before[desk]).zip(now) {
+                watch_changes(desk, n, before, now, &mut prints[desk]);
+            }
         }
-        let early = usize::from(self.plant == Plant::PairEnd);
-        changes("--", "++", &pair_before, &self.pair_list(early), &mut pairs);
-        *print += &if self.plant == Plant::PairFirst { pairs + &plain } else { plain + &pairs };
+        prints
     }
 
     /// The past list of the watched pair, or the one that ends so many positions earlier; nothing where no pair stands.
@@ -224,33 +287,51 @@ impl Model {
         print.push('\n');
     }
 
-    /// A watch of n set, with its joins.
-    fn watch(&mut self, n: u16, print: &mut String) {
-        if let Some(number) = self.refusal(n) {
-            return refuse(number, print);
+    /// Whether a desk has no watch free: it has 3 or more, and what the desks have above 3 each comes to 2.
+    fn full(&self, desk: usize) -> bool {
+        let [one, two] = [self.watched[0].len(), self.watched[1].len()];
+        if self.plant == Plant::NineAtEight {
+            return one + two == RECORDS;
         }
-        if self.watched.contains(&n) {
-            return refuse(8, print);
-        }
-        if self.watched.len() == RECORDS {
-            return refuse(9, print);
-        }
-        writeln!(print, "W {n}").unwrap();
-        plain_changes(n, &[], &self.list(n.into()), print);
-        self.watched.push(n);
-        self.watched.sort_unstable();
+        self.watched[desk].len() >= SURE && one.saturating_sub(SURE) + two.saturating_sub(SURE) == LEFT_OVER
     }
 
-    /// The watch of n ended.
-    fn end(&mut self, n: u16, print: &mut String) {
+    /// A watch of n set for a desk, with its joins.
+    fn watch(&mut self, desk: usize, n: u16, print: &mut String) {
         if let Some(number) = self.refusal(n) {
             return refuse(number, print);
         }
-        if !self.watched.contains(&n) {
+        let judged = if self.plant == Plant::Watch2ByOne { 0 } else { desk };
+        if self.watched[judged].contains(&n) {
+            return refuse(8, print);
+        }
+        if self.full(desk) {
+            self.shares.early_nines[desk] += usize::from(self.watched.concat().len() < RECORDS);
+            return refuse(9, print);
+        }
+        writeln!(print, "W{} {n}", SIGNS[desk]).unwrap();
+        watch_changes(desk, n, &[], &self.list(n.into()), print);
+        self.watched[desk].push(n);
+        self.watched[desk].sort_unstable();
+        self.note_shares();
+    }
+
+    /// Notes how many watches each desk has.
+    fn note_shares(&mut self) {
+        self.shares.stood[self.watched[0].len()][self.watched[1].len()] = true;
+    }
+
+    /// The watch of n ended for a desk.
+    fn end(&mut self, desk: usize, n: u16, print: &mut String) {
+        if let Some(number) = self.refusal(n) {
+            return refuse(number, print);
+        }
+        if !self.watched[desk].contains(&n) {
             return refuse(10, print);
         }
-        self.watched.retain(|&w| w != n);
-        writeln!(print, "U {n}").unwrap();
+        self.watched[desk].retain(|&w| w != n);
+        self.note_shares();
+        writeln!(print, "U{} {n}", SIGNS[desk]).unwrap();
     }
 
     /// A watch of the pair of n1 and n2 set, with its joins.
@@ -290,8 +371,10 @@ impl Model {
                 self.quote(&cells.collect::<Vec<_>>(), print);
             }
             16 => self.look(n(), print),
-            17 => self.watch(n(), print),
-            18 => self.end(n(), print),
+            17 => self.watch(0, n(), print),
+            18 => self.end(0, n(), print),
+            19 => self.watch(1, n(), print),
+            20 => self.end(1, n(), print),
             21 => self.set_pair(n(), n2(), print),
             22 => self.end_pair(print),
             23 => self.past(n(), n2(), print),
@@ -311,9 +394,10 @@ fn changes(leaves: &str, joins: &str, before: &[usize], after: &[usize], print: 
     }
 }
 
-/// The changes from one list of n to another.
-fn plain_changes(n: u16, before: &[usize], after: &[usize], print: &mut String) {
-    changes(&format!("- {n}"), &format!("+ {n}"), before, after, print);
+/// The changes of a desk's watch from one list of n to another.
+fn watch_changes(desk: usize, n: u16, before: &[usize], after: &[usize], print: &mut String) {
+    let sign = SIGNS[desk];
+    changes(&format!("-{sign} {n}"), &format!("+{sign} {n}"), before, after, print);
 }
 
 /// The line of a refusal.
@@ -325,31 +409,36 @@ fn refuse(number: u8, print: &mut String) {
 fn body_length(kind: u8) -> Option<usize> {
     match kind {
         1..=6 => Some(4 * usize::from(kind)),
-        16..=18 => Some(2),
+        16..=20 => Some(2),
         22 => Some(0),
         21 | 23 | 36 | 37 | 48 => Some(4),
-        32 | 33 => Some(6),
+        32..=35 => Some(6),
         _ => None,
     }
 }
 
-/// The print of a tape: its frames played in turn, up to its end or the first unknown or cut frame.
-pub fn print_of(tape: &[u8], plant: Plant) -> String {
+/// The print of a tape: its frames played in turn, up to its end or the first unknown or cut frame; and the shares seen.
+pub fn played(tape: &[u8], plant: Plant) -> (String, Shares) {
     let mut model = Model::new(plant);
     let mut print = String::new();
     let mut rest = tape;
     while let Some((&kind, behind)) = rest.split_first() {
         let Some(length) = body_length(kind) else {
             refuse(1, &mut print);
-            return print;
+            break;
         };
         if behind.len() < length {
             refuse(2, &mut print);
-            return print;
+            break;
         }
         let (body, next) = behind.split_at(length);
         model.play(kind, body, &mut print);
         rest = next;
     }
-    print
+    (print, model.shares)
+}
+
+/// The print of a tape alone.
+pub fn print_of(tape: &[u8], plant: Plant) -> String {
+    played(tape, plant).0
 }

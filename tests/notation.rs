@@ -38,6 +38,8 @@ fn frame_of(line: &str) -> Option<Vec<u8>> {
         ("E", 1) => frame.push(22),
         ("L", 2) => frame = [&[16], &n(1)?.to_le_bytes()[..]].concat(),
         ("U", 2) => frame = [&[18], &n(1)?.to_le_bytes()[..]].concat(),
+        ("W2", 2) => frame = [&[19], &n(1)?.to_le_bytes()[..]].concat(),
+        ("U2", 2) => frame = [&[20], &n(1)?.to_le_bytes()[..]].concat(),
         _ => return None,
     }
     Some(frame)
@@ -72,10 +74,13 @@ fn any_number(r: &mut Random) -> u64 {
 
 /// A line that may say a frame.
 fn any_line(r: &mut Random) -> Vec<u8> {
-    let right = [("O", 3), ("Q", 1 + r.below(6)), ("L", 1), ("P", 2), ("W", 1), ("U", 1), ("B", 2), ("E", 0)];
+    let watches = [("W", 1), ("U", 1), ("W2", 1), ("U2", 1)];
+    let right = [("O", 3), ("Q", 1 + r.below(6)), ("Q", 1 + r.below(6)), ("L", 1), ("P", 2), ("B", 2), ("E", 0)];
     let any = [("O", r.below(5)), ("Q", r.below(9)), ("P", r.below(4)), ("B", r.below(4)), ("E", r.below(2)), ("R", 1)];
-    let (letter, count) = if r.below(3) == 0 { any[r.below(6) as usize] } else { right[r.below(8) as usize] };
-    let mut line = letter.to_string();
+    let odd = [("W2", r.below(3)), ("U2", r.below(3)), ("W1", 1), ("U3", 1), ("L2", 1), ("W22", 1), ("2", 1)];
+    let words = [&watches[..], &right, &right, &any, &odd][r.below(5) as usize];
+    let (word, count) = words[r.below(words.len() as u64) as usize];
+    let mut line = word.to_string();
     for _ in 0..count {
         line += &format!(" {}", any_number(r));
     }
@@ -85,7 +90,7 @@ fn any_line(r: &mut Random) -> Vec<u8> {
 /// Changes a line here and there: a byte dropped, doubled, put in or replaced, or the whole line repeated until it is long.
 fn spoil(r: &mut Random, line: &mut Vec<u8>) {
     let at = r.below(line.len() as u64) as usize;
-    let odd = *b" \t\r0+-,.oq\0\xff".get(r.below(12) as usize).unwrap();
+    let odd = *b" \t\r02+-,.oq\0\xff".get(r.below(13) as usize).unwrap();
     match r.below(6) {
         0 => drop(line.remove(at)),
         1 => line.insert(at, line[at]),

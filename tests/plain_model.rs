@@ -12,18 +12,18 @@ mod piped;
 mod random;
 mod random_tapes;
 
-use model::{print_of, Plant};
+use model::{played, print_of, Plant, Shares};
 use std::io::Read;
 use std::sync::atomic::{AtomicBool, AtomicUsize, Ordering};
 use std::time::Instant;
 
 const THREADS: usize = 2;
 /// The words that lines begin with.
-const WORDS: [&str; 13] = ["O", "Q", "L", "P", "W", "U", "B", "E", "-", "+", "--", "++", "R"];
+const WORDS: [&str; 17] = ["O", "Q", "L", "P", "W", "U", "W2", "U2", "B", "E", "-", "+", "-2", "+2", "--", "++", "R"];
 /// The refusals that a tape of some quotes can bring; 6 asks for 16,777,215 of them.
 const REFUSALS: [usize; 10] = [1, 2, 3, 4, 5, 7, 8, 9, 10, 14];
 /// The planted bugs by name.
-const PLANTS: [(&str, Plant); 10] = [
+const PLANTS: [(&str, Plant); 13] = [
     ("equals-stay", Plant::EqualsStay),
     ("earlier-stands", Plant::EarlierStands),
     ("oldest", Plant::Oldest),
@@ -34,6 +34,9 @@ const PLANTS: [(&str, Plant); 10] = [
     ("pair-first", Plant::PairFirst),
     ("nine-first", Plant::NineFirst),
     ("pair-end", Plant::PairEnd),
+    ("nine-at-eight", Plant::NineAtEight),
+    ("desk-two-first", Plant::DeskTwoFirst),
+    ("watch2-by-one", Plant::Watch2ByOne),
 ];
 
 /// What is compared: the printer and the model with a planted bug or none, on the tapes of a seed; the label names failing tapes.
@@ -44,13 +47,15 @@ struct Comparison {
     label: String,
 }
 
-/// How many tapes were printed alike and how many not, and how often each word and each refusal stood in the model's print.
+/// How many tapes were printed alike and how many not, how often each word and each refusal stood in the model's print, and the shares
+/// of the desks that it saw.
 #[derive(Default)]
 struct Tally {
     alike: usize,
     unlike: usize,
     words: [usize; WORDS.len()],
     refusals: [usize; 15],
+    shares: Shares,
 }
 
 impl Tally {
@@ -75,17 +80,29 @@ impl Tally {
         for (sum, more) in self.refusals.iter_mut().zip(other.refusals) {
             *sum += more;
         }
+        self.shares.add(&other.shares);
     }
 
-    /// Says how often each word and each refusal came, and whether every one did.
+    /// Whether the desks had every number of watches that they may have, and each got 9 while fewer than eight stood.
+    fn covers_shares(&self) -> bool {
+        let counts = || (0..=8).flat_map(|one| (0..=8).map(move |two| (one, two)));
+        let allowed = counts().filter(|&(one, two)| Shares::allowed(one, two)).count();
+        let stood = counts().filter(|&(one, two)| self.shares.stood[one][two]).count();
+        let [one, two] = self.shares.early_nines;
+        println!("plain_model: {stood} of {allowed} shares of the desks stood; 9 below eight: desk one {one}, desk two {two} times");
+        stood == allowed && one > 0 && two > 0
+    }
+
+    /// Says how often each word and each refusal came, and whether every one did, and every share.
     fn covers(&self) -> bool {
         let refusals: Vec<_> = REFUSALS.iter().map(|&number| (number, self.refusals[number])).collect();
         let said: Vec<_> = WORDS.iter().zip(self.words).map(|(word, times)| format!("{word} {times}")).collect();
         let refused: Vec<_> = refusals.iter().map(|(number, times)| format!("R {number} {times}")).collect();
         println!("plain_model: lines printed: {}; of them {}", said.join(", "), refused.join(", "));
-        let covered = self.words.iter().all(|&times| times > 0) && refusals.iter().all(|&(_, times)| times > 0);
+        let lines = self.words.iter().all(|&times| times > 0) && refusals.iter().all(|&(_, times)| times > 0);
+        let covered = self.covers_shares() && lines;
         if !covered {
-            eprintln!("plain_model: a word or a refusal never came: more tapes are needed");
+            eprintln!("plain_model: a word, a refusal or a share never came: more tapes are needed");
         }
         covered
     }
@@ -105,8 +122,9 @@ fn report(name: &str, tape: &[u8], want: &str, got: &[u8]) {
 impl Comparison {
     /// Compares printer and model on one tape.
     fn compare(&self, name: &str, tape: &[u8], tally: &mut Tally) -> bool {
-        let want = print_of(tape, self.plant);
+        let (want, shares) = played(tape, self.plant);
         tally.count(&want);
+        tally.shares.add(&shares);
         let (got, well) = piped::printed(&self.printer, tape);
         let alike = got == want.as_bytes() && well;
         if alike {

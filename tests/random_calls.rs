@@ -4,8 +4,8 @@
 //! usage: random_calls [--plant NAME] PLAYER [SEED [LISTS]]
 //!            compare the player with the model, or with a model that has a bug planted, on random lists
 //!        random_calls [--plant NAME] --rules
-//!            compare the model's audit, lists and due rows with every tape of small settings, and its previews with
-//!            its quotes
+//!            compare the model's audit, lists and due rows with every tape of small settings, its previews with its
+//!            quotes, and what one desk sees of lists that differ in all that does not concern it
 //!        random_calls --play < CALLS
 //!            play a list by the model alone
 
@@ -14,6 +14,7 @@ mod call_lists;
 mod call_model;
 mod definitions;
 mod due_rules;
+mod isolation_rules;
 mod piped;
 mod preview_rules;
 mod random;
@@ -32,7 +33,7 @@ const BATCH: usize = 100;
 /// How many lines before a difference are shown; the whole list is saved.
 const SHOWN: usize = 20;
 /// The planted bugs by name.
-const PLANTS: [(&str, Plant); 22] = [
+const PLANTS: [(&str, Plant); 28] = [
     ("renamed", Plant::Renamed),
     ("torn-first", Plant::TornFirst),
     ("past-memory", Plant::PastMemory),
@@ -55,9 +56,15 @@ const PLANTS: [(&str, Plant); 22] = [
     ("preview-head", Plant::PreviewHead),
     ("equals-stay", Plant::EqualsStay),
     ("earlier-stands", Plant::EarlierStands),
+    ("nine-at-eight", Plant::NineAtEight),
+    ("shares-free", Plant::SharesFree),
+    ("thirteen-fits", Plant::ThirteenFits),
+    ("desk-two-first", Plant::DeskTwoFirst),
+    ("watch2-by-one", Plant::Watch2ByOne),
+    ("desk-left", Plant::DeskLeft),
 ];
 /// The answers that each call can give and that have to come; a quote directly behind its preview is counted by itself.
-const ANSWERS: [(&str, &[&str]); 12] = [
+const ANSWERS: [(&str, &[&str]); 14] = [
     ("open", &["0", "3", "11"]),
     ("quote", &["0", "3", "11", "12", "4", "6", "13"]),
     ("preview", &["0", "3", "11", "12", "4", "6", "13"]),
@@ -66,6 +73,8 @@ const ANSWERS: [(&str, &[&str]); 12] = [
     ("past", &["0", "3", "11", "12", "5", "14", "13"]),
     ("watch", &["0", "3", "11", "12", "5", "8", "9", "13"]),
     ("end", &["0", "3", "11", "12", "5", "10"]),
+    ("watch2", &["0", "3", "11", "12", "5", "8", "9", "13"]),
+    ("end2", &["0", "3", "11", "12", "5", "10"]),
     ("pair", &["0", "3", "11", "12", "5", "14", "9", "13"]),
     ("unpair", &["0", "3", "11", "12", "10"]),
     ("due", &["0", "3", "11", "12", "13"]),
@@ -224,6 +233,10 @@ fn compare_all(comparison: &Comparison, seed: u64, lists: usize) -> bool {
     if total.unlike == 0 {
         total.add(comparison.run("random", lists, |i| call_lists::random_list(seed, i as u64)));
     }
+    if total.unlike == 0 {
+        let isolated = |i: usize| isolation_rules::isolated_lists(seed, i as u64 / 2).1[i % 2].clone();
+        total.add(comparison.run("isolated", lists / 10, isolated));
+    }
     total.unlike == 0 && total.covers()
 }
 
@@ -260,7 +273,8 @@ fn main() {
     let start = Instant::now();
     check_examples();
     let right = if arguments.next_if_eq("--rules").is_some() {
-        audit_rules::hold(plant) && due_rules::hold(plant) && preview_rules::hold(plant)
+        let windows = audit_rules::hold(plant) && due_rules::hold(plant);
+        windows && preview_rules::hold(plant) && isolation_rules::hold(plant)
     } else {
         let player = arguments.next().expect("usage: random_calls [--plant NAME] PLAYER [SEED [LISTS]]");
         let seed: u64 = arguments.next().map_or(1, |s| s.parse().expect("a seed"));

@@ -3,6 +3,9 @@
 use crate::frames;
 use crate::random::Random;
 
+/// The kinds of a watch and of its end, desk one's and desk two's.
+const WATCH: [u8; 2] = [17, 19];
+const END: [u8; 2] = [18, 20];
 /// How many pairs of a column count and a directions byte are in range.
 const SETTINGS: u64 = 2 + 4 + 8 + 16 + 32 + 64;
 
@@ -25,13 +28,15 @@ enum Values {
     Crossing,
 }
 
-/// What a tape's frames are drawn by: the settings, the sort of values, and how often a watch or its end comes.
+/// What a tape's frames are drawn by: the settings, the sort of values, how often a watch or its end comes, and how many in four of
+/// these are desk two's.
 struct Style {
     d: u8,
     memory: u16,
     directions: u8,
     values: Values,
     watching: u64,
+    leaning: u64,
 }
 
 impl Style {
@@ -54,7 +59,7 @@ impl Style {
             5..=7 => Values::Repeated(1 + r.below(6)),
             _ => Values::Few(1 + r.below(5)),
         };
-        Style { d, memory, directions, values, watching: [1, 2, 12][r.below(3) as usize] }
+        Style { d, memory, directions, values, watching: [1, 2, 12][r.below(3) as usize], leaning: r.below(5) }
     }
 
     /// A value of column i at a step of the tape.
@@ -96,6 +101,13 @@ impl Style {
             4 | 5 => (1 + r.below(self.memory.into()) as u16, self.memory),
             _ => (one.min(other), one.max(other)),
         }
+    }
+
+    /// A watch of one of the desks set, or ended.
+    fn watch(&self, r: &mut Random, tape: &mut Vec<u8>) {
+        let two = r.below(4) < self.leaning;
+        let kind = if r.below(3) == 0 { END } else { WATCH };
+        numbered(tape, kind[usize::from(two)], self.window_size(r));
     }
 
     /// A look at a past list.
@@ -149,8 +161,7 @@ impl Style {
             5 if r.below(3) == 0 => change(r, tape),
             6..=8 => self.past_look(r, tape),
             9 | 10 => self.pair(r, tape),
-            24.. if r.below(3) == 0 => end(tape, self.window_size(r)),
-            24.. => frames::watch(tape, self.window_size(r)),
+            24.. => self.watch(r, tape),
             _ => self.quote(r, step, tape),
         }
     }
@@ -179,10 +190,15 @@ fn settings(number: u64) -> (u8, u8) {
     (d, rest as u8)
 }
 
+/// A frame whose body is n.
+fn numbered(tape: &mut Vec<u8>, kind: u8, n: u16) {
+    tape.push(kind);
+    tape.extend(n.to_le_bytes());
+}
+
 /// A look at the list of n.
 fn look(tape: &mut Vec<u8>, n: u16) {
-    tape.push(16);
-    tape.extend(n.to_le_bytes());
+    numbered(tape, 16, n);
 }
 
 /// A look at the past list of n1 and n2.
@@ -199,16 +215,10 @@ fn set_pair(tape: &mut Vec<u8>, n1: u16, n2: u16) {
     tape.extend(n2.to_le_bytes());
 }
 
-/// The end of the watch of n.
-fn end(tape: &mut Vec<u8>, n: u16) {
-    tape.push(18);
-    tape.extend(n.to_le_bytes());
-}
-
 /// A change frame, which no played tape may hold.
 fn change(r: &mut Random, tape: &mut Vec<u8>) {
     match r.below(2) {
-        0 => tape.extend([32 + r.below(2) as u8, 1, 0, 1, 0, 0, 0]),
+        0 => tape.extend([32 + r.below(4) as u8, 1, 0, 1, 0, 0, 0]),
         _ => tape.extend([36 + r.below(2) as u8, 1, 0, 0, 0]),
     }
 }
@@ -277,9 +287,9 @@ fn random_bodies(r: &mut Random, index: u64) -> Vec<u8> {
     let mut tape = Vec::new();
     style.open(&mut tape);
     for _ in 0..r.below(30) {
-        let looks = [(16, 2), (17, 2), (18, 2), (21, 4), (22, 0), (23, 4)];
-        let others = [(style.d, 4 * style.d), (32, 6), (33, 6), (36, 4), (37, 4), (48, 4)];
-        let (kind, length) = [looks, others][r.below(2) as usize][r.below(6) as usize];
+        let looks = [(16, 2), (17, 2), (18, 2), (19, 2), (20, 2), (21, 4), (22, 0), (23, 4)];
+        let others = [(style.d, 4 * style.d), (32, 6), (33, 6), (34, 6), (35, 6), (36, 4), (37, 4), (48, 4)];
+        let (kind, length) = [looks, others][r.below(2) as usize][r.below(8) as usize];
         tape.push(kind);
         tape.extend((0..length).map(|_| (r.next() as u8) >> r.below(9).min(7)).collect::<Vec<_>>());
     }
@@ -319,17 +329,19 @@ pub fn flipped_tape(seed: u64, index: u64) -> Vec<u8> {
 
 /// A short tape with a frame of every known kind for a column count.
 fn tape_of_every_kind(r: &mut Random, d: u8) -> Vec<u8> {
-    let style = Style { d, memory: 4, directions: 0, values: Values::Few(3), watching: 4 };
+    let style = Style { d, memory: 4, directions: 0, values: Values::Few(3), watching: 4, leaning: 2 };
     let mut tape = Vec::new();
     style.open(&mut tape);
     for n in [2, 4] {
         style.quote(r, 0, &mut tape);
-        frames::watch(&mut tape, n);
+        numbered(&mut tape, WATCH[0], n);
+        numbered(&mut tape, WATCH[1], n);
         look(&mut tape, n);
     }
     style.steps(r, 0, 12, &mut tape);
     change(r, &mut tape);
-    end(&mut tape, 2);
+    numbered(&mut tape, END[0], 2);
+    numbered(&mut tape, END[1], 2);
     set_pair(&mut tape, 2, 3);
     style.quote(r, 0, &mut tape);
     tape.push(22);
@@ -424,16 +436,75 @@ fn pair_refusals() -> (Vec<u8>, &'static str) {
     (tape, print)
 }
 
-/// The tapes that are worked out by hand, with their prints.
-pub fn examples() -> Vec<(Vec<u8>, &'static str)> {
-    vec![worked_example(), renewed_example(), past_example(), pair_example(), pair_refusals()]
+/// A tape on which each desk has its share, gets 9 beyond it, and gives a watch back; and its print.
+fn shares_example() -> (Vec<u8>, &'static str) {
+    let mut tape = Vec::new();
+    frames::open(&mut tape, 1, 8, 0);
+    let taken = [(17, 1), (17, 2), (17, 3), (17, 4), (17, 5), (17, 6), (19, 1), (19, 2), (19, 3), (19, 4)];
+    let given_back = [(18, 5), (19, 4), (17, 5), (19, 5), (20, 1), (17, 5), (19, 1)];
+    for (kind, n) in taken.into_iter().chain(given_back) {
+        numbered(&mut tape, kind, n);
+    }
+    let print = "O 1 8 0\nW 1\nW 2\nW 3\nW 4\nW 5\nR 9\nW2 1\nW2 2\nW2 3\nR 9\nU 5\nW2 4\nR 9\nR 9\nU2 1\nW 5\nR 9\n";
+    (tape, print)
 }
 
-/// The worked tapes, tapes cut at every byte, for every column count, and every kind byte before bodies of several lengths, alone and
-/// behind an opening.
+/// A tape on which both desks watch the same n beside a pair, with each refusal of desk two; and its print.
+fn desks_example() -> (Vec<u8>, &'static str) {
+    let mut tape = vec![19, 1, 0, 20, 1, 0];
+    frames::open(&mut tape, 1, 4, 0);
+    frames::quote(&mut tape, &[5]);
+    for (kind, n) in [(19, 2), (17, 2), (19, 1)] {
+        numbered(&mut tape, kind, n);
+    }
+    set_pair(&mut tape, 2, 3);
+    frames::quote(&mut tape, &[7]);
+    frames::quote(&mut tape, &[6]);
+    numbered(&mut tape, 20, 2);
+    frames::quote(&mut tape, &[4]);
+    for (kind, n) in [(18, 2), (18, 2), (20, 2), (19, 1), (19, 0), (19, 5), (20, 0), (20, 5)] {
+        numbered(&mut tape, kind, n);
+    }
+    tape.extend([34, 1, 0, 1, 0, 0, 0, 35, 1, 0, 1, 0, 0, 0]);
+    let print = "R 7\nR 7\nO 1 4 0\nQ 1 1\nW2 2\n+2 2 1\nW 2\n+ 2 1\nW2 1\n+2 1 1\nB 2 3\nQ 2 2\n-2 1 1\n+2 1 2\n++ 1\n\
+                 Q 3 2\n- 2 1\n+ 2 3\n-2 1 2\n+2 1 3\n-2 2 1\n+2 2 3\nU2 2\nQ 4 1\n- 2 3\n+ 2 4\n-2 1 3\n+2 1 4\n-- 1\n++ 3\n\
+                 U 2\nR 10\nR 10\nR 8\nR 5\nR 5\nR 5\nR 5\nR 7\nR 7\n";
+    (tape, print)
+}
+
+/// A tape on which the desks take so many watches, by turns, then try one more each, take a quote, and give some back.
+fn tape_of_shares(one: u16, two: u16) -> Vec<u8> {
+    let mut tape = Vec::new();
+    frames::open(&mut tape, 1, 9, 0);
+    for n in 1..=one.max(two) + 1 {
+        for (desk, count) in [one, two].into_iter().enumerate() {
+            if n <= count {
+                numbered(&mut tape, WATCH[desk], (2 * n + one) % 9 + 1);
+            }
+        }
+    }
+    for desk in [0, 1] {
+        numbered(&mut tape, WATCH[desk], one % 9 + 1);
+        frames::quote(&mut tape, &[u32::from(one + two)]);
+        numbered(&mut tape, END[desk], (4 + one) % 9 + 1);
+        numbered(&mut tape, WATCH[1 - desk], (one + 1) % 9 + 1);
+    }
+    tape
+}
+
+/// The tapes that are worked out by hand, with their prints.
+pub fn examples() -> Vec<(Vec<u8>, &'static str)> {
+    let pairs = [past_example(), pair_example(), pair_refusals()];
+    let desks = [shares_example(), desks_example()];
+    [worked_example(), renewed_example()].into_iter().chain(pairs).chain(desks).collect()
+}
+
+/// The worked tapes, tapes on which the desks take any numbers of watches, tapes cut at every byte, for every column count, and every
+/// kind byte before bodies of several lengths, alone and behind an opening.
 pub fn edge_tapes(seed: u64) -> Vec<Vec<u8>> {
     let mut tapes = vec![Vec::new()];
     tapes.extend(examples().into_iter().map(|(tape, _)| tape));
+    tapes.extend((0..=6).flat_map(|one| (0..=6).map(move |two| tape_of_shares(one, two))));
     for d in 1..=6 {
         let whole = tape_of_every_kind(&mut Random::new(seed, d), d as u8);
         tapes.extend((0..=whole.len()).map(|keep| whole[..keep].to_vec()));

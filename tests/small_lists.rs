@@ -1,9 +1,12 @@
-//! Small lists of calls that go through settings, n, pairs of n, counts of watches, lengths of tables and untorn books
+//! Small lists of calls that go through settings, n, pairs of n, shares of the desks, lengths of tables and untorn books
 //! one by one, and bring the longest answers; and some that are worked out by hand.
 
 use crate::call_lists::{List, Values, BAD_LINES};
 use crate::call_model::OUTPUT;
 use crate::random::Random;
+
+/// What `show` says of eight empty records.
+const EMPTIES: &str = "W 0 0 0 0 0 0 0 0\nD 0 0 0 0 0 0 0 0\n";
 
 /// A list with the settings given, after the lines that every list begins with.
 fn small_list(d: u32, memory: u32, directions: u32) -> List {
@@ -36,12 +39,12 @@ fn every_pair(list: &mut List) {
     list.say("due".into());
 }
 
-/// After each of some quotes every n from 0 to N + 1 is looked at, watched, and its watch ended, every past list looked
-/// at, every pair set and ended, and the next quote previewed.
+/// After each of some quotes every n from 0 to N + 1 is looked at, watched by each desk, and its watches ended, every past
+/// list looked at, every pair set and ended, and the next quote previewed.
 fn every_window(d: u32, memory: u32, directions: u32) -> Vec<String> {
     let mut list = small_list(d, memory, directions);
     for _ in 0..memory + 3 {
-        for word in ["look", "watch", "end"] {
+        for word in ["look", "watch", "watch2", "end", "end2"] {
             for n in 0..=memory + 1 {
                 list.say(format!("{word} {n}"));
             }
@@ -50,6 +53,7 @@ fn every_window(d: u32, memory: u32, directions: u32) -> Vec<String> {
         every_pair(&mut list);
         list.say("audit".into());
         list.say(format!("watch {memory}"));
+        list.say("watch2 1".into());
         list.tight_output();
         let quote = list.quote();
         list.previewed(quote.trim_start_matches("quote"));
@@ -57,19 +61,46 @@ fn every_window(d: u32, memory: u32, directions: u32) -> Vec<String> {
     list.lines
 }
 
-/// Watches set up to a count and one more, a quote under them, and each ended, in an order that differs with the count.
-fn every_count(count: u32) -> Vec<String> {
+/// Watches set by turns, up to a number for each desk, and one more of each; a quote under them; and each ended, in an
+/// order that differs with the numbers.
+fn every_share(one: u32, two: u32) -> Vec<String> {
     let mut list = small_list(2, 12, 1);
-    for i in 0..count {
-        list.say(format!("watch {}", 1 + (5 * i + count) % 12));
+    let n = |i: u32, count: u32| 1 + (5 * i + count) % 12;
+    for i in 0..=one.max(two) {
+        for (word, count) in [("watch", one), ("watch2", two)] {
+            if i <= count {
+                list.say(format!("{word} {}", n(i, count)));
+            }
+        }
         list.say("quote 3 4".into());
         list.tight_output();
         list.say("show".into());
     }
     for i in 0..12 {
-        list.say(format!("end {}", 1 + (7 * i + count) % 12));
+        for (word, count) in [("end", one), ("end2", two)] {
+            list.say(format!("{word} {}", 1 + (7 * i + count) % 12));
+        }
+        list.say("show".into());
+        list.say("quote 4 3".into());
+    }
+    list.lines
+}
+
+/// So many watches of each desk poked into the records, as far as the eight hold them, and every call under them: those
+/// over the shares are torn.
+fn any_shares(one: u32, two: u32) -> Vec<String> {
+    let mut list = small_list(1, 8, 0);
+    list.say("quote 5".into());
+    let (ones, twos): (Vec<u32>, Vec<u32>) = ((1..=one).collect(), (1..=two).collect());
+    for call in ["look 1", "due", "watch 8", "watch2 8", "watch 1", "watch2 1", "end 1", "end2 1", "pair 2 2", "unpair"]
+    {
+        list.records(&ones, &twos);
+        list.say(call.into());
         list.say("show".into());
     }
+    list.records(&ones, &twos);
+    list.previewed(" 4");
+    list.say("audit".into());
     list.lines
 }
 
@@ -81,7 +112,10 @@ fn every_loan(d: u32, memory: u32) -> Vec<String> {
     for (name, asked) in [("columns", memory * d), ("positions", memory), ("lower", memory), ("upper", memory)] {
         for length in [asked - 1, asked] {
             list.say(format!("lend {name} {length}"));
-            for call in ["look 1", "past 1 1", "watch 1", "end 1", "pair 2 2", "due", "unpair", "audit"] {
+            for call in ["look 1", "past 1 1", "pair 2 2", "due", "unpair", "audit"] {
+                list.say(call.into());
+            }
+            for call in ["watch 1", "watch2 1", "end 1", "end2 1"] {
                 list.say(call.into());
             }
             list.previewed(&zeros(d));
@@ -132,7 +166,9 @@ fn any_pairs(memory: u32) -> Vec<String> {
     }
     let most = memory + 2;
     for (n1, n2) in (0..=most).flat_map(|n1| (0..=most).map(move |n2| (n1, n2))) {
-        for call in ["look 1", "past 1 1", "watch 1", "end 1", "pair 2 2", "unpair", "due", "audit"] {
+        for call in
+            ["look 1", "past 1 1", "watch 1", "end 1", "watch2 1", "end2 1", "pair 2 2", "unpair", "due", "audit"]
+        {
             list.paired(n1, n2);
             list.say(call.into());
         }
@@ -143,8 +179,9 @@ fn any_pairs(memory: u32) -> Vec<String> {
     list.lines
 }
 
-/// 1,024 quotes of which none beats another, and all but the oldest are due; then eight watches and another pair, a quote
-/// that beats them all and its equal, and the list before it; each call first with an output one byte or cell too short.
+/// 1,024 quotes of which none beats another, and all but the oldest are due; then eight watches of both desks and another
+/// pair, a quote that beats them all and its equal, and the list before it; each call first with an output one byte or
+/// cell too short.
 fn longest_answers() -> Vec<String> {
     let mut list = small_list(2, 1_024, 0);
     for value in 1..=1_024 {
@@ -154,8 +191,10 @@ fn longest_answers() -> Vec<String> {
     say_tightly(&mut list, "due");
     list.say("unpair".into());
     list.say("pair 2 1024".into());
-    for n in 1_017..=1_024 {
-        list.say(format!("watch {n}"));
+    for (word, first) in [("watch", 1_020), ("watch2", 1_022)] {
+        for n in first..=1_024 {
+            say_tightly(&mut list, &format!("{word} {n}"));
+        }
     }
     for call in ["preview 1 1", "quote 1 1", "preview 1 1", "quote 1 1", "due", "past 2 1024"] {
         say_tightly(&mut list, call);
@@ -165,9 +204,9 @@ fn longest_answers() -> Vec<String> {
     list.lines
 }
 
-/// A call with an output one too short for its answer, and with one that is just long enough.
+/// A call with an output one too short, and with one that is just long enough.
 fn say_tightly(list: &mut List, call: &str) {
-    let length = list.answer_length(call);
+    let length = list.asked(call);
     for less in [1, 0] {
         list.say(format!("lend out {}", length - less));
         list.say(call.into());
@@ -215,8 +254,8 @@ fn every_ends(start: u32, newest: u32) -> Vec<Vec<(u32, u32)>> {
 }
 
 /// An untorn book of one column with M and the ends of its rows given, each row beating the next quote, equal to it or
-/// beaten by it, as a number to the base 3 says, under three watches and a pair or none; two equal quotes on it, each
-/// previewed, with what they leave, what is due, and every past list.
+/// beaten by it, as a number to the base 3 says, under watches of both desks and a pair or none; two equal quotes on it,
+/// each previewed, with what they leave, what is due, and every past list.
 fn untorn_book(newest: u32, ends: &[(u32, u32)], values: u32, pair: (u32, u32)) -> Vec<String> {
     let mut list = small_list(1, 3, 0);
     let start = newest + 1 - ends.len() as u32;
@@ -226,7 +265,7 @@ fn untorn_book(newest: u32, ends: &[(u32, u32)], values: u32, pair: (u32, u32)) 
     let live = ends.iter().filter(|&&(_, upper)| upper == 0).count() as u32;
     list.head(newest, live, ends.len() as u32);
     list.paired(pair.0, pair.1);
-    for call in ["watch 1", "watch 2", "watch 3", "audit", "due"] {
+    for call in ["watch2 3", "watch2 1", "watch 1", "watch 2", "watch 3", "audit", "due"] {
         list.say(call.into());
     }
     for _ in 0..2 {
@@ -299,8 +338,9 @@ fn past_example() -> (Vec<String>, String) {
     lines.extend(["show", "audit", "past 2 5"].map(String::from));
     let counts = ["1 1 1", "2 2 2", "3 2 3", "4 3 4", "5 3 5", "6 4 5", "7 4 5", "8 3 5"];
     let quotes: String = counts.iter().map(|counts| format!("A 0 0 2 5 0 {counts} 0 0\n")).collect();
-    let tables = "C 7 2 4 4 6 6 2 9 4 3\nP 4 5 6 7 8\nE 0 0 5 0 0\nU 0 8 8 0 0\nW 0 0 0 0 0 0 0 0\nV yes\n";
-    (lines, format!("A 0 0 2 5 0 0 0 0 0 0\n{quotes}{tables}A 0 3 2 5 0 8 3 5 0 0\nX 4 5 7\n"))
+    let tables = "C 7 2 4 4 6 6 2 9 4 3\nP 4 5 6 7 8\nE 0 0 5 0 0\nU 0 8 8 0 0\n";
+    let behind = format!("{EMPTIES}V yes\nA 0 3 2 5 0 8 3 5 0 0\nX 4 5 7\n");
+    (lines, format!("A 0 0 2 5 0 0 0 0 0 0\n{quotes}{tables}{behind}"))
 }
 
 /// A pair of 3 and 5 on a book of six: what each quote writes, and what is due before the first and after each.
@@ -330,13 +370,13 @@ fn due_example() -> (Vec<String>, String) {
 /// short and just long enough; a preview leaves the book as it was.
 fn preview_example() -> (Vec<String>, String) {
     let before = ["preview 1", "open 2 5 0", "quote 5 5", "quote 3 8", "watch 2", "preview 4 4", "show", "quote 4 4"];
-    let calls = ["preview 7", "lend out 13", "preview 2 9", "lend out 14", "preview 2 9", "lend out 62520"];
+    let calls = ["preview 7", "lend out 62519", "preview 2 9", "lend out 62520", "preview 2 9"];
     let lines = before.iter().chain(&calls).map(|line| line.to_string()).collect();
     let print = "A 3 0 0 0 0 0 0 0 0 0\nN 0 0\n\
                  A 0 0 2 5 0 0 0 0 0 0\nA 0 0 2 5 0 1 1 1 0 0\nA 0 0 2 5 0 2 2 2 0 0\n\
                  A 0 14 2 5 0 2 2 2 0 0\nX 33 2 0 1 0 0 0 33 2 0 2 0 0 0\n\
                  A 0 14 2 5 0 2 2 2 0 0\nX 32 2 0 1 0 0 0 33 2 0 3 0 0 0\nN 2 3\n\
-                 C 5 5 3 8 0 0 0 0 0 0\nP 1 2 0 0 0\nE 0 0 0 0 0\nU 0 0 0 0 0\nW 2 0 0 0 0 0 0 0\n\
+                 C 5 5 3 8 0 0 0 0 0 0\nP 1 2 0 0 0\nE 0 0 0 0 0\nU 0 0 0 0 0\nW 2 0 0 0 0 0 0 0\nD 1 0 0 0 0 0 0 0\n\
                  A 0 14 2 5 0 3 2 3 0 0\nX 32 2 0 1 0 0 0 33 2 0 3 0 0 0\n\
                  A 4 0 2 5 0 3 2 3 0 0\nN 2 3\nA 13 0 2 5 0 3 2 3 0 0\nN 2 3\n\
                  A 0 14 2 5 0 3 2 3 0 0\nX 32 2 0 2 0 0 0 33 2 0 4 0 0 0\nN 3 4\n";
@@ -362,17 +402,74 @@ fn renewed_example() -> (Vec<String>, String) {
     let made_up =
         ["cell upper 0 0", "head 1 3 0 2 2 2 0 0", "audit", "preview 7", "quote 7", "show", "look 3", "past 2 3"];
     let lines = left.iter().chain(&made_up).map(|line| line.to_string()).collect();
-    let print = "A 0 0 1 3 0 0 0 0 0 0\nA 0 0 1 3 0 1 1 1 0 0\nA 0 0 1 3 0 2 1 2 0 0\n\
-                 C 7 7 0\nP 1 2 0\nE 0 0 0\nU 2 0 0\nW 0 0 0 0 0 0 0 0\nV yes\nV no\nV no\n\
-                 A 0 0 1 3 0 2 2 2 0 0\nN 1 3\nA 0 0 1 3 0 3 1 3 0 0\n\
-                 C 7 7 7\nP 1 2 3\nE 0 0 0\nU 3 3 0\nW 0 0 0 0 0 0 0 0\n\
-                 A 0 1 1 3 0 3 1 3 0 0\nX 3\nA 0 2 1 3 0 3 1 3 0 0\nX 1 2\n";
+    let renewed = "A 0 0 1 3 0 0 0 0 0 0\nA 0 0 1 3 0 1 1 1 0 0\nA 0 0 1 3 0 2 1 2 0 0\n\
+                   C 7 7 0\nP 1 2 0\nE 0 0 0\nU 2 0 0\n";
+    let again = "V yes\nV no\nV no\nA 0 0 1 3 0 2 2 2 0 0\nN 1 3\nA 0 0 1 3 0 3 1 3 0 0\n\
+                 C 7 7 7\nP 1 2 3\nE 0 0 0\nU 3 3 0\n";
+    let looks = "A 0 1 1 3 0 3 1 3 0 0\nX 3\nA 0 2 1 3 0 3 1 3 0 0\nX 1 2\n";
+    (lines, format!("{renewed}{EMPTIES}{again}{EMPTIES}{looks}"))
+}
+
+/// Both desks on one n beside a pair: the records, the changes of a quote in their order, an ended watch, and outputs of
+/// 62,519 and 62,520 bytes, for a quote that writes nothing too.
+fn desks_example() -> (Vec<String>, String) {
+    let opened = ["open 1 4 0", "lend out 62519", "quote 5", "lend out 62520", "quote 5"];
+    let set = ["watch2 2", "watch 2", "watch2 1", "pair 2 3", "watch2 2", "quote 7", "show"];
+    let calls = ["lend out 62519", "watch 3", "end2 1", "lend out 62520", "quote 6", "end 2", "show", "end 2"];
+    let lines = opened.iter().chain(&set).chain(&calls).map(|line| line.to_string()).collect();
+    let print = "A 0 0 1 4 0 0 0 0 0 0\nA 13 0 1 4 0 0 0 0 0 0\nA 0 0 1 4 0 1 1 1 0 0\n\
+                 A 0 7 1 4 0 1 1 1 0 0\nX 35 2 0 1 0 0 0\nA 0 7 1 4 0 1 1 1 0 0\nX 33 2 0 1 0 0 0\n\
+                 A 0 7 1 4 0 1 1 1 0 0\nX 35 1 0 1 0 0 0\nA 0 0 1 4 0 1 1 1 2 3\nA 8 0 1 4 0 1 1 1 2 3\n\
+                 A 0 19 1 4 0 2 2 2 2 3\nX 34 1 0 1 0 0 0 35 1 0 2 0 0 0 37 1 0 0 0\n\
+                 C 5 7 0 0\nP 1 2 0 0\nE 0 1 0 0\nU 0 0 0 0\nW 2 1 2 0 0 0 0 0\nD 1 2 2 0 0 0 0 0\n\
+                 A 13 0 1 4 0 2 2 2 2 3\nA 0 0 1 4 0 2 2 2 2 3\n\
+                 A 0 28 1 4 0 3 2 3 2 3\nX 32 2 0 1 0 0 0 33 2 0 3 0 0 0 34 2 0 1 0 0 0 35 2 0 3 0 0 0\n\
+                 A 0 0 1 4 0 3 2 3 2 3\n\
+                 C 5 7 6 0\nP 1 2 3 0\nE 0 1 1 0\nU 0 3 0 0\nW 2 0 0 0 0 0 0 0\nD 2 0 0 0 0 0 0 0\n\
+                 A 10 0 1 4 0 3 2 3 2 3\n";
     (lines, print.into())
+}
+
+/// Arrangements of the records, n and desk of each in turn, and the answer that desk one's end of 1 gets: 12 where they
+/// are torn.
+const ARRANGEMENTS: [(&[(u32, u32)], u32); 15] = [
+    (&[(0, 1)], 12),
+    (&[(5, 0)], 12),
+    (&[(5, 3)], 12),
+    (&[(0, 2), (1, 2)], 12),
+    (&[(1, 2), (2, 1)], 12),
+    (&[(2, 1), (2, 1)], 12),
+    (&[(3, 2), (3, 2)], 12),
+    (&[(2, 1), (1, 1)], 12),
+    (&[(1, 1), (0, 0), (2, 1)], 12),
+    (&[(1, 1), (7, 2)], 12),
+    (&[(1, 1), (2, 1), (3, 1), (4, 1), (5, 1), (6, 1)], 12),
+    (&[(1, 1), (1, 2), (2, 2), (3, 2), (4, 2), (5, 2), (6, 2)], 12),
+    (&[(1, 1), (2, 1), (3, 1), (4, 1), (5, 1), (1, 2), (2, 2), (3, 2)], 0),
+    (&[(1, 1), (2, 1), (3, 1), (4, 1), (1, 2), (2, 2), (3, 2), (4, 2)], 0),
+    (&[(6, 1), (1, 2), (2, 2), (3, 2), (4, 2), (5, 2)], 10),
+];
+
+/// Each of these arrangements in the records, and that end.
+fn torn_example() -> (Vec<String>, String) {
+    let mut list = small_list(1, 6, 0);
+    let mut print = String::new();
+    list.lines = vec!["open 1 6 0".into()];
+    for (watches, answer) in ARRANGEMENTS {
+        list.records(&[], &[]);
+        for (i, &(n, desk)) in watches.iter().enumerate() {
+            list.record(i, n, desk);
+        }
+        list.say("end 1".into());
+        print += &format!("A {answer} 0 1 6 0 0 0 0 0 0\n");
+    }
+    (list.lines, "A 0 0 1 6 0 0 0 0 0 0\n".to_string() + &print)
 }
 
 /// The lists that are worked out by hand, with their prints.
 pub fn examples() -> Vec<(Vec<String>, String)> {
-    vec![past_example(), due_example(), preview_example(), marked_example(), renewed_example()]
+    let windows = [past_example(), due_example(), preview_example(), marked_example(), renewed_example()];
+    windows.into_iter().chain([desks_example(), torn_example()]).collect()
 }
 
 /// All small lists, and one of every sort of line that cannot be taken.
@@ -385,7 +482,8 @@ pub fn small_lists() -> Vec<Vec<String>> {
         }
     }
     lists.push(every_loan(6, 1_024));
-    lists.extend((0..=9).map(every_count));
+    lists.extend((0..=6).flat_map(|one| (0..=6).map(move |two| every_share(one, two))));
+    lists.extend((0..=8).flat_map(|one| (0..=8 - one).map(move |two| any_shares(one, two))));
     lists.push(BAD_LINES.iter().map(|line| line.to_string()).collect());
     lists.push(longest_answers());
     lists.push(marked_audits());

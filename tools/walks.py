@@ -289,7 +289,7 @@ def shared_walk(name):
           "  abbrev to : List ℕ → Val → Callee 𝓤 H A mem run .Ghost",
           f"  to r u = ((lives, {nest(w.lifetimes('q', lives))}, tt, asked r, {nest([pick(n, 'u ∷ []', 'vint w64 (length ys) ∷ []', w.value) for n in order])}), tt)", "",
           "  abbrev Passed : List ℕ → Val → Fml",
-          f"  Passed r u = owns ({' ∷ '.join([pick(n, 'Array u32 8', 'usize', w.owned) for n in order] + ['[]'])}) (asked r) (to r u .0 .4)", "",
+          f"  Passed r u = owns ({' ∷ '.join([pick(n, 'Array u64 8', 'usize', w.owned) for n in order] + ['[]'])}) (asked r) (to r u .0 .4)", "",
           "  goes : (r : List ℕ) (u : Val) → ent 𝓤 (sep 𝓤 (mean 𝓤 H A Tokens) (sem 𝓤 H A (Passed r u))) (Callee 𝓤 H A mem run .pre (to r u))",
           "  goes r u = qed W (Tokens ∷ ‵ (Passed r u) ∷ []) ∵ join ! $ frame ! $ nothing ! $ done !", "",
           "  abbrev Ends : Type 0", "  Ends = " + product(["List ℕ" if n in w.kept else "Unit {0}" for n in order]), "",
@@ -306,13 +306,13 @@ def shared_walk(name):
     off = k + len(w.params) + 1
     here = w.place(w.local["records"], off)
     w.add(f"        {at(k - records, k + 2 + w.names[::-1].index('records'))} $ calls-numbers ! fm mem run known-numbers κ{low(records)} q{low(records)} b o ys γ {w.operands([here])} (λ u r is e.",
-          f"        land ! (from ! (stop !)) (init ! {w.place(before, off)} refl (array-typed u32 (uint-lawful 𝓤 H A W w32 .typed) 8 r _ is .0)) $",
+          f"        land ! (from ! (stop !)) (init ! {w.place(before, off)} refl (array-typed u64 (uint-lawful 𝓤 H A W w64 .typed) 8 r _ is .0)) $",
           f"        assigns ! (of-opd ! (load ! (from ! (fld ! refl (stop !))) (look-in ! {here} (sub ! 1 refl (whole !))))) (from ! (stop !)) (init ! {w.place(lent, off)} refl (tt, record {{ fits = room .0 }})) $")
     for n in w.kept:
         w.reborrow(n, passed[n], off)
     joins = ["nothing !"]
     for n in order[::-1]:
-        joins += [pick(n, "owned ! (Array u32 8) (Is (Array u32 8)) (array-makes 𝓤 H A W u32 (uint-makes 𝓤 H A W w32) 8) r (u ∷ []) is",
+        joins += [pick(n, "owned ! (Array u64 8) (Is (Array u64 8)) (array-makes 𝓤 H A W u64 (uint-makes 𝓤 H A W w64) 8) r (u ∷ []) is",
                        "owned ! usize (Is usize) (uint-makes 𝓤 H A W w64) (length ys) _ (refl, room .0)", lambda *_: at(4, 0)), "fjoin !"]
     looks = [w.place(pick(n, before, lent, lambda m, _: passed[m] + 1 if m in passed else w.local[m]), 3) for n in order]
     w.add(f"        {steps([at(1)] + [at(2, 0), 'join !'] * len(lives))}", f"        {steps(joins)}",

@@ -7,13 +7,12 @@ use mathlib.Core.List.{List}
 use lib.Dec.{eqb}
 use lib.ListN.{length, getD, take, replicate, length-take, length-replicate}
 use borrow.Author.Tests.{eq-eqb, ne-eqb}
+use Rattle.head.specs.declared.Desk.the-variants.{One, Two}
 use Rattle.frames.specs.declared.Shape.{Shape}
 use Rattle.frames.specs.declared.Shape.the-variants.{Columns, Size, SizePosition, SizePair, Bare, Position, Settings, Unknown}
-use Rattle.frames.specs.declared.Message.{Message}
-use Rattle.frames.specs.declared.Message.the-variants as Message
 use Rattle.frames.specs.declared.Read.{Read}
-use Rattle.frames.specs.Kinds.{lookKind, watchKind, unwatchKind, pairKind, unpairKind, pastKind, shapeOf, bodyLength}
-use Rattle.frames.specs.Frames.{messageBy, messageAt, Saying, told, ended, refused, saying, Reading, reading, stays, readAt}
+use Rattle.frames.specs.Kinds.{lookKind, watchKind, unwatchKind, watchTwoKind, unwatchTwoKind, pairKind, unpairKind, pastKind, shapeOf, bodyLength}
+use Rattle.frames.specs.Frames.{messageBy, messageAt, Saying, told, saying, Reading, reading, stays, readAt}
 use Rattle.frames.proofs.Shapes.{KnownShape, Known, quote-kinds}
 use Rattle.frames.proofs.Reading.{read-says, Found, beyond, at-end, unknown, cut, whole, found}
 use Rattle.model.specs.Calls.{Call}
@@ -30,8 +29,8 @@ columnsIn misplaced = 0
 columnsIn (request (Call.Open d N directions)) = 0
 columnsIn (request (Call.Quote x)) = length x
 columnsIn (request (Call.Look n)) = 0
-columnsIn (request (Call.Watch n)) = 0
-columnsIn (request (Call.End n)) = 0
+columnsIn (request (Call.Watch desk n)) = 0
+columnsIn (request (Call.End desk n)) = 0
 columnsIn (request (Call.Past n1 n2)) = 0
 columnsIn (request (Call.Pair n1 n2)) = 0
 columnsIn (request Call.Unpair) = 0
@@ -81,13 +80,17 @@ never-plain b = misplaced-plain
 -- a frame with n
 sized-plain : (b : Bool) (kind n : ℕ) → Plain (placed b (sizedAsks kind n))
 unfolding sizedAsks columnsIn ends asksPlayable playable
-sized-plain b kind n = go (eqb kind lookKind) (eqb kind watchKind) (eqb kind unwatchKind)
+sized-plain b kind n = go (eqb kind lookKind) (eqb kind watchKind) (eqb kind unwatchKind) (eqb kind watchTwoKind) (eqb kind unwatchTwoKind)
   where
-    go : (x y z : Bool) → Plain (placed b (cond x (request (Call.Look n)) (cond y (request (Call.Watch n)) (cond z (request (Call.End n)) misplaced))))
-    go true y z = placed-plain b (Call.Look n) (record { few = omega arith; on = refl; plays = refl })
-    go false true z = placed-plain b (Call.Watch n) (record { few = omega arith; on = refl; plays = refl })
-    go false false true = placed-plain b (Call.End n) (record { few = omega arith; on = refl; plays = refl })
-    go false false false = never-plain b
+    go : (x y z u v : Bool)
+        → Plain (placed b (cond x (request (Call.Look n)) (cond y (request (Call.Watch One n)) (cond z (request (Call.End One n))
+        (cond u (request (Call.Watch Two n)) (cond v (request (Call.End Two n)) misplaced))))))
+    go true y z u v = placed-plain b (Call.Look n) (record { few = omega arith; on = refl; plays = refl })
+    go false true z u v = placed-plain b (Call.Watch One n) (record { few = omega arith; on = refl; plays = refl })
+    go false false true u v = placed-plain b (Call.End One n) (record { few = omega arith; on = refl; plays = refl })
+    go false false false true v = placed-plain b (Call.Watch Two n) (record { few = omega arith; on = refl; plays = refl })
+    go false false false false true = placed-plain b (Call.End Two n) (record { few = omega arith; on = refl; plays = refl })
+    go false false false false false = never-plain b
 
 -- a frame with n1 and n2
 paired-plain : (b : Bool) (kind n1 n2 : ℕ) → Plain (placed b (pairAsks kind n1 n2))

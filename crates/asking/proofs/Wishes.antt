@@ -3,11 +3,11 @@ use mathlib.Core.Path.{_≡_, refl, sym, ap, _∙_}
 use Prim.Native.Nat.{ℕ}
 use mathlib.Core.Bool.{Bool, true, false, cond}
 use mathlib.Core.List.{List}
-use lib.Dec.{eqb}
 use borrow.Author.Tests.{ne-eqb}
+use Rattle.head.specs.declared.Desk.the-variants.{One, Two}
 use Rattle.frames.specs.declared.Message.{Message}
 use Rattle.frames.specs.declared.Message.the-variants as Message
-use Rattle.frames.specs.Kinds.{lookKind, watchKind, unwatchKind, pairKind, unpairKind, pastKind}
+use Rattle.frames.specs.Kinds.{lookKind, watchKind, unwatchKind, watchTwoKind, unwatchTwoKind, pairKind, unpairKind, pastKind}
 use Rattle.frames.specs.Frames.{saying}
 use Rattle.asking.specs.declared.Wanted.{Wanted}
 use Rattle.asking.specs.declared.Wanted.the-variants.{Quote, Look, Past, Watch, End, Pair, Unpair, Open, Nothing, Refused, Misplaced}
@@ -20,17 +20,27 @@ module _ (kind n : ℕ) (columns : List ℕ) where
   unfolding wants sizedAsks
   look-sized e = rw e
 
-  pub watch-sized : kind ≡ watchKind → wants (Watch n) columns ≡ sizedAsks kind n
+  pub watch-sized : kind ≡ watchKind → wants (Watch One n) columns ≡ sizedAsks kind n
   unfolding wants sizedAsks
   watch-sized e = rw e
 
-  pub end-sized : kind ≡ unwatchKind → wants (End n) columns ≡ sizedAsks kind n
+  pub end-sized : kind ≡ unwatchKind → wants (End One n) columns ≡ sizedAsks kind n
   unfolding wants sizedAsks
   end-sized e = rw e
 
-  pub none-sized : (kind ≡ lookKind → ⊥) → (kind ≡ watchKind → ⊥) → (kind ≡ unwatchKind → ⊥) → wants Misplaced columns ≡ sizedAsks kind n
+  pub watch-two-sized : kind ≡ watchTwoKind → wants (Watch Two n) columns ≡ sizedAsks kind n
   unfolding wants sizedAsks
-  none-sized a b c = rw (ne-eqb kind lookKind a, ne-eqb kind watchKind b, ne-eqb kind unwatchKind c)
+  watch-two-sized e = rw e
+
+  pub end-two-sized : kind ≡ unwatchTwoKind → wants (End Two n) columns ≡ sizedAsks kind n
+  unfolding wants sizedAsks
+  end-two-sized e = rw e
+
+  pub none-sized : (kind ≡ lookKind → ⊥) → (kind ≡ watchKind → ⊥) → (kind ≡ unwatchKind → ⊥) → (kind ≡ watchTwoKind → ⊥) → (kind ≡ unwatchTwoKind → ⊥)
+      → wants Misplaced columns ≡ sizedAsks kind n
+  unfolding wants sizedAsks
+  none-sized a b c d e =
+      rw (ne-eqb kind lookKind a, ne-eqb kind watchKind b, ne-eqb kind unwatchKind c, ne-eqb kind watchTwoKind d, ne-eqb kind unwatchTwoKind e)
 
 -- a frame with n1 and n2, by its kind
 module _ (kind n1 n2 : ℕ) (columns : List ℕ) where
@@ -75,16 +85,16 @@ unfolding wants outOfPlace placed inPlace
 wanted-placed true (Quote n) columns = refl
 wanted-placed true (Look n) columns = refl
 wanted-placed true (Past n1 n2) columns = refl
-wanted-placed true (Watch n) columns = refl
-wanted-placed true (End n) columns = refl
+wanted-placed true (Watch desk n) columns = refl
+wanted-placed true (End desk n) columns = refl
 wanted-placed true (Pair n1 n2) columns = refl
 wanted-placed true Unpair columns = refl
 wanted-placed true (Open d N directions) columns = refl
 wanted-placed false (Quote n) columns = refl
 wanted-placed false (Look n) columns = refl
 wanted-placed false (Past n1 n2) columns = refl
-wanted-placed false (Watch n) columns = refl
-wanted-placed false (End n) columns = refl
+wanted-placed false (Watch desk n) columns = refl
+wanted-placed false (End desk n) columns = refl
 wanted-placed false (Pair n1 n2) columns = refl
 wanted-placed false Unpair columns = refl
 wanted-placed false (Open d N directions) columns = refl

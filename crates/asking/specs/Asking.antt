@@ -4,10 +4,11 @@ use mathlib.Core.Bool.{Bool, true, false, not, cond}
 use mathlib.Core.List.{List}
 use lib.Dec.{eqb}
 use lib.ListN.{take}
+use Rattle.head.specs.declared.Desk.the-variants.{One, Two}
 use Rattle.head.specs.Refusals.{number}
 use Rattle.frames.specs.declared.Message.{Message}
 use Rattle.frames.specs.declared.Message.the-variants as Message
-use Rattle.frames.specs.Kinds.{lookKind, watchKind, unwatchKind, pairKind, unpairKind, pastKind}
+use Rattle.frames.specs.Kinds.{lookKind, watchKind, unwatchKind, watchTwoKind, unwatchTwoKind, pairKind, unpairKind, pastKind}
 use Rattle.frames.specs.Frames.{Saying, told, ended, refused}
 use Rattle.model.specs.Calls.{Call}
 
@@ -22,8 +23,10 @@ pub data Asked : Type 0 where
 unfoldable pub sizedAsks : ℕ → ℕ → Asked
 sizedAsks kind n =
     cond (eqb kind lookKind) (request (Call.Look n))
-    (cond (eqb kind watchKind) (request (Call.Watch n))
-    (cond (eqb kind unwatchKind) (request (Call.End n)) misplaced))
+    (cond (eqb kind watchKind) (request (Call.Watch One n))
+    (cond (eqb kind unwatchKind) (request (Call.End One n))
+    (cond (eqb kind watchTwoKind) (request (Call.Watch Two n))
+    (cond (eqb kind unwatchTwoKind) (request (Call.End Two n)) misplaced))))
 
 -- what a frame with n1 and n2 asks for, by its kind; no other kind has a place on a tape
 unfoldable pub pairAsks : ℕ → ℕ → ℕ → Asked
@@ -50,8 +53,8 @@ unfoldable pub inPlace : Bool → Call → Bool
 inPlace begun (Call.Open d N directions) = not begun
 inPlace begun (Call.Quote x) = begun
 inPlace begun (Call.Look n) = begun
-inPlace begun (Call.Watch n) = begun
-inPlace begun (Call.End n) = begun
+inPlace begun (Call.Watch desk n) = begun
+inPlace begun (Call.End desk n) = begun
 inPlace begun (Call.Past n1 n2) = begun
 inPlace begun (Call.Pair n1 n2) = begun
 inPlace begun Call.Unpair = begun
@@ -76,8 +79,8 @@ unfoldable pub playable : Call → Bool
 playable (Call.Open d N directions) = true
 playable (Call.Quote x) = true
 playable (Call.Look n) = true
-playable (Call.Watch n) = true
-playable (Call.End n) = true
+playable (Call.Watch desk n) = true
+playable (Call.End desk n) = true
 playable (Call.Past n1 n2) = true
 playable (Call.Pair n1 n2) = true
 playable Call.Unpair = true

@@ -14,8 +14,8 @@ unfoldable pub wants : Wanted → List ℕ → Asked
 wants (Quote k) columns = request (Call.Quote (take k columns))
 wants (Look n) columns = request (Call.Look n)
 wants (Past n1 n2) columns = request (Call.Past n1 n2)
-wants (Watch n) columns = request (Call.Watch n)
-wants (End n) columns = request (Call.End n)
+wants (Watch desk n) columns = request (Call.Watch desk n)
+wants (End desk n) columns = request (Call.End desk n)
 wants (Pair n1 n2) columns = request (Call.Pair n1 n2)
 wants Unpair columns = request Call.Unpair
 wants (Open d N directions) columns = request (Call.Open d N directions)
@@ -28,8 +28,8 @@ unfoldable pub outOfPlace : Bool → Wanted → Bool
 outOfPlace begun (Quote k) = not begun
 outOfPlace begun (Look n) = not begun
 outOfPlace begun (Past n1 n2) = not begun
-outOfPlace begun (Watch n) = not begun
-outOfPlace begun (End n) = not begun
+outOfPlace begun (Watch desk n) = not begun
+outOfPlace begun (End desk n) = not begun
 outOfPlace begun (Pair n1 n2) = not begun
 outOfPlace begun Unpair = not begun
 outOfPlace begun (Open d N directions) = begun

@@ -11,7 +11,10 @@ use frames::PAIR;
 use frames::PAST;
 use frames::UNPAIR;
 use frames::UNWATCH;
+use frames::UNWATCH_TWO;
 use frames::WATCH;
+use frames::WATCH_TWO;
+use head::Desk;
 use head::Refusal;
 
 // What a frame wants of the player: a call, nothing at the end of the tape, or a refusal: of what cannot be read, or of a frame out of
@@ -23,10 +26,10 @@ pub enum Wanted {
     Look(u16),
     // A look at the past list of n1 and n2.
     Past(u16, u16),
-    // A watch of n.
-    Watch(u16),
-    // The end of the watch of n.
-    End(u16),
+    // A desk's watch of n.
+    Watch(Desk, u16),
+    // The end of a desk's watch of n.
+    End(Desk, u16),
     // A watch of the pair n1 and n2.
     Pair(u16, u16),
     // The end of the pair.
@@ -46,10 +49,16 @@ fn sized(kind: u8, n: u16) -> Wanted
         return Wanted::Look(n);
     }
     if kind == WATCH {
-        return Wanted::Watch(n);
+        return Wanted::Watch(Desk::One, n);
     }
     if kind == UNWATCH {
-        return Wanted::End(n);
+        return Wanted::End(Desk::One, n);
+    }
+    if kind == WATCH_TWO {
+        return Wanted::Watch(Desk::Two, n);
+    }
+    if kind == UNWATCH_TWO {
+        return Wanted::End(Desk::Two, n);
     }
     Wanted::Misplaced
 }
@@ -103,8 +112,8 @@ fn misplaced(begun: bool, wanted: Wanted) -> bool
         Wanted::Quote(_) => !begun,
         Wanted::Look(_) => !begun,
         Wanted::Past(_, _) => !begun,
-        Wanted::Watch(_) => !begun,
-        Wanted::End(_) => !begun,
+        Wanted::Watch(_, _) => !begun,
+        Wanted::End(_, _) => !begun,
         Wanted::Pair(_, _) => !begun,
         Wanted::Unpair => !begun,
         Wanted::Nothing => false,

@@ -11,13 +11,15 @@ use borrow.Author.Tests.{ltb-false}
 use Rattle.lists.specs.Lists.{insert, without, laid, padded}
 use Rattle.lists.proofs.Booleans.{none-right}
 use Rattle.head.specs.declared.Head.{Head}
+use Rattle.head.specs.declared.Desk.{Desk}
 use Rattle.head.specs.declared.Watch.{Watch}
+use Rattle.head.specs.Desks.{watchOf}
 use Rattle.head.specs.Refusals.{granted}
 use Rattle.head.specs.Replies.{outcome}
 use Rattle.head.proofs.Numbers.{zero-passed}
 use Rattle.model.specs.Rows.{Tables}
 use Rattle.model.specs.Book.{shortTables, shortLoan, standing, watchfulAnswer, replyOf, openAnswer, openReply, openTables, openWatches, watchBytes, watchAnswer, watchReply, watchWatches, watchOut, endAnswer, endReply, endWatches}
-use Rattle.watches.specs.Records.{watched, firstEight, stored, Vacant}
+use Rattle.watches.specs.Records.{recordNumber, watched, firstEight, stored, Vacant}
 use Rattle.model.specs.Promises.{Opened, Watched, Ended}
 use Rattle.watching.proofs.Watches.{watch-free}
 use Rattle.lending.specs.declared.Judgement.{Judgement}
@@ -46,13 +48,13 @@ unfolding watchfulAnswer
 eight-lent h t ws more e = eight-of t ws (h .dimensions) (h .capacity) (zero-passed _ _ _ (zero-passed _ _ _ e .1) .0)
 
 module _ (ws : List ℕ) where
-  end-front : (h : Head) (n : ℕ) (t : Tables) → endAnswer h n t (take 8 ws) ≡ endAnswer h n t ws
+  end-front : (h : Head) (desk : Desk) (n : ℕ) (t : Tables) → endAnswer h desk n t (take 8 ws) ≡ endAnswer h desk n t ws
   unfolding endAnswer
-  end-front h n t = rw (standing-front ws, watchful-front ws h t)
+  end-front h desk n t = rw (standing-front ws, watchful-front ws h t)
 
-  watch-front : (h : Head) (n : ℕ) (t : Tables) (room : ℕ) → watchAnswer h n t (take 8 ws) room ≡ watchAnswer h n t ws room
-  unfolding watchAnswer watchBytes
-  watch-front h n t room = rw (standing-front ws, watchful-front ws h t)
+  watch-front : (h : Head) (desk : Desk) (n : ℕ) (t : Tables) (room : ℕ) → watchAnswer h desk n t (take 8 ws) room ≡ watchAnswer h desk n t ws room
+  unfolding watchAnswer
+  watch-front h desk n t room = rw (standing-front ws, watchful-front ws h t)
 
   open-front : (d N directions : ℕ) (t : Tables) → openAnswer d N directions t (take 8 ws) ≡ openAnswer d N directions t ws
   unfolding openAnswer
@@ -70,61 +72,59 @@ module _ (ys : List Watch) where
 
   as-many : 8 ≤ length ws → 8 ≤ length ys
   unfolding watched
-  as-many h = rw (← length-map ys Watch.n) h
+  as-many h = rw (← length-map ys recordNumber) h
 
-  module _ (h : Head) (n : ℕ) (t : Tables) {ns : List ℕ} (e : ns ≡ firstEight ws) (j : Judgement) (f : Judged (endReply h n t (take (length ys) ns)) j) where
-    end-reply : outcome (j .reply) ≡ endReply h n t ws
+  module _ (h : Head) (desk : Desk) (n : ℕ) (t : Tables) {ns : List ℕ} (e : ns ≡ firstEight ws) (j : Judgement) (f : Judged (endReply h desk n t (take (length ys) ns)) j) where
+    end-reply : outcome (j .reply) ≡ endReply h desk n t ws
     unfolding endReply
-    end-reply = f .reply ∙ rw (front ys e, end-front ws h n t)
+    end-reply = f .reply ∙ rw (front ys e, end-front ws h desk n t)
 
-    end-accepts : j .accepted ≡ granted (endAnswer h n t ws) true false
+    end-accepts : j .accepted ≡ granted (endAnswer h desk n t ws) true false
     unfolding endReply replyOf
-    end-accepts = f .accepted ∙ rw (front ys e, end-front ws h n t)
+    end-accepts = f .accepted ∙ rw (front ys e, end-front ws h desk n t)
 
     -- a refused end leaves the records
-    pub end-left : T (not (j .accepted)) → Ended h n t ws (j .reply) ws
+    pub end-left : T (not (j .accepted)) → Ended h desk n t ws (j .reply) ws
     unfolding endWatches
-    end-left off = record { reply = end-reply; watches = refused-leaves (endAnswer h n t ws) end-accepts off _ }
+    end-left off = record { reply = end-reply; watches = refused-leaves (endAnswer h desk n t ws) end-accepts off _ }
 
     -- an accepted one was lent eight, and removes n
     pub end-enough : T (j .accepted) → 8 ≤ length ys
     unfolding endAnswer
-    end-enough on = as-many (eight-lent h t ws _ (accepted-is (endAnswer h n t ws) end-accepts on))
+    end-enough on = as-many (eight-lent h t ws _ (accepted-is (endAnswer h desk n t ws) end-accepts on))
 
-    pub end-removed : T (j .accepted) → (after : List ℕ) → after ≡ padded 8 (without n (standing ws)) ws → Ended h n t ws (j .reply) after
+    pub end-removed : T (j .accepted) → (after : List ℕ) → after ≡ padded 8 (without (watchOf desk n) (standing ws)) ws → Ended h desk n t ws (j .reply) after
     unfolding endWatches granted
-    end-removed on after m = record { reply = end-reply; watches = m ∙ rw (accepted-is (endAnswer h n t ws) end-accepts on) }
+    end-removed on after m = record { reply = end-reply; watches = m ∙ rw (accepted-is (endAnswer h desk n t ws) end-accepts on) }
 
-  module _ (h : Head) (n : ℕ) (t : Tables) {ns : List ℕ} (e : ns ≡ firstEight ws) {before after : List ℕ} (j : Judgement) (f : WatchJudged h n t (take (length ys) ns) before j after) where
-    watch-reply : outcome (j .reply) ≡ watchReply h n t ws (length before)
+  module _ (h : Head) (desk : Desk) (n : ℕ) (t : Tables) {ns : List ℕ} (e : ns ≡ firstEight ws) {before after : List ℕ} (j : Judgement) (f : WatchJudged h desk n t (take (length ys) ns) before j after) where
+    watch-reply : outcome (j .reply) ≡ watchReply h desk n t ws (length before)
     unfolding watchReply watchBytes
-    watch-reply = f .judged .reply ∙ rw (front ys e, watch-front ws h n t)
+    watch-reply = f .judged .reply ∙ rw (front ys e, watch-front ws h desk n t)
 
-    watch-accepts : j .accepted ≡ granted (watchAnswer h n t ws (length before)) true false
+    watch-accepts : j .accepted ≡ granted (watchAnswer h desk n t ws (length before)) true false
     unfolding watchReply replyOf
-    watch-accepts = f .judged .accepted ∙ rw (front ys e, watch-front ws h n t)
+    watch-accepts = f .judged .accepted ∙ rw (front ys e, watch-front ws h desk n t)
 
-    watch-out : after ≡ watchOut h n t ws before
+    watch-out : after ≡ watchOut h desk n t ws before
     unfolding watchOut watchBytes
-    watch-out = f .out ∙ rw (front ys e, watch-front ws h n t)
+    watch-out = f .out ∙ rw (front ys e, watch-front ws h desk n t)
 
     -- a refused watch leaves the records
-    pub watch-left : T (not (j .accepted)) → Watched h n t ws before (j .reply) ws after
+    pub watch-left : T (not (j .accepted)) → Watched h desk n t ws before (j .reply) ws after
     unfolding watchWatches
-    watch-left off = record { reply = watch-reply; watches = refused-leaves (watchAnswer h n t ws (length before)) watch-accepts off _; out = watch-out }
+    watch-left off = record { reply = watch-reply; watches = refused-leaves (watchAnswer h desk n t ws (length before)) watch-accepts off _; out = watch-out }
 
     module _ (on : T (j .accepted)) where
-      watch-is : watchAnswer h n t ws (length before) ≡ 0
-      watch-is = accepted-is (watchAnswer h n t ws (length before)) watch-accepts on
+      watch-is : watchAnswer h desk n t ws (length before) ≡ 0
+      watch-is = accepted-is (watchAnswer h desk n t ws (length before)) watch-accepts on
 
       -- an accepted one was lent eight, of which one is free, and inserts n
       pub watch-asks : (8 ≤ length ys) × Vacant ws
       unfolding watchAnswer
-      watch-asks =
-          let free = watch-free h n t ws (length before) watch-is in
-          (as-many (eight-lent h t ws _ watch-is), record { capacity = h .capacity; untorn = free .untorn; free = free .free })
+      watch-asks = (as-many (eight-lent h t ws _ watch-is), watch-free h desk n t ws (length before) watch-is .vacant)
 
-      pub watch-inserted : (last : List ℕ) → last ≡ padded 8 (insert n (standing ws)) ws → Watched h n t ws before (j .reply) last after
+      pub watch-inserted : (last : List ℕ) → last ≡ padded 8 (insert (watchOf desk n) (standing ws)) ws → Watched h desk n t ws before (j .reply) last after
       unfolding watchWatches granted
       watch-inserted last m = record { reply = watch-reply; watches = m ∙ rw watch-is; out = watch-out }
 

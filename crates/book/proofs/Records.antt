@@ -1,13 +1,15 @@
--- Lists of calls on lent watch records: what the model is told of records is their n, and their n are all that they hold.
-use mathlib.Core.Path.{_≡_, refl, sym, ap, _∙_}
-use Prim.Native.Nat.{ℕ}
-use mathlib.Core.List.{List, [], _∷_, map}
+-- Lists of calls on lent watch records: what the model is told of records is their numbers, and these are all that they hold.
+use mathlib.Core.Path.{_≡_, refl, sym, ap, ap₂, _∙_}
+use Prim.Native.Nat.{ℕ, _<_}
+use mathlib.Core.List.{List, [], _∷_, map, List·Memᴰ, List·Memᴰ·head, List·Memᴰ·tail}
 use Rattle.head.specs.declared.Watch as Record
+use Rattle.head.specs.Desks.{deskUnit, deskIn, sizeIn}
 use Rattle.model.specs.Rows.{Tables}
 use Rattle.model.specs.Calls.{Lending, Lent, Seen, World, worldFirst}
 use Rattle.model.specs.Claims.{AllMade, Refines}
+use Rattle.model.proofs.Desks.{desk-of-record, size-of-record}
 use Rattle.model.proofs.Refining.{calls-refine}
-use Rattle.watches.specs.Records.{watched}
+use Rattle.watches.specs.Records.{recordNumber, watched}
 
 -- what the model is told of lent tables and records
 abbrev pub told : Tables → List Record.Watch → Lent
@@ -18,12 +20,24 @@ pub book-refines : (cs : List Lending) (t : Tables) (ys : List Record.Watch) (ss
     → Refines cs (told t ys) ss end
 book-refines cs t ys = calls-refine cs (told t ys)
 
--- records are their n again
-again : (ys : List Record.Watch) → map (λ (a : ℕ). record { n = a }) (watched ys) ≡ ys
-unfolding watched
-again [] = refl
-again (y ∷ ys) = ap (λ (l : List Record.Watch). y ∷ l) (again ys)
+-- each n has 32 bits, as its type says
+abbrev pub Fitting : List Record.Watch → Type 0
+Fitting ys = (y : Record.Watch) → List·Memᴰ y ys → y .n < deskUnit
 
--- so what is said of the n of records is said of the records
-pub records-fixed : (ys zs : List Record.Watch) → watched ys ≡ watched zs → ys ≡ zs
-records-fixed ys zs e = sym (again ys) ∙ ap (map (λ (a : ℕ). record { n = a })) e ∙ again zs
+-- the record of a number
+abbrev recorded : ℕ → Record.Watch
+recorded w = record { n = sizeIn w; desk = deskIn w }
+
+-- records are their numbers again
+again : (ys : List Record.Watch) → Fitting ys → map recorded (watched ys) ≡ ys
+unfolding watched
+again [] fits = refl
+again (y ∷ ys) fits =
+    ap₂ (λ (r : Record.Watch) (l : List Record.Watch). r ∷ l) (one (fits y (List·Memᴰ·head refl))) (again ys (λ z m. fits z (List·Memᴰ·tail m)))
+  where
+    one : y .n < deskUnit → recorded (recordNumber y) ≡ y
+    one h = ap₂ (λ (a b : ℕ). record { n = a; desk = b }) (size-of-record (y .desk) (y .n) h) (desk-of-record (y .desk) (y .n) h)
+
+-- so what is said of the numbers of records is said of the records
+pub records-fixed : (ys zs : List Record.Watch) → Fitting ys → Fitting zs → watched ys ≡ watched zs → ys ≡ zs
+records-fixed ys zs f g e = sym (again ys f) ∙ ap (map recorded) e ∙ again zs g

@@ -1,6 +1,7 @@
 // The public calls on a book, with the watches in a lent list of records: opening, watch and end here, the others handed on.
 ghost use Rattle.watches.specs.Records.{watched};
 ghost use Rattle.model.specs.Promises.{tables, Opened, Watched, Ended};
+use head::Desk;
 use head::Head;
 use head::Reply;
 use head::Watch;
@@ -56,9 +57,10 @@ pub fn open(
     judged.reply
 }
 
-// Sets a watch of n and writes a join for each position of its list; hands back how many bytes.
+// Sets a desk's watch of n and writes a join for each position of its list; hands back how many bytes.
 pub fn watch(
     head: Head,
+    desk: Desk,
     n: u32,
     columns: &[u32],
     positions: &[u32],
@@ -67,7 +69,7 @@ pub fn watch(
     watches: &mut [Watch],
     out: &mut [u8],
 ) -> Reply
-    ensures { λ r. ⌜ Watched head n (tables (now (columns .entry)) (now (positions .entry)) (now («lower_ends» .entry)) (now («upper_ends» .entry)))
+    ensures { λ r. ⌜ Watched head desk n (tables (now (columns .entry)) (now (positions .entry)) (now («lower_ends» .entry)) (now («upper_ends» .entry)))
         (watched (now (watches .entry))) (now (out .entry))
         r (watched (now (watches .exit))) (now (out .exit)) ⌝ }
 {
@@ -75,6 +77,7 @@ pub fn watch(
     let lent = watches.len();
     let judged = watch_lent(
         head,
+        desk,
         n,
         columns,
         positions,
@@ -85,14 +88,15 @@ pub fn watch(
         out,
     );
     if judged.accepted {
-        insert_record(&mut *watches, n);
+        insert_record(&mut *watches, desk, n);
     }
     judged.reply
 }
 
-// Ends the watch of n.
+// Ends a desk's watch of n.
 pub fn end(
     head: Head,
+    desk: Desk,
     n: u32,
     columns: &[u32],
     positions: &[u32],
@@ -100,13 +104,14 @@ pub fn end(
     upper_ends: &[u32],
     watches: &mut [Watch],
 ) -> Reply
-    ensures { λ r. ⌜ Ended head n (tables (now (columns .entry)) (now (positions .entry)) (now («lower_ends» .entry)) (now («upper_ends» .entry)))
+    ensures { λ r. ⌜ Ended head desk n (tables (now (columns .entry)) (now (positions .entry)) (now («lower_ends» .entry)) (now («upper_ends» .entry)))
         (watched (now (watches .entry))) r (watched (now (watches .exit))) ⌝ }
 {
     let before = numbers(&*watches);
     let lent = watches.len();
     let judged = end_lent(
         head,
+        desk,
         n,
         columns,
         positions,
@@ -116,7 +121,7 @@ pub fn end(
         lent,
     );
     if judged.accepted {
-        remove_record(&mut *watches, n);
+        remove_record(&mut *watches, desk, n);
     }
     judged.reply
 }

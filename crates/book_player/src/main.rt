@@ -1,11 +1,11 @@
 // The book player: makes the calls that the lines of standard input ask for on real buffers, and prints what was seen
 // of each.
-use player_desk::Desk;
 use player_input::Stand;
 use player_input::next_line;
 use player_output::Print;
 use player_output::flush;
 use player_print::print_line;
+use player_state::State;
 use player_turns::play;
 use sizes::CHANGE_BYTES;
 use sizes::COLUMN_CELLS;
@@ -20,7 +20,7 @@ fn main() {
     let mut cells = [0u32; CHANGE_BYTES];
     let mut text = [0u8; 65536];
     let mut lines = [0u8; 65536];
-    let mut desk = Desk::first();
+    let mut state = State::first();
     let mut print = Print {
         lines: 0,
         used: 0,
@@ -33,8 +33,8 @@ fn main() {
         let next = next_line(stand, &mut text);
         let line = next.line;
         stand = next.stand;
-        desk = play(
-            desk,
+        state = play(
+            state,
             line,
             &mut columns,
             &mut positions,
@@ -46,7 +46,7 @@ fn main() {
         print = print_line(
             print,
             stand.found,
-            desk,
+            state,
             &columns,
             &positions,
             &lower_ends,

@@ -2,12 +2,14 @@
 // and come back by value.
 ghost use mathlib.Core.Path.{_≡_};
 ghost use Rattle.lists.specs.Lists.{contains};
+ghost use Rattle.head.specs.Desks.{watchOf};
 ghost use Rattle.model.specs.Book.{standing};
 ghost use Rattle.model.specs.Promises.{tables, Opened, Quoted, Previewed, Watched, Ended, Paired, Unpaired};
 ghost use Rattle.watches.specs.Records.{watched};
 ghost use Rattle.frames.specs.Moved.{Moved};
 use frames::Place;
 use frames::Read;
+use head::Desk;
 use head::Effect;
 use head::Head;
 use head::Reply;
@@ -115,9 +117,10 @@ pub fn preview(
     )
 }
 
-// Sets a watch of n.
+// Sets a desk's watch of n.
 pub fn watch(
     head: Head,
+    desk: Desk,
     n: u32,
     columns: &[u32],
     positions: &[u32],
@@ -126,12 +129,13 @@ pub fn watch(
     records: [Watch; 8],
     out: &mut [u8],
 ) -> Made
-    ensures { λ r. ⌜ Watched head n (tables (now (columns .entry)) (now (positions .entry)) (now («lower_ends» .entry)) (now («upper_ends» .entry)))
+    ensures { λ r. ⌜ Watched head desk n (tables (now (columns .entry)) (now (positions .entry)) (now («lower_ends» .entry)) (now («upper_ends» .entry)))
         (watched records) (now (out .entry)) (r .reply) (watched (r .records)) (now (out .exit)) ⌝ }
 {
     let mut held = records;
     let reply = book::watch(
         head,
+        desk,
         n,
         columns,
         positions,
@@ -146,9 +150,10 @@ pub fn watch(
     }
 }
 
-// Ends the watch of n.
+// Ends a desk's watch of n.
 pub fn end(
     head: Head,
+    desk: Desk,
     n: u32,
     columns: &[u32],
     positions: &[u32],
@@ -156,12 +161,13 @@ pub fn end(
     upper_ends: &[u32],
     records: [Watch; 8],
 ) -> Made
-    ensures { λ r. ⌜ Ended head n (tables (now (columns .entry)) (now (positions .entry)) (now («lower_ends» .entry)) (now («upper_ends» .entry)))
+    ensures { λ r. ⌜ Ended head desk n (tables (now (columns .entry)) (now (positions .entry)) (now («lower_ends» .entry)) (now («upper_ends» .entry)))
         (watched records) (r .reply) (watched (r .records)) ⌝ }
 {
     let mut held = records;
     let reply = book::end(
         head,
+        desk,
         n,
         columns,
         positions,
@@ -175,12 +181,12 @@ pub fn end(
     }
 }
 
-// Whether n is watched.
-pub fn find_record(records: [Watch; 8], n: u32) -> bool
-    ensures { λ r. ⌜ r ≡ contains n (standing (watched records)) ⌝ }
+// Whether a desk watches n.
+pub fn find_record(records: [Watch; 8], desk: Desk, n: u32) -> bool
+    ensures { λ r. ⌜ r ≡ contains (watchOf desk n) (standing (watched records)) ⌝ }
 {
     let held = records;
-    book::find_record(&held, n)
+    book::find_record(&held, desk, n)
 }
 
 // What is read at the place.

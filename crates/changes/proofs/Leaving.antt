@@ -15,10 +15,10 @@ use Rattle.lists.proofs.Filters.{filter-append, map-append}
 use Rattle.lists.proofs.Laying.{grows, Laying, laying-start, laying-pass, laying-room, laying-more, laying-all}
 use Rattle.lists.proofs.Members.{of-filter}
 use Rattle.lists.proofs.Runs.{of-run}
+use Rattle.frames.specs.declared.Message.the-variants.{Change}
 use Rattle.frames.specs.Frames.{frame}
-use Rattle.frames.specs.Kinds.{leaveKind}
 use Rattle.frames.proofs.RoundTrips.{change-length}
-use Rattle.model.specs.Changes.{leave, frames}
+use Rattle.model.specs.Changes.{frames}
 use Rattle.finding.specs.Found.{live, retires, retired}
 use Rattle.cells.specs.Marked.{Below}
 use Rattle.model.proofs.ChangeFrames.{frames-append}
@@ -43,10 +43,10 @@ retired-below s w v {places} r = record { low = λ k l. go (getD places k 0) (ge
         let room = v .lower-room in
         omega arith
 
-module _ (n first : ℕ) (lowers : List ℕ) (w : Shift) where
+module _ (kind n first : ℕ) (lowers : List ℕ) (w : Shift) where
   -- the leaves of the rows at these places
   abbrev pub leavesOf : List ℕ → List ℕ
-  leavesOf places = frames (map (leave n) (dropped first lowers w places))
+  leavesOf places = frames (map (Change kind n) (dropped first lowers w places))
 
   leaves-append : (ps qs : List ℕ) → leavesOf (ps ++ qs) ≡ leavesOf ps ++ leavesOf qs
   unfolding dropped
@@ -56,11 +56,11 @@ module _ (n first : ℕ) (lowers : List ℕ) (w : Shift) where
   abbrev pub dropsAt : ℕ → Bool
   dropsAt i = ltb (getD lowers i 0) (w .before) && leb (w .after) (first + i)
 
-  leaves-one : (i : ℕ) (b : Bool) → b ≡ dropsAt i → leavesOf (i ∷ []) ≡ frames (map (leave n) (keep b (first + i) []))
+  leaves-one : (i : ℕ) (b : Bool) → b ≡ dropsAt i → leavesOf (i ∷ []) ≡ frames (map (Change kind n) (keep b (first + i) []))
   unfolding dropped filter
   leaves-one i b e = rw (← e) (go b)
     where
-      go : (b : Bool) → frames (map (leave n) (map (λ k. first + k) (keep b i []))) ≡ frames (map (leave n) (keep b (first + i) []))
+      go : (b : Bool) → frames (map (Change kind n) (map (λ k. first + k) (keep b i []))) ≡ frames (map (Change kind n) (keep b (first + i) []))
       go true = refl
       go false = refl
 
@@ -77,7 +77,7 @@ module _ (n first : ℕ) (lowers : List ℕ) (w : Shift) where
     abbrev p : ℕ
     p = first + getD places k 0
 
-    more : leavesOf (take (k + 1) places) ≡ leavesOf (take k places) ++ frames (map (leave n) (keep b p []))
+    more : leavesOf (take (k + 1) places) ≡ leavesOf (take k places) ++ frames (map (Change kind n) (keep b p []))
     more =
         ap leavesOf (rw add-one (take-suc places k 0 h))
         ∙ leaves-append (take k places) (getD places k 0 ∷ [])
@@ -89,32 +89,32 @@ module _ (n first : ℕ) (lowers : List ℕ) (w : Shift) where
         (λ j. ap leavesOf (take-add j 1 places) ∙ leaves-append (take j places) (take 1 (drop j places))) (k + 1) (length places) (omega arith)
 
     -- such a row's leave is the frame that the turn lays
-    took : b ≡ true → leavesOf (take (k + 1) places) ≡ leavesOf (take k places) ++ frame (leave n p) []
+    took : b ≡ true → leavesOf (take (k + 1) places) ≡ leavesOf (take k places) ++ frame (Change kind n p) []
     unfolding frames flat
     took t = more ∙ rw (t, append-nil)
 
     pub leaving-fits : b ≡ true → at + 7 ≤ length out
-    leaving-fits t = rw change-length at (laying-room (v .laying) h (frame (leave n p) []) (took t) grown)
+    leaving-fits t = rw change-length at (laying-room (v .laying) h (frame (Change kind n p) []) (took t) grown)
 
     pub leaving-pass : b ≡ false → Leaving places entry out at (k + 1)
     unfolding frames flat
     leaving-pass t = record { laying = laying-pass (v .laying) h (more ∙ rw (t, append-nil)) }
 
-    pub leaving-more : {last : List ℕ} → last ≡ laid (frame (leave n p) []) (midOf at (length out - at) out) → b ≡ true
+    pub leaving-more : {last : List ℕ} → last ≡ laid (frame (Change kind n p) []) (midOf at (length out - at) out) → b ≡ true
         → Leaving places entry (putMid at (length out - at) out last) (at + 7) (k + 1)
-    leaving-more l t = record { laying = laying-more (v .laying) h (frame (leave n p) []) (took t) grown (sym (change-length leaveKind n p)) l }
+    leaving-more l t = record { laying = laying-more (v .laying) h (frame (Change kind n p) []) (took t) grown (sym (change-length kind n p)) l }
 
   pub leaving-all : {places entry out : List ℕ} {at k : ℕ} → Leaving places entry out at k → length places ≤ k
       → (at ≡ length (leavesOf places)) × (out ≡ laid (leavesOf places) entry)
   leaving-all {places} v h = rw (take-all (length places) places (omega arith)) at (laying-all (v .laying) h)
 
 -- the leave of the row at the window's old start
-module _ (n p : ℕ) {fell : List ℕ} {b : Bool} (e : fell ≡ keep b p []) where
-  pub fallen-frame : b ≡ true → frames (map (leave n) fell) ≡ frame (leave n p) []
+module _ (kind n p : ℕ) {fell : List ℕ} {b : Bool} (e : fell ≡ keep b p []) where
+  pub fallen-frame : b ≡ true → frames (map (Change kind n) fell) ≡ frame (Change kind n p) []
   unfolding frames flat
   fallen-frame t = rw (e, t, append-nil)
 
-  pub fallen-nothing : b ≡ false → frames (map (leave n) fell) ≡ []
+  pub fallen-nothing : b ≡ false → frames (map (Change kind n) fell) ≡ []
   unfolding frames flat
   fallen-nothing t = rw (e, t)
 

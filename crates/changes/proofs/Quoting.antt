@@ -18,7 +18,9 @@ use Rattle.skyline.specs.Past.{covers}
 use Rattle.skyline.proofs.Past.{covers-live}
 use Rattle.head.specs.declared.Head.{Head}
 use Rattle.head.specs.Heads.{afterQuote, lastPosition}
+use Rattle.head.specs.Desks.{sizeIn}
 use Rattle.frames.specs.declared.Message.{Message}
+use Rattle.frames.specs.declared.Message.the-variants.{Change}
 use Rattle.model.specs.Rows.{Row, Tables, rowAt, rowsIn, listed, expiring, overOlder, lowerEndAmong, rowsAfter}
 use Rattle.model.specs.Changes.{changesBy, changes, allChanges, frames}
 use Rattle.model.specs.Book.{tornWatches, bookRows, standing, listOf, quoteRows, quoteHead}
@@ -30,10 +32,12 @@ use Rattle.listing.specs.Picked.{picked}
 use Rattle.listing.proofs.Listing.{Consecutive, whole-consecutive, rows-picked}
 use Rattle.model.proofs.ChangeFrames.{frames-append}
 use Rattle.changes.specs.declared.Shift.{Shift}
+use Rattle.changes.specs.declared.kinds.Kinds.{Kinds}
+use Rattle.changes.specs.Kinds.{kindsOf}
 use Rattle.changes.specs.Held.{Held, stands, wasListed, nowListed, moves, moving, joining, changed}
-use Rattle.changes.specs.Watches.{shiftOf, heldIn, watchFrames, allFrames}
+use Rattle.changes.specs.Watches.{shiftOf, heldIn, Sized, watchFrames, allFrames}
 use Rattle.changes.proofs.Distinct.{missing-picked, missing-behind}
-use Rattle.changes.proofs.Records.{watches-below}
+use Rattle.changes.proofs.Records.{watches-sized}
 use Rattle.changes.proofs.Watching.{watch-none, watch-some}
 
 -- a book that is not torn, with space for a quote, and the lower end of the quote's row
@@ -140,40 +144,44 @@ module _ (h : Head) (t : Tables) (x : List ℕ) (lower : ℕ) (whole : Whole h (
             go true p q e = rw e
             go false p q e = refl
 
-    -- the changes told by the rows are the model's
-    pub changed-is : changed s w lower n ≡ changes n (listed (w .before) M rs) (listed (w .after) (M + 1) (rowsAfter d (h .directions) (h .capacity) M x rs))
-    unfolding changed changes changesBy moving joining moves
-    changed-is =
+    -- the changes told by the rows are those between the model's lists
+    changed-is : (kinds : Kinds) (m : ℕ)
+        → changed s w lower kinds m ≡ changesBy (Change (kinds .leave) m) (Change (kinds .join) m) (listed (w .before) M rs) (listed (w .after) (M + 1) (rowsAfter d (h .directions) (h .capacity) M x rs))
+    unfolding changed changesBy moving joining moves
+    changed-is kinds m =
         rw (before-is, after-is, missing-picked first (h .held) is was (ltb lower (w .after)), missing-behind first (h .held) was is (ltb lower (w .after)))
 
-    -- the frames of one watch are those of the model's changes
-    watch-frames : (ws : List ℕ) → watchFrames h (t .lowerEnds) lent lower n ≡ frames (changes n (listOf h rs n) (listOf (quoteHead h x t ws) (quoteRows h x t ws) n))
-    unfolding listOf quoteHead quoteRows afterQuote shiftOf
-    watch-frames ws =
-        watch-some h (t .lowerEnds) lent lower n (λ e. omega arith) {w = w} refl ∙ ap frames changed-is ∙ rw (lt-ltb M lastPosition space)
+  -- the frames of one watch are those of the model's changes
+  watch-frames : (all : List ℕ) (watch : ℕ) → Sized (h .capacity) watch → 0 < watch
+      → watchFrames h (t .lowerEnds) lent lower watch ≡ frames (changes watch (listOf h rs (sizeIn watch)) (listOf (quoteHead h x t all) (quoteRows h x t all) (sizeIn watch)))
+  unfolding listOf quoteHead quoteRows afterQuote shiftOf changes kindsOf
+  watch-frames all watch fit some =
+      watch-some h (t .lowerEnds) lent lower watch (λ e. omega arith) refl refl refl
+      ∙ ap frames (changed-is (sizeIn watch) (fit .least some) (fit .most) (kindsOf watch) (sizeIn watch))
+      ∙ rw (lt-ltb M lastPosition space)
 
   module _ (all : List ℕ) where
     -- the model's changes of these watches
     abbrev messages : List ℕ → List Message
     messages ws = allChanges ws (listOf h rs) (listOf (quoteHead h x t all) (quoteRows h x t all))
 
-    records-frames : (ws : List ℕ) → ((i : ℕ) → getD ws i 0 ≤ h .capacity) → allFrames h (t .lowerEnds) lent lower ws ≡ frames (messages (filter (ltb 0) ws))
+    records-frames : (ws : List ℕ) → ((i : ℕ) → Sized (h .capacity) (getD ws i 0)) → allFrames h (t .lowerEnds) lent lower ws ≡ frames (messages (filter (ltb 0) ws))
     unfolding allFrames allChanges frames flat filter
-    records-frames [] low = refl
-    records-frames (n ∷ ws) low = go (decLt 0 n) (records-frames ws (λ i. low (suc i)))
+    records-frames [] fit = refl
+    records-frames (watch ∷ ws) fit = go (decLt 0 watch) (records-frames ws (λ i. fit (suc i)))
       where
         C : List Message
-        C = changes n (listOf h rs n) (listOf (quoteHead h x t all) (quoteRows h x t all) n)
+        C = changes watch (listOf h rs (sizeIn watch)) (listOf (quoteHead h x t all) (quoteRows h x t all) (sizeIn watch))
 
-        go : Dec (0 < n) → allFrames h (t .lowerEnds) lent lower ws ≡ frames (messages (filter (ltb 0) ws))
-            → allFrames h (t .lowerEnds) lent lower (n ∷ ws) ≡ frames (messages (keep (ltb 0 n) n (filter (ltb 0) ws)))
+        go : Dec (0 < watch) → allFrames h (t .lowerEnds) lent lower ws ≡ frames (messages (filter (ltb 0) ws))
+            → allFrames h (t .lowerEnds) lent lower (watch ∷ ws) ≡ frames (messages (keep (ltb 0 watch) watch (filter (ltb 0) ws)))
         go (yes l) e =
-            rw (lt-ltb 0 n l, watch-frames n l (low 0) all)
+            rw (lt-ltb 0 watch l, watch-frames all watch (fit 0) l)
             (ap (λ (r : List ℕ). frames C ++ r) e ∙ sym (frames-append C (messages (filter (ltb 0) ws))))
-        go (no l) e = rw (le-ltb 0 n (omega arith), watch-none h (t .lowerEnds) lent lower n (omega arith)) e
+        go (no l) e = rw (le-ltb 0 watch (omega arith), watch-none h (t .lowerEnds) lent lower watch (omega arith)) e
 
   -- the frames of the first eight records are those of the model's changes of every watch
   pub quote-frames : (ws : List ℕ) → tornWatches (h .capacity) ws ≡ false
       → allFrames h (t .lowerEnds) lent lower (take 8 ws) ≡ frames (allChanges (standing ws) (listOf h rs) (listOf (quoteHead h x t ws) (quoteRows h x t ws)))
   unfolding standing
-  quote-frames ws e = records-frames ws (take 8 ws) (watches-below (h .capacity) ws e)
+  quote-frames ws e = records-frames ws (take 8 ws) (watches-sized (h .capacity) ws e)

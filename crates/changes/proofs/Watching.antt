@@ -16,12 +16,14 @@ use Rattle.lists.specs.Lists.{flat, laid}
 use Rattle.lists.proofs.Laying.{grows, Laying, laying-start, laying-room, laying-rest, laying-more, laying-all}
 use Rattle.skyline.specs.Skyline.{windowStart}
 use Rattle.head.specs.declared.Head.{Head}
+use Rattle.head.specs.Desks.{sizeIn}
 use Rattle.model.specs.Changes.{frames}
 use Rattle.finding.specs.Found.{Rows}
 use Rattle.changes.specs.declared.Shift.{Shift}
-use Rattle.changes.specs.Held.{held, moving, joining, changed, Ready, Retired}
+use Rattle.changes.specs.declared.kinds.Kinds.{Kinds}
+use Rattle.changes.specs.Kinds.{kindsOf}
+use Rattle.changes.specs.Held.{changed, Ready, Retired}
 use Rattle.changes.specs.Watches.{shiftOf, heldIn, Full, Outdone, watchFrames, allFrames}
-use Rattle.changes.proofs.Moving.{few-changes, changed-length}
 
 -- the window of n moves by one position exactly if n is not above the newest
 pub shift-is : (newest n : ℕ) {before : ℕ} → before ≡ windowStart newest n → record { before = before; after = before + boolByte (leb n newest) } ≡ shiftOf newest n
@@ -57,29 +59,15 @@ module _ {h : Head} {lowers : List ℕ} {rows : Rows} (f : Full h lowers rows) (
       let stays = o .stays in
       rw q record { from = o .from; within = omega arith; stays = omega arith; listed = o .listed }
 
-module _ (h : Head) (lowers : List ℕ) (rows : Rows) (lower n : ℕ) where
-  pub watch-none : n ≡ 0 → watchFrames h lowers rows lower n ≡ []
+module _ (h : Head) (lowers : List ℕ) (rows : Rows) (lower watch : ℕ) where
+  pub watch-none : watch ≡ 0 → watchFrames h lowers rows lower watch ≡ []
   unfolding watchFrames
-  watch-none e = rw (eq-eqb n 0 e)
+  watch-none e = rw (eq-eqb watch 0 e)
 
-  pub watch-some : (n ≡ 0 → ⊥) → {w : Shift} → w ≡ shiftOf (h .newest) n → watchFrames h lowers rows lower n ≡ frames (changed (heldIn h lowers rows) w lower n)
+  pub watch-some : (watch ≡ 0 → ⊥) → {n : ℕ} {w : Shift} {kinds : Kinds} → n ≡ sizeIn watch → w ≡ shiftOf (h .newest) n → kinds ≡ kindsOf watch
+      → watchFrames h lowers rows lower watch ≡ frames (changed (heldIn h lowers rows) w lower kinds n)
   unfolding watchFrames
-  watch-some e q = rw (ne-eqb n 0 e, q)
-
-  pub watch-length : (n ≡ 0 → ⊥) → {w : Shift} → w ≡ shiftOf (h .newest) n
-      → length (watchFrames h lowers rows lower n) ≡ 7 * (length (moving (heldIn h lowers rows) w false) + length (joining (heldIn h lowers rows) w lower))
-  watch-length e {w} q = ap length (watch-some e q) ∙ changed-length (heldIn h lowers rows) w lower n
-
-  -- at most one change for each row and the new one, seven bytes each
-  pub watch-small : length (watchFrames h lowers rows lower n) ≤ 7 * (h .held + 1)
-  watch-small = go (decLt 0 n)
-    where
-      w : Shift
-      w = shiftOf (h .newest) n
-
-      go : Dec (0 < n) → length (watchFrames h lowers rows lower n) ≤ 7 * (h .held + 1)
-      go (yes k) = rw (watch-length (λ e. omega arith) {w = w} refl) (omega (arith, few-changes (heldIn h lowers rows) w lower))
-      go (no k) = rw (watch-none (omega arith)) (omega arith)
+  watch-some e f q k = rw (ne-eqb watch 0 e, q, k, f)
 
 module _ (h : Head) (lowers : List ℕ) (rows : Rows) (lower : ℕ) where
   pub all-none : allFrames h lowers rows lower [] ≡ []
@@ -123,24 +111,3 @@ module _ {h : Head} {lowers : List ℕ} {rows : Rows} {lower : ℕ} {ws entry ou
 pub written-all : {h : Head} {lowers : List ℕ} {rows : Rows} {lower : ℕ} {ws entry out : List ℕ} {at i : ℕ} → Written h lowers rows lower ws entry out at i → 8 ≤ i → length ws ≡ 8
     → (at ≡ length (allFrames h lowers rows lower ws)) × (out ≡ laid (allFrames h lowers rows lower ws) entry)
 written-all {ws = ws} v l n = rw (take-all 8 ws (omega arith)) at (laying-all (v .laying) l)
-
--- eight watch records are counted up to i, each with its bytes; there are at most 1,024 rows
-pub record Summed (h : Head) (lowers : List ℕ) (rows : Rows) (lower : ℕ) (ws : List ℕ) (sum i : ℕ) : Type 0 where
-  pub within : i ≤ 8
-  pub small : sum ≤ 7175 * i
-  pub total : sum ≡ length (allFrames h lowers rows lower (take i ws))
-
-pub summed-start : (h : Head) (lowers : List ℕ) (rows : Rows) (lower : ℕ) (ws : List ℕ) → Summed h lowers rows lower ws 0 0
-summed-start h lowers rows lower ws = record { within = omega arith; small = omega arith; total = ap length (sym (all-none h lowers rows lower)) }
-
-pub summed-more : {h : Head} {lowers : List ℕ} {rows : Rows} {lower : ℕ} {ws : List ℕ} {sum i r : ℕ} → Summed h lowers rows lower ws sum i → i < 8 → h .held ≤ 1024
-    → r ≡ length (watchFrames h lowers rows lower (getD ws i 0)) → Summed h lowers rows lower ws (sum + r) (i + 1)
-summed-more {h} {lowers} {rows} {lower} {ws} {sum} {i} {r} v l k e = record {
-  within = omega arith;
-  small = omega (arith, watch-small h lowers rows lower (getD ws i 0));
-  total = rw (all-more h lowers rows lower ws i, length-append, e, v .total);
-}
-
-pub summed-all : {h : Head} {lowers : List ℕ} {rows : Rows} {lower : ℕ} {ws : List ℕ} {sum i : ℕ} → Summed h lowers rows lower ws sum i → 8 ≤ i → length ws ≡ 8
-    → sum ≡ length (allFrames h lowers rows lower ws)
-summed-all {ws = ws} {i = i} v l n = v .total ∙ rw (take-all i ws (omega arith))

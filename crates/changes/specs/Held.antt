@@ -1,7 +1,7 @@
 -- What a quote does to the list of a window, told by the rows held before it.
 use mathlib.Core.Path.{_≡_}
 use Prim.Native.Nat.{ℕ, _+_, _-_, _≤_, _<_}
-use mathlib.Core.Bool.{Bool, true, false, _&&_, _||_, not, Bool·beq}
+use mathlib.Core.Bool.{Bool, true, false, _&&_, _||_, not}
 use mathlib.Core.List.{List, [], _++_, map}
 use lib.Dec.{ltb, leb}
 use lib.ListN.{length, getD}
@@ -9,10 +9,11 @@ use Rattle.lists.specs.Lists.{keep, filter}
 use Rattle.skyline.specs.Skyline.{stabbed}
 use Rattle.head.specs.Heads.{lastPosition}
 use Rattle.frames.specs.declared.Message.{Message}
-use Rattle.model.specs.Changes.{leave, join}
+use Rattle.frames.specs.declared.Message.the-variants.{Change}
 use Rattle.finding.specs.Found.{live, Rows, over, retired, Fits}
 use Rattle.listing.specs.Picked.{picked}
 use Rattle.changes.specs.declared.Shift.{Shift}
+use Rattle.changes.specs.declared.kinds.Kinds.{Kinds}
 
 -- the row at place i is live and the quote is not over it
 unfoldable pub stands : Rows → ℕ → Bool
@@ -56,10 +57,6 @@ module _ (s : Held) (w : Shift) where
   moves true i = nowListed i && not (wasListed i)
   moves false i = wasListed i && not (nowListed i)
 
-  -- the row at place i leaves or joins
-  unfoldable pub changesAt : ℕ → Bool
-  changesAt i = not (Bool·beq (wasListed i) (nowListed i))
-
   -- the positions of the rows that join (true) or leave (false), rising
   unfoldable pub moving : Bool → List ℕ
   moving joins = picked (moves joins) (s .first) (s .count)
@@ -68,9 +65,9 @@ module _ (s : Held) (w : Shift) where
   unfoldable pub joining : ℕ → List ℕ
   joining lower = moving true ++ keep (ltb lower (w .after)) (s .first + s .count) []
 
-  -- the changes of the watch of n, where the new row has this lower end: the leaves, then the joins
-  unfoldable pub changed : ℕ → ℕ → List Message
-  changed lower n = map (leave n) (moving false) ++ map (join n) (joining lower)
+  -- the changes of a watch of n with these kinds, where the new row has this lower end: the leaves, then the joins
+  unfoldable pub changed : ℕ → Kinds → ℕ → List Message
+  changed lower kinds n = map (Change (kinds .leave) n) (moving false) ++ map (Change (kinds .join) n) (joining lower)
 
   -- the rows stand in their tables; the window lies within them and moves by one position or not at all
   pub record Ready : Type 0 where

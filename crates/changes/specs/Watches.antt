@@ -9,14 +9,21 @@ use Rattle.lists.specs.Lists.{flat}
 use Rattle.skyline.specs.Skyline.{windowStart}
 use Rattle.head.specs.declared.Head.{Head}
 use Rattle.head.specs.Heads.{lastPosition}
+use Rattle.head.specs.Desks.{sizeIn}
 use Rattle.model.specs.Changes.{frames}
 use Rattle.finding.specs.Found.{Rows, retired, Fits}
 use Rattle.changes.specs.declared.Shift.{Shift}
+use Rattle.changes.specs.Kinds.{kindsOf}
 use Rattle.changes.specs.Held.{Held, changed}
 
 -- how the window of n moves at the quote behind the newest
 unfoldable pub shiftOf : ℕ → ℕ → Shift
 shiftOf newest n = record { before = windowStart newest n; after = windowStart (newest + 1) n }
+
+-- a watch record is empty, or its n is from 1 to N
+pub record Sized (N watch : ℕ) : Type 0 where
+  pub least : 0 < watch → 0 < sizeIn watch
+  pub most : sizeIn watch ≤ N
 
 module _ (h : Head) (lowers : List ℕ) (rows : Rows) where
   -- the rows of the book
@@ -38,9 +45,9 @@ module _ (h : Head) (lowers : List ℕ) (rows : Rows) where
 
   -- lower: the new row's lower end
   module _ (lower : ℕ) where
-    -- the frames of the watch record n; 0 is an empty record
+    -- the frames of a watch record; 0 is an empty one
     unfoldable pub watchFrames : ℕ → List ℕ
-    watchFrames n = cond (eqb n 0) [] (frames (changed heldIn (shiftOf (h .newest) n) lower n))
+    watchFrames watch = cond (eqb watch 0) [] (frames (changed heldIn (shiftOf (h .newest) (sizeIn watch)) lower (kindsOf watch) (sizeIn watch)))
 
     -- the frames of these watch records, each behind the one before
     unfoldable pub allFrames : List ℕ → List ℕ

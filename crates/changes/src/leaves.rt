@@ -1,21 +1,22 @@
-// The leaves that a quote makes in the list of one watch, written as frames: of the row at the window's old start, then of the rows that
-// the quote retires.
+// The leaves that a quote makes in the list of one watch, written as frames of a kind: of the row at the window's old start, then of the
+// rows that the quote retires.
 ghost use mathlib.Core.Path.{_≡_};
 ghost use Prim.Native.Nat.{_≤_, _<_};
 ghost use mathlib.Core.List.{map, _++_};
 ghost use lib.ListN.{length};
 ghost use Rattle.lists.specs.Lists.{laid};
 ghost use Rattle.head.specs.Heads.{lastPosition};
-ghost use Rattle.model.specs.Changes.{leave, frames};
+ghost use Rattle.frames.specs.declared.Message.the-variants.{Change};
+ghost use Rattle.model.specs.Changes.{frames};
 ghost use Rattle.cells.specs.Marked.{Below};
 ghost use Rattle.changes.specs.Held.{fallen, dropped};
 use crate::Shift;
-use frames::LEAVE;
 use octets::lay_change;
 
 // Writes the leave of the row at this place, that of the window's old start, if the window moves past it and it was listed. Returns how
 // many bytes.
 fn write_fallen(
+    kind: u8,
     n: u16,
     lower_ends: &[u32],
     upper_ends: &[u32],
@@ -25,15 +26,15 @@ fn write_fallen(
 ) -> usize
     requires { ⌜ (shift .before < shift .after → place < length (now «lower_ends»)) ⌝ }
     requires { ⌜ (shift .before < shift .after → place < length (now «upper_ends»)) ⌝ }
-    requires { ⌜ length (frames (map (leave n) (fallen place (now «lower_ends») (now «upper_ends») shift))) ≤ length (now out) ⌝ }
-    ensures { λ r. ⌜ r ≡ length (frames (map (leave n) (fallen place (now («lower_ends» .entry)) (now («upper_ends» .entry)) shift))) ⌝ }
-    ensures { λ r. ⌜ now (out .exit) ≡ laid (frames (map (leave n) (fallen place (now («lower_ends» .entry)) (now («upper_ends» .entry)) shift))) (now (out .entry)) ⌝ }
+    requires { ⌜ length (frames (map (Change kind n) (fallen place (now «lower_ends») (now «upper_ends») shift))) ≤ length (now out) ⌝ }
+    ensures { λ r. ⌜ r ≡ length (frames (map (Change kind n) (fallen place (now («lower_ends» .entry)) (now («upper_ends» .entry)) shift))) ⌝ }
+    ensures { λ r. ⌜ now (out .exit) ≡ laid (frames (map (Change kind n) (fallen place (now («lower_ends» .entry)) (now («upper_ends» .entry)) shift))) (now (out .entry)) ⌝ }
 {
     if shift.after <= shift.before {
         return 0;
     }
     if (upper_ends[place] == 0) & (lower_ends[place] < shift.before) {
-        lay_change(LEAVE, n, shift.before, out);
+        lay_change(kind, n, shift.before, out);
         return 7;
     }
     0
@@ -42,6 +43,7 @@ fn write_fallen(
 // Writes the leave of each row at these places that is in the window after and whose lower end is before the window's old start. Returns
 // how many bytes.
 fn write_dropped(
+    kind: u8,
     n: u16,
     retired: &[u16],
     lower_ends: &[u32],
@@ -51,9 +53,9 @@ fn write_dropped(
 ) -> usize
     requires { ⌜ first ≤ lastPosition ⌝ }
     requires { ⌜ Below (now retired) (length (now «lower_ends»)) ⌝ }
-    requires { ⌜ length (frames (map (leave n) (dropped first (now «lower_ends») shift (now retired)))) ≤ length (now out) ⌝ }
-    ensures { λ r. ⌜ r ≡ length (frames (map (leave n) (dropped first (now («lower_ends» .entry)) shift (now (retired .entry))))) ⌝ }
-    ensures { λ r. ⌜ now (out .exit) ≡ laid (frames (map (leave n) (dropped first (now («lower_ends» .entry)) shift (now (retired .entry))))) (now (out .entry)) ⌝ }
+    requires { ⌜ length (frames (map (Change kind n) (dropped first (now «lower_ends») shift (now retired)))) ≤ length (now out) ⌝ }
+    ensures { λ r. ⌜ r ≡ length (frames (map (Change kind n) (dropped first (now («lower_ends» .entry)) shift (now (retired .entry))))) ⌝ }
+    ensures { λ r. ⌜ now (out .exit) ≡ laid (frames (map (Change kind n) (dropped first (now («lower_ends» .entry)) shift (now (retired .entry))))) (now (out .entry)) ⌝ }
 {
     let mut at: usize = 0;
     let mut k = 0;
@@ -63,7 +65,7 @@ fn write_dropped(
         let leaves = (lower_ends[i] < shift.before) & (shift.after <= position);
         k += 1;
         if leaves {
-            lay_change(LEAVE, n, position, &mut out[at..]);
+            lay_change(kind, n, position, &mut out[at..]);
             at += 7;
         }
     }
@@ -72,6 +74,7 @@ fn write_dropped(
 
 // Writes the leaves of the watch of n at a quote that retires the rows at these places. Returns how many bytes.
 pub fn write_leaves(
+    kind: u8,
     n: u16,
     retired: &[u16],
     lower_ends: &[u32],
@@ -85,11 +88,11 @@ pub fn write_leaves(
     requires { ⌜ (shift .before < shift .after → place < length (now «upper_ends»)) ⌝ }
     requires { ⌜ first ≤ lastPosition ⌝ }
     requires { ⌜ Below (now retired) (length (now «lower_ends»)) ⌝ }
-    requires { ⌜ length (frames (map (leave n) (fallen place (now «lower_ends») (now «upper_ends») shift ++ dropped first (now «lower_ends») shift (now retired)))) ≤ length (now out) ⌝ }
-    ensures { λ r. ⌜ r ≡ length (frames (map (leave n) (fallen place (now («lower_ends» .entry)) (now («upper_ends» .entry)) shift ++ dropped first (now («lower_ends» .entry)) shift (now (retired .entry))))) ⌝ }
-    ensures { λ r. ⌜ now (out .exit) ≡ laid (frames (map (leave n) (fallen place (now («lower_ends» .entry)) (now («upper_ends» .entry)) shift ++ dropped first (now («lower_ends» .entry)) shift (now (retired .entry))))) (now (out .entry)) ⌝ }
+    requires { ⌜ length (frames (map (Change kind n) (fallen place (now «lower_ends») (now «upper_ends») shift ++ dropped first (now «lower_ends») shift (now retired)))) ≤ length (now out) ⌝ }
+    ensures { λ r. ⌜ r ≡ length (frames (map (Change kind n) (fallen place (now («lower_ends» .entry)) (now («upper_ends» .entry)) shift ++ dropped first (now («lower_ends» .entry)) shift (now (retired .entry))))) ⌝ }
+    ensures { λ r. ⌜ now (out .exit) ≡ laid (frames (map (Change kind n) (fallen place (now («lower_ends» .entry)) (now («upper_ends» .entry)) shift ++ dropped first (now («lower_ends» .entry)) shift (now (retired .entry))))) (now (out .entry)) ⌝ }
 {
-    let at = write_fallen(n, lower_ends, upper_ends, place, shift, out);
-    let used = write_dropped(n, retired, lower_ends, first, shift, &mut out[at..]);
+    let at = write_fallen(kind, n, lower_ends, upper_ends, place, shift, out);
+    let used = write_dropped(kind, n, retired, lower_ends, first, shift, &mut out[at..]);
     at + used
 }

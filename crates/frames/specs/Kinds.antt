@@ -14,13 +14,21 @@ within a b k = leb a k && leb k b
 abbrev pub lookKind : ℕ
 lookKind = 16
 
--- a watch of n is set
+-- desk one's watch of n is set
 abbrev pub watchKind : ℕ
 watchKind = 17
 
--- the watch of n is ended
+-- desk one's watch of n is ended
 abbrev pub unwatchKind : ℕ
 unwatchKind = 18
+
+-- desk two's watch of n is set
+abbrev pub watchTwoKind : ℕ
+watchTwoKind = 19
+
+-- desk two's watch of n is ended
+abbrev pub unwatchTwoKind : ℕ
+unwatchTwoKind = 20
 
 -- the pair of n1 and n2 is set
 abbrev pub pairKind : ℕ
@@ -34,13 +42,21 @@ unpairKind = 22
 abbrev pub pastKind : ℕ
 pastKind = 23
 
--- a position leaves the list of n
+-- a position leaves the list of n that desk one watches
 abbrev pub leaveKind : ℕ
 leaveKind = 32
 
--- a position joins the list of n
+-- a position joins the list of n that desk one watches
 abbrev pub joinKind : ℕ
 joinKind = 33
+
+-- a position leaves the list of n that desk two watches
+abbrev pub leaveTwoKind : ℕ
+leaveTwoKind = 34
+
+-- a position joins the list of n that desk two watches
+abbrev pub joinTwoKind : ℕ
+joinTwoKind = 35
 
 -- a position leaves the past list of the pair
 abbrev pub pairLeaveKind : ℕ
@@ -60,11 +76,15 @@ kinds =
     (lookKind, Size)
     ∷ (watchKind, Size)
     ∷ (unwatchKind, Size)
+    ∷ (watchTwoKind, Size)
+    ∷ (unwatchTwoKind, Size)
     ∷ (pairKind, SizePair)
     ∷ (unpairKind, Bare)
     ∷ (pastKind, SizePair)
     ∷ (leaveKind, SizePosition)
     ∷ (joinKind, SizePosition)
+    ∷ (leaveTwoKind, SizePosition)
+    ∷ (joinTwoKind, SizePosition)
     ∷ (pairLeaveKind, Position)
     ∷ (pairJoinKind, Position)
     ∷ (openKind, Settings)

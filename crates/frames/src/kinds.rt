@@ -12,6 +12,10 @@ pub const WATCH: u8 = 17;
 
 pub const UNWATCH: u8 = 18;
 
+pub const WATCH_TWO: u8 = 19;
+
+pub const UNWATCH_TWO: u8 = 20;
+
 pub const PAIR: u8 = 21;
 
 pub const UNPAIR: u8 = 22;
@@ -21,6 +25,10 @@ pub const PAST: u8 = 23;
 pub const LEAVE: u8 = 32;
 
 pub const JOIN: u8 = 33;
+
+pub const LEAVE_TWO: u8 = 34;
+
+pub const JOIN_TWO: u8 = 35;
 
 pub const PAIR_LEAVE: u8 = 36;
 
@@ -41,11 +49,8 @@ pub fn shape_of(kind: u8) -> Shape
     if kind < LOOK {
         return Shape::Unknown;
     }
-    if kind <= UNWATCH {
+    if kind <= UNWATCH_TWO {
         return Shape::Size;
-    }
-    if kind < PAIR {
-        return Shape::Unknown;
     }
     if kind == UNPAIR {
         return Shape::Bare;
@@ -56,11 +61,8 @@ pub fn shape_of(kind: u8) -> Shape
     if kind < LEAVE {
         return Shape::Unknown;
     }
-    if kind <= JOIN {
+    if kind <= JOIN_TWO {
         return Shape::SizePosition;
-    }
-    if kind < PAIR_LEAVE {
-        return Shape::Unknown;
     }
     if kind <= PAIR_JOIN {
         return Shape::Position;

@@ -2,3 +2,4 @@
 pub mod Refusals
 pub mod Heads
 pub mod Replies
+pub mod Desks

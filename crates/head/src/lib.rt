@@ -87,9 +87,16 @@ pub struct Head {
     pub n2: u32,
 }
 
-// One record of the watch list; n is 0 where it is empty.
+// A desk: of whom a watch is.
+pub enum Desk {
+    One,
+    Two,
+}
+
+// One record of the watch list: n and the number of its desk, 0 and 0 where it is empty.
 pub struct Watch {
     pub n: u32,
+    pub desk: u32,
 }
 
 impl Head {

@@ -1,34 +1,61 @@
 // Calls on a book that write its tables, as a host makes them: each is made, its answer is judged, and what it says is
 // printed.
-use by_value::Made;
 use head::Answer;
 use head::Head;
 use head::Watch;
 use judged_lines::print;
 use judged_lines::print_changes;
 use judged_lines::print_refusal;
+use sizes::CHANGE_BYTES;
+
+// A worked book with a memory of at most eight: its head, its tables and its records.
+pub struct Worked {
+    pub head: Head,
+    pub columns: [u32; 16],
+    pub positions: [u32; 8],
+    pub lower_ends: [u32; 8],
+    pub upper_ends: [u32; 8],
+    pub records: [Watch; 8],
+}
+
+impl Worked {
+    // The book with another head and other records.
+    pub fn holding(self, head: Head, records: [Watch; 8]) -> Worked {
+        let columns = self.columns;
+        let positions = self.positions;
+        let lower_ends = self.lower_ends;
+        let upper_ends = self.upper_ends;
+        Worked {
+            head,
+            columns,
+            positions,
+            lower_ends,
+            upper_ends,
+            records,
+        }
+    }
+}
 
 // Opens a book of two columns where lower is better, with a memory of so many. Prints its line, or the refusal.
-pub fn open(
-    capacity: u32,
-    columns: &mut [u32],
-    positions: &mut [u32],
-    lower_ends: &mut [u32],
-    upper_ends: &mut [u32],
-    records: [Watch; 8],
-) -> Made {
+pub fn open(capacity: u32) -> Worked {
+    let mut columns = [0u32; 16];
+    let mut positions = [0u32; 8];
+    let mut lower_ends = [0u32; 8];
+    let mut upper_ends = [0u32; 8];
     let made = by_value::open(
         2,
         capacity,
         0,
-        columns,
-        positions,
-        lower_ends,
-        upper_ends,
-        records,
+        &mut columns,
+        &mut positions,
+        &mut lower_ends,
+        &mut upper_ends,
+        [Watch { n: 0, desk: 0 }; 8],
     );
     let reply = made.reply;
+    let records = made.records;
     let answer = reply.answer;
+    let head = reply.head;
     match answer {
         Answer::Accepted => {
             let numbers = [2, capacity, 0];
@@ -38,71 +65,63 @@ pub fn open(
             print_refusal(answer);
         }
     }
-    made
-}
-
-// Takes a quote of two columns, and prints its line and its changes, or the refusal.
-pub fn take(
-    head: Head,
-    quote: [u32; 2],
-    columns: &mut [u32],
-    positions: &mut [u32],
-    lower_ends: &mut [u32],
-    upper_ends: &mut [u32],
-    records: [Watch; 8],
-    out: &mut [u8],
-) -> Head {
-    let reply = by_value::quote(
+    Worked {
         head,
-        &quote,
         columns,
         positions,
         lower_ends,
         upper_ends,
         records,
-        out,
+    }
+}
+
+// Takes a quote of two columns, and prints its line and its changes, or the refusal.
+pub fn take(worked: Worked, quote: [u32; 2]) -> Worked {
+    let mut columns = worked.columns;
+    let mut positions = worked.positions;
+    let mut lower_ends = worked.lower_ends;
+    let mut upper_ends = worked.upper_ends;
+    let records = worked.records;
+    let mut out = [0u8; CHANGE_BYTES];
+    let reply = by_value::quote(
+        worked.head,
+        &quote,
+        &mut columns,
+        &mut positions,
+        &mut lower_ends,
+        &mut upper_ends,
+        records,
+        &mut out,
     );
     let answer = reply.answer;
-    let next = reply.head;
-    let count = reply.count;
+    let head = reply.head;
     match answer {
         Answer::Accepted => {
-            let numbers = [next.newest, next.live];
+            let numbers = [head.newest, head.live];
             print(b'Q', &numbers);
-            print_changes(out, count);
+            print_changes(&out, reply.count);
         }
         Answer::Refused(_) => {
             print_refusal(answer);
         }
     }
-    next
+    Worked {
+        head,
+        columns,
+        positions,
+        lower_ends,
+        upper_ends,
+        records,
+    }
 }
 
 // Takes quotes of two columns, one behind the other.
-pub fn take_all(
-    head: Head,
-    quotes: &[u32],
-    columns: &mut [u32],
-    positions: &mut [u32],
-    lower_ends: &mut [u32],
-    upper_ends: &mut [u32],
-    records: [Watch; 8],
-    out: &mut [u8],
-) -> Head {
-    let mut now = head;
+pub fn take_all(worked: Worked, quotes: &[u32]) -> Worked {
+    let mut now = worked;
     let mut i = 0;
     while i + 1 < quotes.len() {
         let quote = [quotes[i], quotes[i + 1]];
-        now = take(
-            now,
-            quote,
-            columns,
-            positions,
-            lower_ends,
-            upper_ends,
-            records,
-            out,
-        );
+        now = take(now, quote);
         i += 2;
     }
     now

@@ -1,59 +1,59 @@
 // Calls on the pair of a book, as a host makes them: each is made, its answer is judged, and what it says is printed.
 use head::Answer;
-use head::Head;
-use head::Watch;
+use judged_calls::Worked;
 use judged_lines::print;
 use judged_lines::print_changes;
 use judged_lines::print_refusal;
+use sizes::CHANGE_BYTES;
 
-// Watches the past list of n1 and n2, and prints what joins, or the refusal. Hands back the head.
-pub fn pair(
-    head: Head,
-    n1: u32,
-    n2: u32,
-    columns: &[u32],
-    positions: &[u32],
-    lower_ends: &[u32],
-    upper_ends: &[u32],
-    records: [Watch; 8],
-    out: &mut [u8],
-) -> Head {
+// Watches the past list of n1 and n2, and prints what joins, or the refusal.
+pub fn pair(worked: Worked, n1: u32, n2: u32) -> Worked {
+    let columns = worked.columns;
+    let positions = worked.positions;
+    let lower_ends = worked.lower_ends;
+    let upper_ends = worked.upper_ends;
+    let records = worked.records;
+    let mut out = [0u8; CHANGE_BYTES];
     let reply = by_value::pair(
-        head,
+        worked.head,
         n1,
         n2,
-        columns,
-        positions,
-        lower_ends,
-        upper_ends,
+        &columns,
+        &positions,
+        &lower_ends,
+        &upper_ends,
         records,
-        out,
+        &mut out,
     );
     let answer = reply.answer;
-    let count = reply.count;
     match answer {
         Answer::Accepted => {
             let numbers = [n1, n2];
             print(b'B', &numbers);
-            print_changes(out, count);
+            print_changes(&out, reply.count);
         }
         Answer::Refused(_) => {
             print_refusal(answer);
         }
     }
-    reply.head
+    worked.holding(reply.head, records)
 }
 
-// Ends the pair, and prints its line, or the refusal. Hands back the head.
-pub fn unpair(
-    head: Head,
-    columns: &[u32],
-    positions: &[u32],
-    lower_ends: &[u32],
-    upper_ends: &[u32],
-    records: [Watch; 8],
-) -> Head {
-    let reply = by_value::unpair(head, columns, positions, lower_ends, upper_ends, records);
+// Ends the pair, and prints its line, or the refusal.
+pub fn unpair(worked: Worked) -> Worked {
+    let columns = worked.columns;
+    let positions = worked.positions;
+    let lower_ends = worked.lower_ends;
+    let upper_ends = worked.upper_ends;
+    let records = worked.records;
+    let reply = by_value::unpair(
+        worked.head,
+        &columns,
+        &positions,
+        &lower_ends,
+        &upper_ends,
+        records,
+    );
     let answer = reply.answer;
     match answer {
         Answer::Accepted => {
@@ -63,20 +63,24 @@ pub fn unpair(
             print_refusal(answer);
         }
     }
-    reply.head
+    worked.holding(reply.head, records)
 }
 
 // Asks what is due, and prints two numbers for each row, its position and after how many quotes it joins; or the
 // refusal.
-pub fn due(
-    head: Head,
-    columns: &[u32],
-    positions: &[u32],
-    lower_ends: &[u32],
-    upper_ends: &[u32],
-    cells: &mut [u32],
-) {
-    let reply = book::due(head, columns, positions, lower_ends, upper_ends, cells);
+pub fn due(worked: Worked, cells: &mut [u32]) {
+    let columns = worked.columns;
+    let positions = worked.positions;
+    let lower_ends = worked.lower_ends;
+    let upper_ends = worked.upper_ends;
+    let reply = book::due(
+        worked.head,
+        &columns,
+        &positions,
+        &lower_ends,
+        &upper_ends,
+        cells,
+    );
     let answer = reply.answer;
     let rows = reply.count;
     match answer {

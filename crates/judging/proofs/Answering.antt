@@ -46,12 +46,12 @@ module _ (cs : List (Bool × ℕ)) where
       let above : 1 ≤ firstOf cs = rw (refused-number a k e f) (number-above k) in
       e ∙ sym (firstOf-append cs more p ∙ granted-refused (firstOf cs) above (firstOf more) (firstOf cs))
 
--- two tests, one behind the other, are a list of two
-pub tested-twice : (a : ℕ) (p q : Bool × ℕ) {b r : ℕ} → b ≡ granted a (firstOf (p ∷ [])) a → r ≡ granted b (firstOf (q ∷ [])) b → positive (p ∷ []) ≡ true
-    → r ≡ granted a (firstOf (p ∷ q ∷ [])) a
+-- tests behind an answer, and one more behind them, are a longer list
+pub tested-again : (a : ℕ) (ps : List (Bool × ℕ)) (q : Bool × ℕ) {b r : ℕ} → b ≡ granted a (firstOf ps) a → r ≡ granted b (firstOf (q ∷ [])) b → positive ps ≡ true
+    → r ≡ granted a (firstOf (ps ++ (q ∷ []))) a
 unfolding granted
-tested-twice zero p q e f above = tested-more (p ∷ []) (q ∷ []) e f above
-tested-twice (suc n) p q e f above = f ∙ rw e
+tested-again zero ps q e f above = tested-more ps (q ∷ []) e f above
+tested-again (suc n) ps q e f above = f ∙ rw e
 
 -- ---- the tests on the tables
 module _ (h : Head) (t : Tables) where

@@ -2,9 +2,11 @@
 ghost use mathlib.Core.Path.{_≡_};
 ghost use mathlib.Core.Bool.{not};
 ghost use mathlib.Core.List.{[], _∷_};
+ghost use lib.Dec.{ltb};
 ghost use Rattle.head.specs.declared.Refusal.the-variants.{Settings};
 ghost use Rattle.head.specs.Heads.{settingsHold};
 ghost use Rattle.head.specs.Refusals.{number, numberOf, firstOf, granted};
+ghost use Rattle.model.specs.Changes.{changeRoom};
 ghost use Rattle.model.specs.Book.{shortTables, answerOf, watchfulAnswer, outOfRange};
 ghost use Rattle.model.specs.Promises.{tables};
 ghost use Rattle.judging.specs.Answers.{loanAnswer};
@@ -12,6 +14,7 @@ use head::Answer;
 use head::Head;
 use head::Refusal;
 use rows::torn_rows;
+use sizes::CHANGE_BYTES;
 use watches::torn;
 
 // Whether a table is shorter than the settings ask.
@@ -37,6 +40,13 @@ pub fn out_of_range(head: Head, n: u32) -> bool
     ensures { λ r. ⌜ r ≡ outOfRange head n ⌝ }
 {
     !((1 <= n) & (n <= head.capacity))
+}
+
+// Whether an output is shorter than each call that writes changes asks for, however few it writes.
+pub fn short_output(room: usize) -> bool
+    ensures { λ r. ⌜ r ≡ ltb room changeRoom ⌝ }
+{
+    room < CHANGE_BYTES
 }
 
 // An answer with one more test behind it: an acceptance becomes this refusal if the test holds.
@@ -106,7 +116,7 @@ pub fn judge_watchful(
     positions: &[u32],
     lower_ends: &[u32],
     upper_ends: &[u32],
-    watches: [u32; 8],
+    watches: [u64; 8],
 ) -> Answer
     ensures { λ r. ⌜ numberOf r ≡ watchfulAnswer head (tables (now (columns .entry)) (now (positions .entry)) (now («lower_ends» .entry)) (now («upper_ends» .entry))) watches [] ⌝ }
 {

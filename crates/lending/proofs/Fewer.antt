@@ -9,6 +9,7 @@ use lib.ListN.{length, take, length-take}
 use lib.Seq.{take-all}
 use borrow.Author.Tests.{lt-ltb}
 use Rattle.head.specs.declared.Head.{Head}
+use Rattle.head.specs.declared.Desk.{Desk}
 use Rattle.head.specs.declared.Refusal.the-variants.{Settings, ShortLoan}
 use Rattle.head.specs.declared.Reply.{Reply}
 use Rattle.head.specs.declared.Effect.{Effect}
@@ -61,15 +62,15 @@ module _ (watches : List ℕ) (lent : ℕ) where
   enough : length watches ≤ lent → watches ≡ ws
   enough h = sym (take-all lent watches h)
 
-  pub end-eight : (h : Head) (n : ℕ) (t : Tables) {r : Reply} {after : List ℕ} → length watches ≤ lent → Ended h n t watches r after → {j : Judgement} → j ≡ judgement r → Judged (endReply h n t ws) j
-  end-eight h n t k m e = judges _ e (m .reply ∙ ap (endReply h n t) (enough k))
+  pub end-eight : (h : Head) (desk : Desk) (n : ℕ) (t : Tables) {r : Reply} {after : List ℕ} → length watches ≤ lent → Ended h desk n t watches r after → {j : Judgement} → j ≡ judgement r → Judged (endReply h desk n t ws) j
+  end-eight h desk n t k m e = judges _ e (m .reply ∙ ap (endReply h desk n t) (enough k))
 
   pub open-eight : (d N directions : ℕ) (t : Tables) {r : Reply} {t' : Tables} {after : List ℕ} {j : Judgement} → length watches ≤ lent → Opened d N directions t watches r t' after → j ≡ judgement r → OpenJudged d N directions t ws j t'
   open-eight d N directions t k m e = record { judged = judges _ e (m .reply ∙ ap (openReply d N directions t) (enough k)); lent = m .lent ∙ ap (openTables d N directions t) (enough k) }
 
-  pub watch-eight : (h : Head) (n : ℕ) (t : Tables) {before : List ℕ} {r : Reply} {after out : List ℕ} {j : Judgement} → length watches ≤ lent → Watched h n t watches before r after out → j ≡ judgement r → WatchJudged h n t ws before j out
-  watch-eight h n t {before} k m e =
-      record { judged = judges _ e (m .reply ∙ ap (λ (l : List ℕ). watchReply h n t l (length before)) (enough k)); out = m .out ∙ ap (λ (l : List ℕ). watchOut h n t l before) (enough k) }
+  pub watch-eight : (h : Head) (desk : Desk) (n : ℕ) (t : Tables) {before : List ℕ} {r : Reply} {after out : List ℕ} {j : Judgement} → length watches ≤ lent → Watched h desk n t watches before r after out → j ≡ judgement r → WatchJudged h desk n t ws before j out
+  watch-eight h desk n t {before} k m e =
+      record { judged = judges _ e (m .reply ∙ ap (λ (l : List ℕ). watchReply h desk n t l (length before)) (enough k)); out = m .out ∙ ap (λ (l : List ℕ). watchOut h desk n t l before) (enough k) }
 
   pub quote-eight : (h : Head) (x : List ℕ) (t : Tables) {before : List ℕ} {r : Reply} {t' : Tables} {out : List ℕ} → length watches ≤ lent → Quoted h x t watches before r t' out → Quoted h x t ws before r t' out
   quote-eight h x t {before} {r} {t'} {out} k m = subst (λ (l : List ℕ). Quoted h x t l before r t' out) (enough k) m
@@ -95,9 +96,9 @@ module _ (watches : List ℕ) (lent : ℕ) where
     unfolding openAnswer shortLoan fewAnswer
     few-open d N directions t = rw short (three-few (settingsHold d N directions) (shortTables t d N) [])
 
-    pub end-few : (h : Head) (n : ℕ) (t : Tables) (r : Reply) → outcome r ≡ fewReply h h → {j : Judgement} → j ≡ judgement r → Judged (endReply h n t ws) j
+    pub end-few : (h : Head) (desk : Desk) (n : ℕ) (t : Tables) (r : Reply) → outcome r ≡ fewReply h h → {j : Judgement} → j ≡ judgement r → Judged (endReply h desk n t ws) j
     unfolding endReply endAnswer
-    end-few h n t r e f = judges r f (e ∙ rw (few-watchful h t) (few-reply h h h 0))
+    end-few h desk n t r e f = judges r f (e ∙ rw (few-watchful h t) (few-reply h h h 0))
 
     pub open-few : (d N directions : ℕ) (t : Tables) (r : Reply) {settings back : Head} → settings ≡ freshHead d N directions → back ≡ freshHead 0 0 0 → outcome r ≡ fewReply settings back
         → {j : Judgement} → j ≡ judgement r → OpenJudged d N directions t ws j t
@@ -108,10 +109,10 @@ module _ (watches : List ℕ) (lent : ℕ) where
           lent = rw (few-open d N directions t) (few-left (freshHead d N directions) _ t);
         }
 
-    pub watch-few : (h : Head) (n : ℕ) (t : Tables) {before : List ℕ} (r : Reply) → outcome r ≡ fewReply h h → {j : Judgement} → j ≡ judgement r → WatchJudged h n t ws before j before
+    pub watch-few : (h : Head) (desk : Desk) (n : ℕ) (t : Tables) {before : List ℕ} (r : Reply) → outcome r ≡ fewReply h h → {j : Judgement} → j ≡ judgement r → WatchJudged h desk n t ws before j before
     unfolding watchReply watchAnswer watchOut
-    watch-few h n t {before} r e f =
-        record { judged = judges r f (e ∙ rw (few-watchful h t) (few-reply h h h (length (watchBytes h n t ws)))); out = rw (few-watchful h t) (few-left h _ before) }
+    watch-few h desk n t {before} r e f =
+        record { judged = judges r f (e ∙ rw (few-watchful h t) (few-reply h h h (length (watchBytes h desk n t ws)))); out = rw (few-watchful h t) (few-left h _ before) }
 
     pub quote-few : (h : Head) (x : List ℕ) (t : Tables) {before : List ℕ} {r : Reply} → outcome r ≡ fewReply h h → Quoted h x t ws before r t before
     unfolding quoteReply quoteAnswer quoteTables quoteOut

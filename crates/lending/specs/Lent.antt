@@ -5,6 +5,7 @@ use mathlib.Core.Bool.{true, false, not}
 use mathlib.Core.List.{List, [], _∷_}
 use lib.ListN.{length}
 use Rattle.head.specs.declared.Head.{Head}
+use Rattle.head.specs.declared.Desk.{Desk}
 use Rattle.head.specs.declared.Reply.{Reply}
 use Rattle.head.specs.declared.Refusal.the-variants.{Settings, ShortLoan}
 use Rattle.head.specs.Heads.{settingsHold}
@@ -36,7 +37,7 @@ pub record OpenJudged (d N directions : ℕ) (t : Tables) (ws : List ℕ) (j : J
   pub judged : Judged (openReply d N directions t ws) j
   pub lent : t' ≡ openTables d N directions t ws
 
--- a watch of n is answered and leaves the output so; the records change after it
-pub record WatchJudged (h : Head) (n : ℕ) (t : Tables) (ws before : List ℕ) (j : Judgement) (after : List ℕ) : Type 0 where
-  pub judged : Judged (watchReply h n t ws (length before)) j
-  pub out : after ≡ watchOut h n t ws before
+-- a desk's watch of n is answered and leaves the output so; the records change after it
+pub record WatchJudged (h : Head) (desk : Desk) (n : ℕ) (t : Tables) (ws before : List ℕ) (j : Judgement) (after : List ℕ) : Type 0 where
+  pub judged : Judged (watchReply h desk n t ws (length before)) j
+  pub out : after ≡ watchOut h desk n t ws before

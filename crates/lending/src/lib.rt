@@ -7,6 +7,7 @@ ghost use Rattle.model.specs.Book.{endReply};
 ghost use Rattle.model.specs.Promises.{tables, Quoted, Previewed, Paired, Unpaired};
 ghost use Rattle.lending.specs.Lent.{judgement, Judged, fewReply, OpenJudged, WatchJudged};
 use head::Answer;
+use head::Desk;
 use head::Effect;
 use head::Head;
 use head::Refusal;
@@ -70,7 +71,7 @@ pub fn open_lent(
     positions: &mut [u32],
     lower_ends: &mut [u32],
     upper_ends: &mut [u32],
-    watches: [u32; 8],
+    watches: [u64; 8],
     lent: usize,
 ) -> Judgement
     ensures { λ r. ⌜ OpenJudged dimensions capacity directions
@@ -102,7 +103,7 @@ pub fn quote_lent(
     positions: &mut [u32],
     lower_ends: &mut [u32],
     upper_ends: &mut [u32],
-    watches: [u32; 8],
+    watches: [u64; 8],
     lent: usize,
     out: &mut [u8],
 ) -> Reply
@@ -134,7 +135,7 @@ pub fn preview_lent(
     positions: &[u32],
     lower_ends: &[u32],
     upper_ends: &[u32],
-    watches: [u32; 8],
+    watches: [u64; 8],
     lent: usize,
     out: &mut [u8],
 ) -> Effect
@@ -157,19 +158,20 @@ pub fn preview_lent(
     )
 }
 
-// Sets a watch of n but for the records: writes its joins, and says whether n is to be inserted.
+// Sets a desk's watch of n but for the records: writes its joins, and says whether it is to be inserted.
 pub fn watch_lent(
     head: Head,
+    desk: Desk,
     n: u32,
     columns: &[u32],
     positions: &[u32],
     lower_ends: &[u32],
     upper_ends: &[u32],
-    watches: [u32; 8],
+    watches: [u64; 8],
     lent: usize,
     out: &mut [u8],
 ) -> Judgement
-    ensures { λ r. ⌜ WatchJudged head n
+    ensures { λ r. ⌜ WatchJudged head desk n
         (tables (now (columns .entry)) (now (positions .entry)) (now («lower_ends» .entry)) (now («upper_ends» .entry)))
         (take lent watches) (now (out .entry)) r (now (out .exit)) ⌝ }
 {
@@ -178,6 +180,7 @@ pub fn watch_lent(
     }
     let made = watch(
         head,
+        desk,
         n,
         columns,
         positions,
@@ -189,24 +192,34 @@ pub fn watch_lent(
     judge(made.reply)
 }
 
-// Ends the watch of n but for the records: says whether n is to be removed.
+// Ends a desk's watch of n but for the records: says whether it is to be removed.
 pub fn end_lent(
     head: Head,
+    desk: Desk,
     n: u32,
     columns: &[u32],
     positions: &[u32],
     lower_ends: &[u32],
     upper_ends: &[u32],
-    watches: [u32; 8],
+    watches: [u64; 8],
     lent: usize,
 ) -> Judgement
-    ensures { λ r. ⌜ Judged (endReply head n
+    ensures { λ r. ⌜ Judged (endReply head desk n
         (tables (now (columns .entry)) (now (positions .entry)) (now («lower_ends» .entry)) (now («upper_ends» .entry))) (take lent watches)) r ⌝ }
 {
     if lent < 8 {
         return judge(few(head, head));
     }
-    let made = end(head, n, columns, positions, lower_ends, upper_ends, watches);
+    let made = end(
+        head,
+        desk,
+        n,
+        columns,
+        positions,
+        lower_ends,
+        upper_ends,
+        watches,
+    );
     judge(made.reply)
 }
 
@@ -219,7 +232,7 @@ pub fn pair_lent(
     positions: &[u32],
     lower_ends: &[u32],
     upper_ends: &[u32],
-    watches: [u32; 8],
+    watches: [u64; 8],
     lent: usize,
     out: &mut [u8],
 ) -> Reply
@@ -250,7 +263,7 @@ pub fn unpair_lent(
     positions: &[u32],
     lower_ends: &[u32],
     upper_ends: &[u32],
-    watches: [u32; 8],
+    watches: [u64; 8],
     lent: usize,
 ) -> Reply
     ensures { λ r. ⌜ Unpaired head

@@ -1,41 +1,39 @@
--- The joins of what follows a list: how many bytes they take, and the frame of one.
-use mathlib.Core.Path.{_≡_, sym}
-use Prim.Native.Nat.{ℕ, _*_}
+-- The joins of what follows a list: those of a desk's watch, and the frame of one.
+use mathlib.Core.Path.{_≡_, sym, ap₂}
+use Prim.Native.Nat.{ℕ, _<_}
 use mathlib.Core.List.{List, [], _∷_, _++_, map}
 use lib.ListN.{length}
 use Rattle.lists.specs.Lists.{laid}
 use Rattle.octets.specs.Bytes.{bytes2, bytes4}
-use Rattle.frames.specs.Kinds.{joinKind, pairJoinKind}
+use Rattle.head.specs.declared.Desk.{Desk}
+use Rattle.head.specs.Desks.{deskNumber, deskUnit, watchOf}
+use Rattle.frames.specs.declared.Message.the-variants.{Change}
+use Rattle.frames.specs.Kinds.{pairJoinKind}
 use Rattle.frames.specs.Frames.{frame}
 use Rattle.frames.proofs.RoundTrips.{change-length, position-length}
-use Rattle.model.specs.Changes.{frames}
+use Rattle.model.specs.Changes.{joinKindOf, join, frames}
+use Rattle.model.proofs.Desks.{desk-of-watch, size-of-watch}
 use Rattle.listing.specs.declared.Follower.{Follower}
 use Rattle.listing.specs.declared.Follower.the-variants.{Watch, Pair}
-use Rattle.listing.specs.Picked.{listedIn}
 use Rattle.listing.specs.Joins.{joinOf}
-use Rattle.listing.proofs.Framing.{joins-length, pair-joins-length}
 
--- the joins of a list that was counted
-module _ (first a b : ℕ) (lowers uppers : List ℕ) {count : ℕ} (e : count ≡ length (listedIn a b first lowers uppers)) {f : Follower} where
-  pub watch-bytes : {n : ℕ} → f ≡ Watch n → 7 * count ≡ length (frames (map (joinOf f) (listedIn a b first lowers uppers)))
-  unfolding joinOf
-  watch-bytes {n} g = rw (g, joins-length n (listedIn a b first lowers uppers), e)
-
-  pub pair-bytes : f ≡ Pair → 5 * count ≡ length (frames (map (joinOf f) (listedIn a b first lowers uppers)))
-  unfolding joinOf
-  pair-bytes g = rw (g, pair-joins-length (listedIn a b first lowers uppers), e)
+-- the joins of a desk's watch are those of its record
+pub watch-joins : (desk : Desk) (n : ℕ) → n < deskUnit → (l : List ℕ) → frames (map (joinOf (Watch desk n)) l) ≡ frames (map (join (watchOf desk n)) l)
+unfolding joinOf
+watch-joins desk n small l =
+    sym (ap₂ (λ (k m : ℕ). frames (map (Change (joinKindOf k) m) l)) (desk-of-watch desk n small) (size-of-watch desk n small))
 
 module _ (p : ℕ) {f : Follower} where
   -- the frame of a watch's join
-  module _ {n : ℕ} (g : f ≡ Watch n) where
+  module _ {desk : Desk} {n : ℕ} (g : f ≡ Watch desk n) where
     pub watch-size : length (frame (joinOf f p) []) ≡ 7
     unfolding joinOf
-    watch-size = rw (g, change-length joinKind n p)
+    watch-size = rw (g, change-length (joinKindOf (deskNumber desk)) n p)
 
-    pub watch-laid : (out : List ℕ) {after : List ℕ} → after ≡ laid (joinKind ∷ (bytes2 n ++ bytes4 p)) out
+    pub watch-laid : {kind : ℕ} → kind ≡ joinKindOf (deskNumber desk) → (out : List ℕ) {after : List ℕ} → after ≡ laid (kind ∷ (bytes2 n ++ bytes4 p)) out
         → (7 ≡ length (frame (joinOf f p) [])) × (after ≡ laid (frame (joinOf f p) []) out)
     unfolding joinOf frame
-    watch-laid out e = (sym watch-size, rw g e)
+    watch-laid k out e = (sym watch-size, rw (g, ← k) e)
 
   -- the frame of the pair's join
   module _ (g : f ≡ Pair) where

@@ -20,7 +20,7 @@ use Rattle.model.specs.Rows.{Row, Tables, rowAt, rowsIn, listed}
 use Rattle.model.specs.Book.{bookRows}
 use Rattle.model.proofs.Torn.{Whole}
 use Rattle.listing.specs.Picked.{picked, listedAt, listedIn}
-use Rattle.listing.proofs.Picking.{picked-skip, picked-few}
+use Rattle.listing.proofs.Picking.{picked-skip}
 
 module _ (first a b : ℕ) (lowers uppers : List ℕ) where
   abbrev test : ℕ → Bool
@@ -46,11 +46,6 @@ module _ (first a b : ℕ) (lowers uppers : List ℕ) where
   pub listed-late : (i : ℕ) → b < first + i → test i ≡ false
   unfolding listedAt
   listed-late i h = refute (test i) (λ t. omega (arith, of-covers a b (getD lowers i 0) (first + i) (getD uppers i 0) t .end))
-
-  -- no more are listed than the window has rows
-  pub listed-few : length (listedIn a b first lowers uppers) ≤ b + 1 - first
-  unfolding listedIn
-  listed-few = picked-few test first (b + 1 - first)
 
 -- ---- the model's rows
 

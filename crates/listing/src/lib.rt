@@ -10,22 +10,25 @@ ghost use lib.Dec.{ltb, eqb};
 ghost use lib.ListN.{length};
 ghost use Rattle.lists.specs.Lists.{laid};
 ghost use Rattle.skyline.specs.Skyline.{windowStart};
+ghost use Rattle.head.specs.Desks.{deskNumber};
 ghost use Rattle.head.specs.Heads.{lastPosition};
 ghost use Rattle.frames.specs.Frames.{frame};
-ghost use Rattle.model.specs.Changes.{frames};
+ghost use Rattle.model.specs.Changes.{joinKindOf, frames};
 ghost use Rattle.listing.specs.Picked.{listedIn, Window};
 ghost use Rattle.listing.specs.Joins.{joinOf};
 pub use due::count_due;
 pub use due::write_due;
 use frames::JOIN;
+use frames::JOIN_TWO;
 use frames::PAIR_JOIN;
+use head::Desk;
 use head::Head;
 use octets::lay_change;
 use octets::lay_position;
 
-// What follows a list: the watch of n, or the pair.
+// What follows a list: a desk's watch of n, or the pair.
 pub enum Follower {
-    Watch(u16),
+    Watch(Desk, u16),
     Pair,
 }
 
@@ -88,22 +91,13 @@ pub fn write_listed(
     at
 }
 
-// How many bytes the follower's joins of the list of the window from a to b take.
-pub fn count_joins(
-    follower: Follower,
-    lower_ends: &[u32],
-    upper_ends: &[u32],
-    first: u32,
-    a: u32,
-    b: u32,
-) -> usize
-    requires { ⌜ Window first a b (now «lower_ends») (now «upper_ends») ⌝ }
-    ensures { λ r. ⌜ r ≡ length (frames (map (joinOf follower) (listedIn a b first (now («lower_ends» .entry)) (now («upper_ends» .entry))))) ⌝ }
+// The kind of a desk's joins.
+fn join_kind(desk: Desk) -> u8
+    ensures { λ r. ⌜ r ≡ joinKindOf (deskNumber desk) ⌝ }
 {
-    let count = count_listed(lower_ends, upper_ends, first, a, b);
-    match follower {
-        Follower::Watch(_) => 7 * count,
-        Follower::Pair => 5 * count,
+    match desk {
+        Desk::One => JOIN,
+        Desk::Two => JOIN_TWO,
     }
 }
 
@@ -115,8 +109,8 @@ fn lay_join(follower: Follower, position: u32, out: &mut [u8]) -> usize
 {
     match follower {
         Follower::Pair => {}
-        Follower::Watch(n) => {
-            lay_change(JOIN, n, position, out);
+        Follower::Watch(desk, n) => {
+            lay_change(join_kind(desk), n, position, out);
             return 7;
         }
     }

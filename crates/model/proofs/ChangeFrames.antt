@@ -7,11 +7,12 @@ use mathlib.Core.List.{List, [], _∷_, _++_, map}
 use lib.ListN.{length, length-append, length-map}
 use Rattle.lists.specs.Lists.{flat}
 use Rattle.lists.proofs.Filters.{flat-append, map-append}
+use Rattle.head.specs.Desks.{deskIn, sizeIn}
 use Rattle.frames.specs.declared.Message.{Message}
-use Rattle.frames.specs.Kinds.{leaveKind, joinKind, pairLeaveKind, pairJoinKind}
+use Rattle.frames.specs.Kinds.{pairLeaveKind, pairJoinKind}
 use Rattle.frames.specs.Frames.{frame}
 use Rattle.frames.proofs.RoundTrips.{change-length, position-length}
-use Rattle.model.specs.Changes.{leave, join, pairLeave, pairJoin, missing, changesBy, changes, pairChanges, frames}
+use Rattle.model.specs.Changes.{leaveKindOf, joinKindOf, leave, join, pairLeave, pairJoin, missing, changesBy, changes, pairChanges, frames}
 
 pub frames-append : (ms ns : List Message) → frames (ms ++ ns) ≡ frames ms ++ frames ns
 unfolding frames
@@ -43,9 +44,10 @@ module _ (k : ℕ) where
       come = map joins (missing after before)
 
 -- each change of a watch is a frame of seven bytes
-pub changes-bytes : (n : ℕ) (before after : List ℕ) → length (frames (changes n before after)) ≡ 7 * length (changes n before after)
+pub changes-bytes : (w : ℕ) (before after : List ℕ) → length (frames (changes w before after)) ≡ 7 * length (changes w before after)
 unfolding changes
-changes-bytes n before after = by-bytes 7 (leave n) (join n) (change-length leaveKind n) (change-length joinKind n) before after
+changes-bytes w before after =
+    by-bytes 7 (leave w) (join w) (change-length (leaveKindOf (deskIn w)) (sizeIn w)) (change-length (joinKindOf (deskIn w)) (sizeIn w)) before after
 
 -- each change of the pair one of five
 pub pair-bytes : (before after : List ℕ) → length (frames (pairChanges before after)) ≡ 5 * length (pairChanges before after)

@@ -9,9 +9,9 @@ use mathlib.Core.Bool.{Bool, true, false, _&&_, _||_, not, cond}
 use mathlib.Core.List.{List, [], _∷_, _++_, map, List·Memᴰ, List·Memᴰ·head, List·Memᴰ·append-cases, List·Memᴰ·eq-of-singleton}
 use lib.Dec.{ltb, leb, eqb}
 use lib.ListN.{length, take, length-append, length-take, length-map}
-use borrow.Author.Tests.{le-ltb, eqb-true, eq-eqb, ne-eqb, not-false}
+use borrow.Author.Tests.{le-ltb, eqb-true, eq-eqb, ne-eqb}
 use Rattle.lists.specs.Lists.{filter, any, flat, run, contains, rising}
-use Rattle.lists.proofs.Booleans.{and-left, or-left, or-right, none-left, none-right}
+use Rattle.lists.proofs.Booleans.{and-left, or-left, or-right}
 use Rattle.lists.proofs.Filters.{length-filter, map-append, map-map}
 use Rattle.lists.proofs.Members.{mem-none, into-filter, of-filter, into-map, of-map, contains-mem, mem-contains, contains-filter}
 use Rattle.lists.proofs.Runs.{length-run}
@@ -21,16 +21,20 @@ use Rattle.skyline.specs.Skyline.{windowStart}
 use Rattle.skyline.specs.Past.{covers}
 use Rattle.skyline.proofs.Past.{of-covers}
 use Rattle.head.specs.declared.Head.{Head}
-use Rattle.head.specs.declared.Refusal.the-variants.{Settings, ColumnCount, TapeFull, ShortLoan, Torn, ShortOutput}
+use Rattle.head.specs.declared.Refusal.the-variants.{ColumnCount, TapeFull}
 use Rattle.head.specs.Refusals.{number, firstOf}
 use Rattle.head.specs.Heads.{settingsHold, afterQuote, tornPair, lastPosition}
 use Rattle.head.proofs.Settings.{Within, settings-within}
+use Rattle.head.specs.declared.Desk.{Desk}
+use Rattle.head.specs.Desks.{deskIn, sizeIn, watchOf}
 use Rattle.frames.specs.declared.Message.{Message}
+use Rattle.frames.specs.Kinds.{pairJoinKind}
+use Rattle.frames.proofs.RoundTrips.{change-length, position-length}
 use Rattle.model.specs.Rows.{Row, Tables, rowAt, rowsIn, isLive, liveRows, listed, expiring, overOlder, retiredBy, rowAfter, lowerEndAmong, rowsAfter}
-use Rattle.model.specs.Changes.{leave, join, pairLeave, pairJoin, missing, changesBy, changes, allChanges, pairChanges, frames}
-use Rattle.model.specs.Book.{shortLoan, tornRows, tornWatches, standing, bookRows, pastListOf, listOf, pairStands, pairListOf, watchfulAnswer, quoteRows, quoteHead, quoteBytes, quoteAnswer, ChangesFit}
+use Rattle.model.specs.Changes.{joinKindOf, leave, join, pairLeave, pairJoin, missing, changesBy, changes, allChanges, pairChanges, frames, changeRoom}
+use Rattle.model.specs.Book.{tornRows, standing, bookRows, pastListOf, listOf, pairStands, pairListOf, watchfulAnswer, quoteRows, quoteHead, quoteBytes, quoteAnswer, ChangesFit, watchBytes, pairBytes}
 use Rattle.model.proofs.Torn.{Whole, upperAstray, upper-place, pair-within, window-few, untorn-whole}
-use Rattle.model.proofs.ChangeFrames.{frames-append, changes-bytes, pair-bytes}
+use Rattle.model.proofs.ChangeFrames.{frames-append, frames-bytes, changes-bytes, pair-bytes}
 
 or-false : (b : Bool) → b || false ≡ b
 or-false true = refl
@@ -181,10 +185,10 @@ module _ (h : Head) (x : List ℕ) (rs : List Row) (ok : Whole h rs) where
       (rw next-positions (behind (map Row.position left) (rising-map-filter Row.position (λ r. not (eqb (r .position) gone)) start (h .newest) rs risen)))
 
   -- at most one change for each live row and one for the new row
-  rows-change : (n a a' b' : ℕ) → h .newest ≤ b' → length (changes n (listed a (h .newest) rs) (listed a' b' next)) ≤ suc (length (liveRows rs))
+  rows-change : (w a a' b' : ℕ) → h .newest ≤ b' → length (changes w (listed a (h .newest) rs) (listed a' b' next)) ≤ suc (length (liveRows rs))
   unfolding changes liveRows
-  rows-change n a a' b' k =
-      let fit = changes-among start (h .newest + 1) (leave n) (join n) (listed a (h .newest) rs) (listed a' b' next) all
+  rows-change w a a' b' k =
+      let fit = changes-among start (h .newest + 1) (leave w) (join w) (listed a (h .newest) rs) (listed a' b' next) all
       (old-rises a (h .newest))
       (next-rises a' b')
       (behind (map Row.position (liveRows rs)) (rising-map-filter Row.position isLive start (h .newest) rs risen))
@@ -226,20 +230,20 @@ module _ (h : Head) (x : List ℕ) (rs : List Row) (ok : Whole h rs) where
       omega (arith, length-map rs Row.position)
 
 -- where no watch has more than 1,025 changes, each has 7,175 bytes at most
-all-bytes : (watched : List ℕ) (before after : ℕ → List ℕ) → ((n : ℕ) → length (changes n (before n) (after n)) ≤ 1025)
+all-bytes : (watched : List ℕ) (before after : ℕ → List ℕ) → ((w : ℕ) → length (changes w (before (sizeIn w)) (after (sizeIn w))) ≤ 1025)
     → length (frames (allChanges watched before after)) ≤ 7175 * length watched
 unfolding allChanges flat frames
 all-bytes [] before after few = le-refl 0
-all-bytes (n ∷ ns) before after few =
-    let one = few n in
-    let more = all-bytes ns before after few in
-    omega (arith, changes-bytes n (before n) (after n), length-append (frames mine) (frames others), ap length (frames-append mine others))
+all-bytes (w ∷ ws) before after few =
+    let one = few w in
+    let more = all-bytes ws before after few in
+    omega (arith, changes-bytes w (before (sizeIn w)) (after (sizeIn w)), length-append (frames mine) (frames others), ap length (frames-append mine others))
   where
     mine : List Message
-    mine = changes n (before n) (after n)
+    mine = changes w (before (sizeIn w)) (after (sizeIn w))
 
     others : List Message
-    others = allChanges ns before after
+    others = allChanges ws before after
 
 few-standing : (ws : List ℕ) → length (standing ws) ≤ 8
 unfolding standing
@@ -301,16 +305,18 @@ module _ (h : Head) (x : List ℕ) (rs : List Row) (counted : h .held ≡ length
   on = onward h (length (liveRows rowsNext)) (length rowsNext)
 
   -- a watch has at most one change for each live row and one more
-  each : (n : ℕ) → length (changes n (listOf h rs n) (listOf headNext rowsNext n)) ≤ h .live + 1
+  each : (w : ℕ) → length (changes w (listOf h rs (sizeIn w)) (listOf headNext rowsNext (sizeIn w))) ≤ h .live + 1
   unfolding listOf
-  each n = omega (arith, rows-change h x rs ok n (windowStart (h .newest) n) (windowStart (headNext .newest) n) (headNext .newest) (on .least), ok .live-count)
+  each w =
+      let n = sizeIn w in
+      omega (arith, rows-change h x rs ok w (windowStart (h .newest) n) (windowStart (headNext .newest) n) (headNext .newest) (on .least), ok .live-count)
 
   most : h .live + 1 ≤ 1025
   most = omega (arith, within .small-capacity, live-few h rs (within .some-capacity) ok)
 
   -- eight watches have 57,400 bytes at most
   watches-fit : (watched : List ℕ) → length watched ≤ 8 → length (frames (allChanges watched (listOf h rs) (listOf headNext rowsNext))) ≤ 57400
-  watches-fit watched few = omega (arith, all-bytes watched (listOf h rs) (listOf headNext rowsNext) (λ n. omega (arith, each n, most)))
+  watches-fit watched few = omega (arith, all-bytes watched (listOf h rs) (listOf headNext rowsNext) (λ w. omega (arith, each w, most)))
 
   module _ (fine : tornPair h ≡ false) where
     -- the pair has at most one change for each row
@@ -334,9 +340,9 @@ module _ (h : Head) (x : List ℕ) (rs : List Row) (counted : h .held ≡ length
             )
         go false e = omega arith
 
-    -- so all have 62,520 bytes at most
+    -- so all have 62,520 bytes at most, the room that is asked for
     pub bytes-fit : (watched : List ℕ) → length watched ≤ 8
-        → length (frames (allChanges watched (listOf h rs) (listOf headNext rowsNext) ++ pairChanges (pairListOf h rs) (pairListOf headNext rowsNext))) ≤ 62520
+        → length (frames (allChanges watched (listOf h rs) (listOf headNext rowsNext) ++ pairChanges (pairListOf h rs) (pairListOf headNext rowsNext))) ≤ changeRoom
     bytes-fit watched few =
         omega (
           arith,
@@ -371,37 +377,45 @@ changes-fit h x t ws holds whole fine =
       bytes-most = bytes-fit h x rs counted holds whole fine (standing ws) (few-standing ws);
     }
 
--- a last refusal that is never given where the first and the third are not
-never-last : (a b c d e o : Bool) → (a ≡ false → c ≡ false → o ≡ false)
-    → firstOf ((a, number Settings) ∷ (b, number ShortLoan) ∷ (c, number Torn) ∷ (d, number ColumnCount) ∷ (e, number TapeFull) ∷ (o, number ShortOutput) ∷ [])
-    ≡ firstOf ((a, number Settings) ∷ (b, number ShortLoan) ∷ (c, number Torn) ∷ (d, number ColumnCount) ∷ (e, number TapeFull) ∷ [])
-unfolding firstOf
-never-last true b c d e o h = refl
-never-last false true c d e o h = refl
-never-last false false true d e o h = refl
-never-last false false false true e o h = refl
-never-last false false false false true o h = refl
-never-last false false false false false o h = rw (h refl refl)
+-- a list of the rows is no longer than the rows
+pub length-listed : (a b : ℕ) (rs : List Row) → length (listed a b rs) ≤ length rs
+unfolding listed
+length-listed a b rs =
+    let on : Row → Bool = λ r. covers a b (r .lowerEnd) (r .position) (r .upperEnd) in
+    omega (arith, length-map (filter on rs) Row.position, length-filter on rs)
 
--- so an output of 62,520 bytes is too short for no quote: its answer is by the other refusals alone
-pub room-suffices : (h : Head) (x : List ℕ) (t : Tables) (ws : List ℕ) (room : ℕ) → 62520 ≤ room
+module _ (h : Head) (t : Tables) (holds : settingsHold (h .dimensions) (h .capacity) (h .directions) ≡ true) (whole : tornRows h (bookRows h t) ≡ false) where
+  -- a list of rows that are not torn has 1,024 positions at most
+  list-few : (a b : ℕ) → length (listed a b (bookRows h t)) ≤ 1024
+  list-few a b =
+      let w = settings-within (h .dimensions) (h .capacity) (h .directions) holds in
+      let ok = untorn-whole h (bookRows h t) (sym (length-rows h t)) (w .some-capacity) whole in
+      omega (
+        arith,
+        length-listed a b (bookRows h t),
+        length-map (bookRows h t) Row.position,
+        ap length (ok .window),
+        window-few (h .capacity) (w .some-capacity) (h .newest),
+        w .small-capacity,
+      )
+
+  -- so the joins of a watch find room
+  pub watch-fits : (desk : Desk) (n : ℕ) (ws : List ℕ) → length (watchBytes h desk n t ws) ≤ changeRoom
+  unfolding watchBytes listOf
+  watch-fits desk n ws =
+      let w = watchOf desk n in
+      let list = listed (windowStart (h .newest) n) (h .newest) (bookRows h t) in
+      omega (arith, frames-bytes 7 (join w) (change-length (joinKindOf (deskIn w)) (sizeIn w)) list, list-few (windowStart (h .newest) n) (h .newest))
+
+  -- and those of the pair
+  pub pair-fits : (n1 n2 : ℕ) (ws : List ℕ) → length (pairBytes h n1 n2 t ws) ≤ changeRoom
+  unfolding pairBytes pastListOf
+  pair-fits n1 n2 ws =
+      let list = listed (windowStart (h .newest) n2) (h .newest + 1 - n1) (bookRows h t) in
+      omega (arith, frames-bytes 5 pairJoin (position-length pairJoinKind) list, list-few (windowStart (h .newest) n2) (h .newest + 1 - n1))
+
+-- so an output that is not too short has room for every quote: its answer is by the other refusals alone
+pub room-suffices : (h : Head) (x : List ℕ) (t : Tables) (ws : List ℕ) (room : ℕ) → changeRoom ≤ room
     → quoteAnswer h x t ws room ≡ watchfulAnswer h t ws ((not (eqb (length x) (h .dimensions)), number ColumnCount) ∷ (leb lastPosition (h .newest), number TapeFull) ∷ [])
-unfolding quoteAnswer watchfulAnswer
-room-suffices h x t ws room wide =
-    never-last (not held) (shortLoan t ws (h .dimensions) (h .capacity)) ((torn || pair) || tornWatches (h .capacity) ws)
-    (not (eqb (length x) (h .dimensions))) (leb lastPosition (h .newest)) (ltb room (length bytes))
-    (λ a c.
-    let fine = none-left (torn || pair) (tornWatches (h .capacity) ws) c in
-    le-ltb room (length bytes) (omega (arith, changes-fit h x t ws (not-false held a) (none-left torn pair fine) (none-right torn pair fine) .bytes-most)))
-  where
-    held : Bool
-    held = settingsHold (h .dimensions) (h .capacity) (h .directions)
-
-    torn : Bool
-    torn = tornRows h (bookRows h t)
-
-    pair : Bool
-    pair = tornPair h
-
-    bytes : List ℕ
-    bytes = quoteBytes h x t ws
+unfolding quoteAnswer watchfulAnswer firstOf
+room-suffices h x t ws room wide = rw (le-ltb room changeRoom wide)

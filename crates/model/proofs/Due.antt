@@ -17,6 +17,7 @@ use Rattle.skyline.proofs.Ends.{lower-cong}
 use Rattle.skyline.proofs.Due as Joining
 use Rattle.head.specs.Refusals.{granted}
 use Rattle.head.specs.Heads.{lastPosition, tornPair}
+use Rattle.head.specs.Desks.{watchOf}
 use Rattle.model.specs.Rows.{Row, dueRows}
 use Rattle.model.specs.Reference.{Reference, newest, over, pastOf, paired, rowOf, rowsOf, headOf, dueOf, opened, withQuote, withQuotes, withWatched, withPairOf, opening, tells, foretells, referenceStep}
 use Rattle.model.specs.Calls.{Call, Open, Quote, Look, Watch, End, Past, Pair, Unpair, Due, Preview, Outputs, Lending, Lent, Seen, Expected, lengthsOf, expectedStep, bookStep, runs, worldFirst, expectedFirst, expectedAtEnd, referenceAtEnd}
@@ -165,8 +166,10 @@ module _ (o : Outputs) (k : Expected) where
   later-step (Open d N directions) e = later-unopened (answered (Open d N directions)) s (opening d N directions) e
   later-step (Quote x) e = later-quoted (answered (Quote x)) s x
   later-step (Look n) e = later-granted (answered (Look n)) (later-same s)
-  later-step (Watch n) e = later-granted (answered (Watch n)) (later-alike s (withWatched s (insert n (s .watched))) refl refl refl)
-  later-step (End n) e = later-granted (answered (End n)) (later-alike s (withWatched s (without n (s .watched))) refl refl refl)
+  later-step (Watch desk n) e =
+      later-granted (answered (Watch desk n)) (later-alike s (withWatched s (insert (watchOf desk n) (s .watched))) refl refl refl)
+  later-step (End desk n) e =
+      later-granted (answered (End desk n)) (later-alike s (withWatched s (without (watchOf desk n) (s .watched))) refl refl refl)
   later-step (Past n1 n2) e = later-granted (answered (Past n1 n2)) (later-same s)
   later-step (Pair n1 n2) e = later-granted (answered (Pair n1 n2)) (later-alike s (withPairOf s n1 n2) refl refl refl)
   later-step Unpair e = later-granted (answered Unpair) (later-alike s (withPairOf s 0 0) refl refl refl)
@@ -197,7 +200,7 @@ module _ (cs : List Lending) (l : Lent) where
   -- an opened one takes any further quotes of d columns while the tape has space for them
   pub due-space : (more : List (List ℕ)) → opened (referenceAtEnd cs l) ≡ true → WideAll (referenceAtEnd cs l .dimensions) more
       → newest (referenceAtEnd cs l) + length more ≤ lastPosition → plays more (referenceAtEnd cs l) ≡ withQuotes (referenceAtEnd cs l) more
-  due-space more hold wide room = plays-on (referenceAtEnd cs l) hold end-bounded more wide room
+  due-space more hold wide room = plays-on (referenceAtEnd cs l) hold more wide room
 
 module _ (cs : List Lending) (l : Lent) (i j : ℕ) (h : i ≤ j) where
   -- the reference model after the first i calls, and after the first j

@@ -3,29 +3,32 @@ use mathlib.Core.Path.{_≡_, refl, sym, ap, _∙_}
 use Prim.Native.Nat.{ℕ, zero, suc, _+_, _-_, _≤_, _<_}
 use native.Mathlib.Nat.{le-refl}
 use native.Mathlib.Omega.{arith}
-use mathlib.Core.Bool.{Bool, true, false, _&&_, not, cond}
+use mathlib.Core.Bool.{Bool, true, false, _||_, not, cond}
 use mathlib.Core.List.{List, [], _∷_, _++_, map}
 use lib.Dec.{ltb, eqb}
 use lib.ListN.{length, drop, length-append}
 use lib.Seq.{take-append-seam}
 use borrow.Author.Tests.{leb-false, eqb-true, eqb-false, eq-eqb, ne-eqb, not-true}
-use Rattle.lists.specs.Lists.{any, contains, rising, insert, without, laid}
-use Rattle.lists.proofs.Booleans.{clash}
-use Rattle.lists.proofs.Members.{contains-filter}
-use Rattle.lists.proofs.Rising.{contains-insert}
+use Rattle.lists.specs.Lists.{keep, filter, any, rising, insert, without, laid}
+use Rattle.lists.proofs.Booleans.{clash, refute, or-swap}
+use Rattle.lists.proofs.Members.{none-mem, of-filter}
 use Rattle.skyline.specs.Skyline.{windowStart}
 use Rattle.skyline.proofs.Free.{skyline-rises}
 use Rattle.head.specs.Refusals.{granted}
 use Rattle.head.specs.Heads.{lastPosition}
+use Rattle.head.specs.declared.Desk.{Desk}
+use Rattle.head.specs.Desks.{sizeIn, watchOf}
 use Rattle.head.proofs.Numbers.{zero-passed}
 use Rattle.frames.specs.declared.Message.{Message}
 use Rattle.frames.specs.Frames.{messagesFrom}
 use Rattle.model.specs.Changes.{join, pairJoin, allChanges, pairChanges, frames}
 use Rattle.model.specs.Reference.{Reference, newest, over, skylineOf, pastOf, paired, pairOf, outside, outsidePair, withQuote, withWatched, withPairOf, opening, tells, foretells, referenceStep}
+use Rattle.model.specs.Book.{isWatch}
 use Rattle.model.specs.Calls.{Call, Open, Quote, Look, Watch, End, Past, Pair, Unpair, Due, Preview, Outputs, Lent, Seen, lengthsOf, expectedStep}
 use Rattle.model.specs.Watcher.{Follower, OfSize, OfPair, Held, Nothing, Holding, heedsAll, reads, sizedFor, pairedFor, watcherStep, watchedFor, listFor, heldBy}
-use Rattle.model.proofs.Simulation.{Bounded, in-range, in-pair-range}
-use Rattle.model.proofs.Heeding.{PutsIn, Ignores, first-heeded, unheeded, size-puts, size-keeps-join, size-keeps-pair-join, pair-keeps-join, pair-puts, size-led, pair-led}
+use Rattle.model.proofs.Desks.{size-of-watch, watch-parts, watch-is}
+use Rattle.model.proofs.Simulation.{Bounded, in-range, in-unit, in-pair-range}
+use Rattle.model.proofs.Heeding.{PutsIn, Ignores, first-heeded, unheeded, same-size, size-puts, size-keeps-join, sized-once, size-keeps-pair-join, pair-keeps-join, pair-puts, size-led, pair-led}
 use Rattle.model.proofs.ReadBack.{Sent, read-back, sent-joins, sent-pair-joins, sent-both}
 
 -- ---- what is read
@@ -88,11 +91,11 @@ module _ (s : Reference) (ok : Bounded s) where
   before-rises n = list-rises s n lastPosition (ok .short)
 
   -- the joins of a watch have frames
-  pub sent-watch : (n : ℕ) → outside s n ≡ false → Sent (map (join n) (skylineOf s n))
-  sent-watch n e =
+  pub sent-watch : (desk : Desk) (n : ℕ) → outside s n ≡ false → Sent (map (join (watchOf desk n)) (skylineOf s n))
+  sent-watch desk n e =
       let r = in-range s n e in
-      let small : n < 65536 = omega (arith, ok .small) in
-      sent-joins 1 lastPosition (omega arith) n (skylineOf s n) small (before-rises n)
+      let small : sizeIn (watchOf desk n) < 65536 = omega (arith, r .1, ok .small, size-of-watch desk n (in-unit s n ok e)) in
+      sent-joins 1 lastPosition (omega arith) (watchOf desk n) (skylineOf s n) small (before-rises n)
 
   -- so have those of a watch of the pair
   pub sent-pairing : (n1 n2 : ℕ) → 1 ≤ n1 → Sent (map pairJoin (pastOf s n1 n2))
@@ -111,7 +114,7 @@ module _ (s : Reference) (ok : Bounded s) where
     pub sent-quote : Sent (allChanges (s .watched) (skylineOf s) (skylineOf (withQuote s x)) ++ pairChanges (pairOf s) (pairOf (withQuote s x)))
     sent-quote =
         sent-both 1 lastPosition (omega arith) (skylineOf s) (skylineOf (withQuote s x)) before-rises after-rises
-        1 (s .capacity) (omega (arith, ok .small)) (s .watched) (ok .risen)
+        (s .watched) (λ w t. omega (arith, watch-parts (s .capacity) w (ok .watches .each w t) .most-size, ok .small))
         (pairOf s) (pairOf (withQuote s x)) (pair-rises s lastPosition (ok .short)) (pair-rises (withQuote s x) lastPosition short-after)
 
     -- the changes of a quote, and what is watched after it
@@ -120,17 +123,17 @@ module _ (s : Reference) (ok : Bounded s) where
 
     quote-keeps : (f : Follower) → watchedFor f (withQuote s x) ≡ watchedFor f s
     unfolding watchedFor withQuote paired
-    quote-keeps (OfSize n) = refl
+    quote-keeps (OfSize desk n) = refl
     quote-keeps OfPair = refl
 
     -- they lead each watcher from the list before to the list after
     quote-leads : (f : Follower) → watchedFor f s ≡ true → heedsAll f (listFor f s) messages ≡ listFor f (withQuote s x)
     unfolding watchedFor listFor
-    quote-leads (OfSize n) t =
-        size-led 1 lastPosition 1 (s .capacity) (s .watched) (skylineOf s) (skylineOf (withQuote s x)) (pairOf s) (pairOf (withQuote s x)) n
-        (before-rises n) (after-rises n) (ok .risen) t
+    quote-leads (OfSize desk n) t =
+        size-led 1 lastPosition (s .watched) (skylineOf s) (skylineOf (withQuote s x)) (pairOf s) (pairOf (withQuote s x))
+        (s .capacity) desk n (before-rises n) (after-rises n) (ok .watches) t
     quote-leads OfPair t =
-        pair-led 1 lastPosition 1 (s .capacity) (s .watched) (skylineOf s) (skylineOf (withQuote s x)) (pairOf s) (pairOf (withQuote s x))
+        pair-led 1 lastPosition (s .watched) (skylineOf s) (skylineOf (withQuote s x)) (pairOf s) (pairOf (withQuote s x))
         (pair-rises s lastPosition (ok .short)) (pair-rises (withQuote s x) lastPosition short-after)
 
     quote-moves : (f : Follower) → heldAfter f messages (heldBy f s) ≡ heldBy f (withQuote s x)
@@ -156,22 +159,51 @@ begun f s false joins list next b r =
     let m = b .others refl in
     held-on f s next (map joins list) (m .1) (λ t. unheeded f (m .0) list (listFor f s) ∙ sym (m .2))
 
+-- some watch passes a test, with one more
+any-insert : (f : ℕ → Bool) (w : ℕ) (ws : List ℕ) → any f (insert w ws) ≡ f w || any f ws
+unfolding insert any
+any-insert f w [] = refl
+any-insert f w (v ∷ vs) = go (ltb w v) (any-insert f w vs)
+  where
+    go : (b : Bool) → any f (insert w vs) ≡ f w || any f vs → any f (cond b (w ∷ v ∷ vs) (v ∷ insert w vs)) ≡ f w || (f v || any f vs)
+    go true e = refl
+    go false e = rw e (or-swap (f v) (f w) (any f vs))
+
+-- and without one that does not pass it
+any-without : (f : ℕ → Bool) (w : ℕ) (ws : List ℕ) → f w ≡ false → any f (without w ws) ≡ any f ws
+unfolding without filter any
+any-without f w [] e = refl
+any-without f w (v ∷ vs) e = go (eqb w v) refl (any-without f w vs e)
+  where
+    go : (b : Bool) → eqb w v ≡ b → any f (without w vs) ≡ any f vs → any f (keep (not b) v (without w vs)) ≡ f v || any f vs
+    go true s r = rw (← (eqb-true w v s), e) r
+    go false s r = ap (λ (b : Bool). f v || b) r
+
+-- where no two are one watcher's, none of its is left without it
+none-without : (desk : Desk) (n w : ℕ) (ws : List ℕ) → sizedFor (OfSize desk n) w ≡ true → any (sizedFor (OfSize desk n)) (without w ws) ≡ false
+unfolding without
+none-without desk n w ws t =
+    none-mem (sizedFor (OfSize desk n)) (filter (λ y. not (eqb w y)) ws)
+    (λ v m. refute (sizedFor (OfSize desk n) v)
+    (λ u. clash (not (eqb w v)) (of-filter (λ y. not (eqb w y)) v ws m .1) (rw (eq-eqb w v (sized-once desk n w v t u)))))
+
 module _ (s : Reference) where
-  -- a watch of m
-  watch-begins : (f : Follower) (m : ℕ) → Begins f s (sizedFor f m) (join m) (skylineOf s m) (withWatched s (insert m (s .watched)))
+  -- a desk's watch of m
+  watch-begins : (f : Follower) (w m : ℕ) → isWatch (s .capacity) w ≡ true → sizeIn w ≡ m
+      → Begins f s (sizedFor f w) (join w) (skylineOf s m) (withWatched s (insert w (s .watched)))
   unfolding sizedFor watchedFor listFor withWatched skylineOf pairOf pastOf paired
-  watch-begins (OfSize n) m = record {
+  watch-begins (OfSize desk n) w m fine e = record {
     mine = λ t.
-        let e = eqb-true m n t in
-        (rw e (size-puts n), rw (contains-insert, eq-eqb n m (sym e)), rw e);
-    others = λ t. (size-keeps-join n m t, rw (contains-insert, ne-eqb n m (λ e. eqb-false m n t (sym e))), refl);
+        let same : n ≡ m = sym (eqb-true (sizeIn w) n (same-size desk n w t)) ∙ e in
+        (size-puts desk n w t, any-insert (sizedFor (OfSize desk n)) w (s .watched) ∙ rw t, ap (skylineOf s) same);
+    others = λ t. (size-keeps-join desk n (s .capacity) w fine t, any-insert (sizedFor (OfSize desk n)) w (s .watched) ∙ rw t, refl);
   }
-  watch-begins OfPair m = record { mine = λ t. absurd (clash false t refl); others = λ t. (pair-keeps-join m, refl, refl) }
+  watch-begins OfPair w m fine e = record { mine = λ t. absurd (clash (sizedFor OfPair w) t refl); others = λ t. (pair-keeps-join w, refl, refl) }
 
   -- a watch of the pair
   pair-begins : (f : Follower) (n1 n2 : ℕ) → 1 ≤ n1 → Begins f s (pairedFor f) pairJoin (pastOf s n1 n2) (withPairOf s n1 n2)
   unfolding pairedFor watchedFor listFor withPairOf skylineOf pairOf pastOf paired
-  pair-begins (OfSize n) n1 n2 h = record { mine = λ t. absurd (clash false t refl); others = λ t. (size-keeps-pair-join n, refl, refl) }
+  pair-begins (OfSize desk n) n1 n2 h = record { mine = λ t. absurd (clash false t refl); others = λ t. (size-keeps-pair-join desk n, refl, refl) }
   pair-begins OfPair n1 n2 h = record {
     mine = λ t.
         let e = ne-eqb n1 0 (λ z. omega arith) in
@@ -181,26 +213,26 @@ module _ (s : Reference) where
 
   -- an accepted opening ends every watch
   none-opened : (f : Follower) (d N directions : ℕ) → heldBy f (opening d N directions) ≡ Nothing
-  unfolding heldBy watchedFor opening contains any paired
-  none-opened (OfSize n) d N directions = refl
+  unfolding heldBy watchedFor opening any paired
+  none-opened (OfSize desk n) d N directions = refl
   none-opened OfPair d N directions = refl
 
-  -- an accepted end ends the watch of its n
-  end-drops : (f : Follower) (m : ℕ) → heldBy f (withWatched s (without m (s .watched))) ≡ cond (sizedFor f m) Nothing (heldBy f s)
-  unfolding heldBy watchedFor listFor sizedFor withWatched skylineOf pairOf pastOf paired without
-  end-drops (OfSize n) m = rw (contains-filter (λ y. not (eqb m y)) n (s .watched)) (dropped (eqb m n) (contains n (s .watched)))
+  -- an accepted end ends the watch
+  end-drops : (f : Follower) (w : ℕ) → heldBy f (withWatched s (without w (s .watched))) ≡ cond (sizedFor f w) Nothing (heldBy f s)
+  unfolding heldBy sizedFor watchedFor listFor withWatched skylineOf pairOf pastOf paired
+  end-drops (OfSize desk n) w = go (sizedFor (OfSize desk n) w) refl
     where
-      dropped : (b c : Bool) → cond (c && not b) (Holding (skylineOf s n)) Nothing ≡ cond b Nothing (cond c (Holding (skylineOf s n)) Nothing)
-      dropped true true = refl
-      dropped true false = refl
-      dropped false true = refl
-      dropped false false = refl
-  end-drops OfPair m = refl
+      go : (b : Bool) → sizedFor (OfSize desk n) w ≡ b
+          → cond (any (sizedFor (OfSize desk n)) (without w (s .watched))) (Holding (skylineOf s n)) Nothing
+          ≡ cond b Nothing (cond (any (sizedFor (OfSize desk n)) (s .watched)) (Holding (skylineOf s n)) Nothing)
+      go true t = rw (none-without desk n w (s .watched) t)
+      go false t = rw (any-without (sizedFor (OfSize desk n)) w (s .watched) t)
+  end-drops OfPair w = refl
 
   -- an accepted end of the pair ends the pair's
   unpair-drops : (f : Follower) → heldBy f (withPairOf s 0 0) ≡ cond (pairedFor f) Nothing (heldBy f s)
   unfolding heldBy watchedFor listFor pairedFor withPairOf skylineOf paired
-  unpair-drops (OfSize n) = refl
+  unpair-drops (OfSize desk n) = refl
   unpair-drops OfPair = refl
 
 -- ---- the calls
@@ -224,9 +256,11 @@ module _ (f : Follower) (s : Reference) (l : Lent) (ok : Bounded s) (o : Outputs
   unfolding expectedStep referenceStep tells lengthsOf watcherStep
   opens d N directions = granted-held (answered (Open d N directions)) (opening d N directions) Nothing (sym (none-opened s f d N directions))
 
-  ends : (m : ℕ) → Follows (End m)
+  ends : (desk : Desk) (m : ℕ) → Follows (End desk m)
   unfolding expectedStep referenceStep tells lengthsOf watcherStep
-  ends m = granted-held (answered (End m)) (withWatched s (without m (s .watched))) (cond (sizedFor f m) Nothing (heldBy f s)) (sym (end-drops s f m))
+  ends desk m =
+      let w = watchOf desk m in
+      granted-held (answered (End desk m)) (withWatched s (without w (s .watched))) (cond (sizedFor f w) Nothing (heldBy f s)) (sym (end-drops s f w))
 
   unpairs : Follows Unpair
   unfolding expectedStep referenceStep tells lengthsOf watcherStep
@@ -256,15 +290,21 @@ module _ (f : Follower) (s : Reference) (l : Lent) (ok : Bounded s) (o : Outputs
   previews x = refl
 
   -- the joins of an accepted watch are read
-  watches : (m : ℕ) → Follows (Watch m)
+  watches : (desk : Desk) (m : ℕ) → Follows (Watch desk m)
   unfolding expectedStep referenceStep tells lengthsOf watcherStep granted
-  watches m = go (answered (Watch m)) refl
+  watches desk m = go (answered (Watch desk m)) refl
     where
-      go : (a : ℕ) → answered (Watch m) ≡ a → Follows (Watch m)
+      w : ℕ
+      w = watchOf desk m
+
+      go : (a : ℕ) → answered (Watch desk m) ≡ a → Follows (Watch desk m)
       go zero e =
           let inside = zero-passed _ _ _ (zero-passed _ _ _ e .1) .0 in
-          rw e (reads-frames f (map (join m) (skylineOf s m)) (sent-watch s ok m inside) _ (o .bytes) refl refl _
-          ∙ begun f s (sizedFor f m) (join m) (skylineOf s m) (withWatched s (insert m (s .watched))) (watch-begins s f m) (before-rises s ok m))
+          let r = in-range s m inside in
+          let small = in-unit s m ok inside in
+          let begins = watch-begins s f w m (watch-is (s .capacity) desk m small (r .0) (r .1)) (size-of-watch desk m small) in
+          rw e (reads-frames f (map (join w) (skylineOf s m)) (sent-watch s ok desk m inside) _ (o .bytes) refl refl _
+          ∙ begun f s (sizedFor f w) (join w) (skylineOf s m) (withWatched s (insert w (s .watched))) begins (before-rises s ok m))
       go (suc k) e = rw e (reads-nothing f _ refl (heldBy f s))
 
   -- so are those of a watch of the pair
@@ -299,8 +339,8 @@ module _ (f : Follower) (s : Reference) (l : Lent) (ok : Bounded s) (o : Outputs
   follows (Open d N directions) = opens d N directions
   follows (Quote x) = quotes x
   follows (Look m) = looks m
-  follows (Watch m) = watches m
-  follows (End m) = ends m
+  follows (Watch desk m) = watches desk m
+  follows (End desk m) = ends desk m
   follows (Past n1 n2) = looks-back n1 n2
   follows (Pair n1 n2) = pairs n1 n2
   follows Unpair = unpairs

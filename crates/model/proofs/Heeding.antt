@@ -5,18 +5,25 @@ use mathlib.Core.Logic.{_⊎_, inl, inr}
 use Prim.Native.Nat.{ℕ, suc, _≤_}
 use native.Mathlib.Nat.{le-refl}
 use native.Mathlib.Omega.{arith}
-use mathlib.Core.Bool.{Bool, true, false, _&&_, _||_, not}
+use mathlib.Core.Bool.{Bool, true, false, _&&_, _||_, not, cond}
 use mathlib.Core.List.{List, [], _∷_, _++_, map}
 use lib.Dec.{eqb}
-use borrow.Author.Tests.{eqb-true, eq-eqb, not-true}
+use borrow.Author.Tests.{eqb-true, eqb-false, eq-eqb, not-true}
 use Rattle.lists.specs.Lists.{any, flat, contains, rising, insert, without}
-use Rattle.lists.proofs.Booleans.{either, clash, refute, and-right, or-left, or-right, neither}
+use Rattle.lists.proofs.Booleans.{either, clash, refute, and-left, and-right, or-left, or-right, neither}
 use Rattle.lists.proofs.Members.{contains-filter}
 use Rattle.lists.proofs.Rising.{Rises, rising-cons, rising-filter, rising-above, rising-ext, contains-insert, rising-insert}
-use Rattle.lists.proofs.Apart.{eqb-swap, contains-without}
+use Rattle.lists.proofs.Apart.{contains-without}
+use Rattle.head.specs.declared.Desk.{Desk}
+use Rattle.head.specs.declared.Desk.the-variants.{One, Two}
+use Rattle.head.specs.Desks.{deskNumber, deskIn, sizeIn}
 use Rattle.frames.specs.declared.Message.{Message}
-use Rattle.model.specs.Changes.{leave, join, pairLeave, pairJoin, missing, changesBy, changes, allChanges, pairChanges}
-use Rattle.model.specs.Watcher.{Follower, OfSize, OfPair, applied, heedsChange, heedsPosition, heeds, heedsAll}
+use Rattle.model.specs.Changes.{leaveKindOf, joinKindOf, leave, join, pairLeave, pairJoin, missing, changesBy, changes, allChanges, pairChanges}
+use Rattle.model.specs.Shares.{ofDesk}
+use Rattle.model.specs.Book.{isWatch}
+use Rattle.model.specs.Watcher.{Follower, OfSize, OfPair, applied, heedsChange, heedsPosition, heeds, heedsAll, sizedFor}
+use Rattle.model.proofs.Desks.{record-injective, watch-desk, highest}
+use Rattle.model.proofs.Records.{Records}
 
 -- no message, and messages behind others
 heeds-none : (f : Follower) (held : List ℕ) → heedsAll f held [] ≡ held
@@ -148,43 +155,93 @@ module _ (f : Follower) where
 
 -- ---- whose changes are whose
 
-module _ (n : ℕ) where
-  -- the watcher of n heeds the changes of n
-  pub size-takes : TakesOut (OfSize n) (leave n)
-  unfolding heeds heedsChange applied
-  size-takes = record { taken = λ p held. rw (eq-eqb n n refl) }
+-- a test that passes where another fails
+and-true : (b : Bool) → b && true ≡ false → b ≡ false
+and-true true e = e
+and-true false e = refl
 
-  pub size-puts : PutsIn (OfSize n) (join n)
-  unfolding heeds heedsChange applied
-  size-puts = record { put = λ p held. rw (eq-eqb n n refl) }
+-- the kinds of a desk's changes are the desk's
+own-kinds : (desk : Desk) (p : ℕ) (held : List ℕ)
+    → (applied (leaveKindOf (deskNumber desk)) (joinKindOf (deskNumber desk)) (leaveKindOf (deskNumber desk)) p held ≡ without p held)
+    × (applied (leaveKindOf (deskNumber desk)) (joinKindOf (deskNumber desk)) (joinKindOf (deskNumber desk)) p held ≡ insert p held)
+unfolding applied leaveKindOf joinKindOf
+own-kinds One p held = (refl, refl)
+own-kinds Two p held = (refl, refl)
 
-  -- not those of another n
-  module _ (m : ℕ) (other : eqb m n ≡ false) where
-    pub size-keeps-leave : Ignores (OfSize n) (leave m)
+-- and not another's
+other-kinds : (desk : Desk) (d : ℕ) → (d ≡ 1) ⊎ (d ≡ 2) → eqb d (deskNumber desk) ≡ false → (p : ℕ) (held : List ℕ)
+    → (applied (leaveKindOf (deskNumber desk)) (joinKindOf (deskNumber desk)) (leaveKindOf d) p held ≡ held)
+    × (applied (leaveKindOf (deskNumber desk)) (joinKindOf (deskNumber desk)) (joinKindOf d) p held ≡ held)
+unfolding applied leaveKindOf joinKindOf
+other-kinds One d (inl e) f p held = absurd (eqb-false d 1 f e)
+other-kinds One d (inr e) f p held = rw e (refl, refl)
+other-kinds Two d (inl e) f p held = rw e (refl, refl)
+other-kinds Two d (inr e) f p held = absurd (eqb-false d 2 f e)
+
+module _ (desk : Desk) (n : ℕ) where
+  -- the watcher of a desk's n
+  abbrev own : Follower
+  own = OfSize desk n
+
+  -- it heeds the changes of its watch
+  module _ (w : ℕ) (mine : sizedFor own w ≡ true) where
+    desk-is : deskIn w ≡ deskNumber desk
+    unfolding sizedFor ofDesk
+    desk-is = eqb-true (deskIn w) (deskNumber desk) (and-left (ofDesk desk w) (eqb (sizeIn w) n) mine)
+
+    pub same-size : eqb (sizeIn w) n ≡ true
+    unfolding sizedFor
+    same-size = and-right (ofDesk desk w) (eqb (sizeIn w) n) mine
+
+    pub size-takes : TakesOut own (leave w)
     unfolding heeds heedsChange
-    size-keeps-leave = record { kept = λ p held. rw other }
+    size-takes = record { taken = λ p held. rw (same-size, desk-is) (own-kinds desk p held .0) }
 
-    pub size-keeps-join : Ignores (OfSize n) (join m)
+    pub size-puts : PutsIn own (join w)
     unfolding heeds heedsChange
-    size-keeps-join = record { kept = λ p held. rw other }
+    size-puts = record { put = λ p held. rw (same-size, desk-is) (own-kinds desk p held .1) }
+
+  -- not those of another watch
+  module _ (N w : ℕ) (fine : isWatch N w ≡ true) (other : sizedFor own w ≡ false) where
+    other-change : (p : ℕ) (held : List ℕ) → (heeds own held (leave w p) ≡ held) × (heeds own held (join w p) ≡ held)
+    unfolding heeds heedsChange sizedFor ofDesk
+    other-change p held = go (eqb (sizeIn w) n) other
+      where
+        go : (b : Bool) → ofDesk desk w && b ≡ false
+            → (cond b (applied (leaveKindOf (deskNumber desk)) (joinKindOf (deskNumber desk)) (leaveKindOf (deskIn w)) p held) held ≡ held)
+            × (cond b (applied (leaveKindOf (deskNumber desk)) (joinKindOf (deskNumber desk)) (joinKindOf (deskIn w)) p held) held ≡ held)
+        go true e = other-kinds desk (deskIn w) (watch-desk N w fine) (and-true (ofDesk desk w) e) p held
+        go false e = (refl, refl)
+
+    pub size-keeps-leave : Ignores own (leave w)
+    size-keeps-leave = record { kept = λ p held. other-change p held .0 }
+
+    pub size-keeps-join : Ignores own (join w)
+    size-keeps-join = record { kept = λ p held. other-change p held .1 }
 
   -- nor those of the pair
-  pub size-keeps-pair-leave : Ignores (OfSize n) pairLeave
+  pub size-keeps-pair-leave : Ignores own pairLeave
   unfolding heeds heedsPosition
   size-keeps-pair-leave = record { kept = λ p held. refl }
 
-  pub size-keeps-pair-join : Ignores (OfSize n) pairJoin
+  pub size-keeps-pair-join : Ignores own pairJoin
   unfolding heeds heedsPosition
   size-keeps-pair-join = record { kept = λ p held. refl }
 
-  -- the watcher of the pair does not heed the changes of n
-  pub pair-keeps-leave : Ignores OfPair (leave n)
-  unfolding heeds heedsChange
-  pair-keeps-leave = record { kept = λ p held. refl }
+  -- two watches of a watcher are one
+  pub sized-once : (v w : ℕ) → sizedFor own v ≡ true → sizedFor own w ≡ true → v ≡ w
+  sized-once v w a b =
+      record-injective v w (desk-is v a ∙ sym (desk-is w b))
+      (eqb-true (sizeIn v) n (same-size v a) ∙ sym (eqb-true (sizeIn w) n (same-size w b)))
 
-  pub pair-keeps-join : Ignores OfPair (join n)
-  unfolding heeds heedsChange
-  pair-keeps-join = record { kept = λ p held. refl }
+-- the watcher of the pair does not heed the changes of a watch
+pub pair-keeps-leave : (w : ℕ) → Ignores OfPair (leave w)
+unfolding heeds heedsChange
+pair-keeps-leave w = record { kept = λ p held. refl }
+
+pub pair-keeps-join : (w : ℕ) → Ignores OfPair (join w)
+unfolding heeds heedsChange
+pair-keeps-join w = record { kept = λ p held. refl }
 
 -- it heeds those of the pair
 pub pair-takes : TakesOut OfPair pairLeave
@@ -198,63 +255,71 @@ pair-puts = record { put = λ p held. refl }
 -- ---- the changes of every watch, and those of the pair
 
 module _ (f : Follower) (before after : ℕ → List ℕ) where
+  -- the changes of a watch, from the list of its n before to that after
+  abbrev changesOf : ℕ → List Message
+  changesOf w = changes w (before (sizeIn w)) (after (sizeIn w))
+
   -- changes of watches that are all another's are not heeded
-  others-heeded : (watched held : List ℕ) → ((w : ℕ) → contains w watched ≡ true → Ignores f (leave w))
-      → ((w : ℕ) → contains w watched ≡ true → Ignores f (join w))
+  others-heeded : (watched held : List ℕ) → ((w : ℕ) → contains w watched ≡ true → Ignores f (leave w) × Ignores f (join w))
       → heedsAll f held (allChanges watched before after) ≡ held
   unfolding allChanges changes flat heedsAll contains any
-  others-heeded [] held e g = refl
-  others-heeded (w ∷ ws) held e g =
-      let first = or-left (eqb w w) (contains w ws) (eq-eqb w w refl) in
-      heeds-append f held (changes w (before w) (after w)) (allChanges ws before after)
-      ∙ rw (other-heeded f (e w first) (g w first) (before w) (after w) held)
-      (others-heeded ws held (λ v t. e v (or-right (eqb v w) (contains v ws) t)) (λ v t. g v (or-right (eqb v w) (contains v ws) t)))
+  others-heeded [] held e = refl
+  others-heeded (w ∷ ws) held e =
+      let first = e w (or-left (eqb w w) (contains w ws) (eq-eqb w w refl)) in
+      heeds-append f held (changesOf w) (allChanges ws before after)
+      ∙ rw (other-heeded f (first .0) (first .1) (before (sizeIn w)) (after (sizeIn w)) held)
+      (others-heeded ws held (λ v t. e v (or-right (eqb v w) (contains v ws) t)))
 
-module _ (n : ℕ) (before after : ℕ → List ℕ) where
-  -- the changes of watches without n are not heeded by the watcher of n
-  none-heeded : (watched held : List ℕ) → contains n watched ≡ false → heedsAll (OfSize n) held (allChanges watched before after) ≡ held
-  none-heeded watched held e =
-      others-heeded (OfSize n) before after watched held (λ w t. size-keeps-leave n w (other w t)) (λ w t. size-keeps-join n w (other w t))
-    where
-      other : (w : ℕ) → contains w watched ≡ true → eqb w n ≡ false
-      other w t = refute (eqb w n) (λ s. clash (contains n watched) (rw (eqb-true w n s) at t) e)
+module _ (desk : Desk) (n N : ℕ) (before after : ℕ → List ℕ) where
+  -- the changes of watches that are not its are not heeded by a watcher of n
+  none-heeded : (watched held : List ℕ) → ((w : ℕ) → contains w watched ≡ true → isWatch N w ≡ true)
+      → ((w : ℕ) → contains w watched ≡ true → sizedFor (OfSize desk n) w ≡ false)
+      → heedsAll (OfSize desk n) held (allChanges watched before after) ≡ held
+  none-heeded watched held each other =
+      others-heeded (OfSize desk n) before after watched held
+      (λ w t. (size-keeps-leave desk n N w (each w t) (other w t), size-keeps-join desk n N w (each w t) (other w t)))
 
   -- the changes of all watches lead the watcher of a watched n from the list before to the list after
-  all-heeded : (lo hi a N : ℕ) (watched : List ℕ) → rising lo hi (before n) ≡ true → rising lo hi (after n) ≡ true
-      → rising a N watched ≡ true → contains n watched ≡ true
-      → heedsAll (OfSize n) (before n) (allChanges watched before after) ≡ after n
+  all-heeded : (lo hi a b : ℕ) (watched : List ℕ) → rising lo hi (before n) ≡ true → rising lo hi (after n) ≡ true
+      → rising a b watched ≡ true → ((w : ℕ) → contains w watched ≡ true → isWatch N w ≡ true) → any (sizedFor (OfSize desk n)) watched ≡ true
+      → heedsAll (OfSize desk n) (before n) (allChanges watched before after) ≡ after n
   unfolding allChanges changes flat contains any
-  all-heeded lo hi a N [] e g r t = absurd (clash false t refl)
-  all-heeded lo hi a N (w ∷ ws) e g r t =
-      let u = rising-cons a N w ws r in
-      heeds-append (OfSize n) (before n) (changes w (before w) (after w)) (allChanges ws before after)
-      ∙ pick (either (eqb n w)) u (λ h. all-heeded lo hi (suc w) N ws e g (u .rest) h)
+  all-heeded lo hi a b [] e g r each t = absurd (clash false t refl)
+  all-heeded lo hi a b (w ∷ ws) e g r each t =
+      let u = rising-cons a b w ws r in
+      heeds-append (OfSize desk n) (before n) (changesOf (OfSize desk n) before after w) (allChanges ws before after)
+      ∙ pick (either (sizedFor (OfSize desk n) w)) u (λ h. all-heeded lo hi (suc w) b ws e g (u .rest) rest h)
     where
-      pick : (eqb n w ≡ true) ⊎ (eqb n w ≡ false) → Rises a N w ws
-          → (contains n ws ≡ true → heedsAll (OfSize n) (before n) (allChanges ws before after) ≡ after n)
-          → heedsAll (OfSize n) (heedsAll (OfSize n) (before n) (changes w (before w) (after w))) (allChanges ws before after) ≡ after n
-      pick (inl s) u more =
-          let q = eqb-true n w s in
-          rw (← q, own-heeded lo hi (OfSize n) (size-takes n) (size-puts n) (before n) (after n) e g)
-          (none-heeded ws (after n) (rw q (rising-above (suc w) N w ws (le-refl (suc w)) (u .rest))))
-      pick (inr s) u more =
-          let other = eqb-swap w n ∙ s in
-          rw (other-heeded (OfSize n) (size-keeps-leave n w other) (size-keeps-join n w other) (before w) (after w) (before n)) (more (rw s at t))
+      rest : (v : ℕ) → contains v ws ≡ true → isWatch N v ≡ true
+      rest v s = each v (or-right (eqb v w) (contains v ws) s)
 
-module _ (lo hi a N : ℕ) (watched : List ℕ) (before after : ℕ → List ℕ) (pair pair' : List ℕ) where
+      pick : (sizedFor (OfSize desk n) w ≡ true) ⊎ (sizedFor (OfSize desk n) w ≡ false) → Rises a b w ws
+          → (any (sizedFor (OfSize desk n)) ws ≡ true → heedsAll (OfSize desk n) (before n) (allChanges ws before after) ≡ after n)
+          → heedsAll (OfSize desk n) (heedsAll (OfSize desk n) (before n) (changesOf (OfSize desk n) before after w)) (allChanges ws before after) ≡ after n
+      pick (inl s) u more =
+          rw (eqb-true (sizeIn w) n (same-size desk n w s), own-heeded lo hi (OfSize desk n) (size-takes desk n w s) (size-puts desk n w s) (before n) (after n) e g)
+          (none-heeded ws (after n) rest (λ v i. refute (sizedFor (OfSize desk n) v)
+          (λ j. clash (contains v ws) i (rw (sized-once desk n v w j s) (rising-above (suc w) b w ws (le-refl (suc w)) (u .rest))))))
+      pick (inr s) u more =
+          let fine = each w (or-left (eqb w w) (contains w ws) (eq-eqb w w refl)) in
+          rw (other-heeded (OfSize desk n) (size-keeps-leave desk n N w fine s) (size-keeps-join desk n N w fine s) (before (sizeIn w)) (after (sizeIn w)) (before n))
+          (more (rw s at t))
+
+module _ (lo hi : ℕ) (watched : List ℕ) (before after : ℕ → List ℕ) (pair pair' : List ℕ) where
   -- the changes of a quote lead the watcher of a watched n from the list before to the list after
-  pub size-led : (n : ℕ) → rising lo hi (before n) ≡ true → rising lo hi (after n) ≡ true → rising a N watched ≡ true → contains n watched ≡ true
-      → heedsAll (OfSize n) (before n) (allChanges watched before after ++ pairChanges pair pair') ≡ after n
+  pub size-led : (N : ℕ) (desk : Desk) (n : ℕ) → rising lo hi (before n) ≡ true → rising lo hi (after n) ≡ true → Records N watched
+      → any (sizedFor (OfSize desk n)) watched ≡ true
+      → heedsAll (OfSize desk n) (before n) (allChanges watched before after ++ pairChanges pair pair') ≡ after n
   unfolding pairChanges
-  size-led n e g r t =
-      heeds-append (OfSize n) (before n) (allChanges watched before after) (pairChanges pair pair')
-      ∙ rw (all-heeded n before after lo hi a N watched e g r t)
-      (other-heeded (OfSize n) (size-keeps-pair-leave n) (size-keeps-pair-join n) pair pair' (after n))
+  size-led N desk n e g r t =
+      heeds-append (OfSize desk n) (before n) (allChanges watched before after) (pairChanges pair pair')
+      ∙ rw (all-heeded desk n N before after lo hi 1 highest watched e g (r .risen) (r .each) t)
+      (other-heeded (OfSize desk n) (size-keeps-pair-leave desk n) (size-keeps-pair-join desk n) pair pair' (after n))
 
   -- and the watcher of the pair
   pub pair-led : rising lo hi pair ≡ true → rising lo hi pair' ≡ true → heedsAll OfPair pair (allChanges watched before after ++ pairChanges pair pair') ≡ pair'
   unfolding pairChanges
   pair-led e g =
       heeds-append OfPair pair (allChanges watched before after) (pairChanges pair pair')
-      ∙ rw (others-heeded OfPair before after watched pair (λ w t. pair-keeps-leave w) (λ w t. pair-keeps-join w))
+      ∙ rw (others-heeded OfPair before after watched pair (λ w t. (pair-keeps-leave w, pair-keeps-join w)))
       (own-heeded lo hi OfPair pair-takes pair-puts pair pair' e g)

@@ -1,6 +1,7 @@
 -- The theorems of the crate.
 pub mod Replying
-pub mod Marked
+pub mod Desks
+pub mod Records
 pub mod Quotes
 pub mod Tables
 pub mod Torn
@@ -12,6 +13,7 @@ pub mod Quoting
 pub mod Watching
 pub mod Pairing
 pub mod Replay
+pub mod Lengths
 pub mod Reached
 pub mod Kept
 pub mod ChangeFrames
@@ -35,3 +37,7 @@ pub mod Stretches
 pub mod Due
 pub mod Refining
 pub mod Previews
+pub mod Shares
+pub mod Marked
+pub mod Alone
+pub mod Isolated

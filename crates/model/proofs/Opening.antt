@@ -6,7 +6,7 @@ use native.Mathlib.Omega.{arith}
 use mathlib.Core.Bool.{true, false}
 use mathlib.Core.List.{[], List·Memᴰ·not-nil}
 use borrow.Author.Tests.{not-false}
-use Rattle.lists.specs.Lists.{filter, rising, laid, padded}
+use Rattle.lists.specs.Lists.{filter, laid, padded}
 use Rattle.lists.proofs.Writing.{length-padded, padded-again}
 use Rattle.head.specs.Refusals.{granted}
 use Rattle.head.specs.Heads.{freshHead, settingsHold, tornPair}
@@ -16,6 +16,7 @@ use Rattle.model.specs.Reference.{Reference, unopened, rowsOf, headOf, o
 use Rattle.model.specs.Book.{shortTables, shortLoan, replyOf, openAnswer, openReply, openTables, openWatches}
 use Rattle.model.specs.Calls.{Open, Outputs, Lent, bookSeen, headAfter, worldAfter, bookStep, lengthsOf, shown, expectedStep}
 use Rattle.model.proofs.Tables.{Fit, filled-again, filled-long}
+use Rattle.model.proofs.Records.{no-records}
 use Rattle.model.proofs.Sound.{rows-none}
 use Rattle.model.proofs.Simulation.{Invariant, Agree, referenceWith, bookWith, long-tables, long-records, shown-opened, shown-same}
 
@@ -46,7 +47,7 @@ module _ (d N directions : ℕ) (l : Lent) where
 
     -- the invariant holds after an accepted opening
     invariant : Invariant fresh cleared
-    unfolding opening opened rising shortLoan headOf tornPair
+    unfolding opening opened shortLoan headOf tornPair
     invariant = record {
       settings = holds;
       wide = λ p h k. absurd (omega arith);
@@ -59,8 +60,7 @@ module _ (d N directions : ℕ) (l : Lent) where
           long;
       tables = rw no-rows (filled-again d N [] (l .tables) zero-le nothing []);
       records = padded-again 8 [] [] (l .watches) zero-le;
-      risen = refl;
-      eight = zero-le;
+      watches = no-records N;
       pair = refl;
     }
 

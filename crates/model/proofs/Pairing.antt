@@ -11,9 +11,9 @@ use Rattle.lists.specs.Lists.{laid}
 use Rattle.head.specs.declared.Refusal.the-variants.{Settings, WindowSize, WindowOrder, NoFreeRecord, NotWatched, ShortOutput}
 use Rattle.head.specs.Refusals.{number, firstOf, granted}
 use Rattle.head.specs.Heads.{withPair, tornPair}
-use Rattle.head.proofs.Numbers.{zero-passed, firstOf-alike}
+use Rattle.head.proofs.Numbers.{zero-passed}
 use Rattle.model.specs.Rows.{Row, dueCells}
-use Rattle.model.specs.Changes.{pairJoin, frames}
+use Rattle.model.specs.Changes.{pairJoin, frames, changeRoom}
 use Rattle.model.specs.Reference.{Reference, newest, pastOf, paired, rowOf, rowsOf, headOf, dueOf, opened, outsidePair, withPairOf, tells, referenceStep}
 use Rattle.model.specs.Book.{pairStands, replyOf, pairBytes, pairAnswer, pairReply, pairOut, unpairAnswer, unpairReply, dueWritten, dueAnswer, dueReply, dueOut}
 use Rattle.model.specs.Calls.{Pair, Unpair, Due, Outputs, Lent, World, bookSeen, headAfter, worldAfter, bookStep, lengthsOf, expectedStep}
@@ -21,10 +21,6 @@ use Rattle.model.proofs.Torn.{within-untorn}
 use Rattle.model.proofs.Simulation.{Invariant, Simulation, Agree, referenceWith, bookWith, in-pair-range, simulation, shown-still, past-read, due-read, judged, judged-watchful}
 
 module _ (s : Reference) (l : Lent) (f : Invariant s l) where
-  -- the output is too short for what is written
-  abbrev short : List ℕ → List ℕ → List (Bool × ℕ)
-  short out written = (ltb (length out) (length written), number ShortOutput) ∷ []
-
   -- ---- another pair
 
   module _ (n1 n2 : ℕ) where
@@ -44,8 +40,7 @@ module _ (s : Reference) (l : Lent) (f : Invariant s l) where
         long = f .long;
         tables = f .tables;
         records = f .records;
-        risen = f .risen;
-        eight = f .eight;
+        watches = f .watches;
         pair = rw head-repaired fine;
       }
 
@@ -63,16 +58,15 @@ module _ (s : Reference) (l : Lent) (f : Invariant s l) where
     abbrev joins : List ℕ
     joins = frames (map pairJoin (pastOf s n1 n2))
 
-    -- the refusals behind 5 and behind 14, with these bytes to write
-    abbrev last : List ℕ → List (Bool × ℕ)
-    last bytes = (paired s, number NoFreeRecord) ∷ short (o .bytes) bytes
-
-    abbrev behind : List ℕ → List (Bool × ℕ)
-    behind bytes = (ltb n2 n1, number WindowOrder) ∷ last bytes
+    -- the refusals of a watch of the pair
+    abbrev refusals : List (Bool × ℕ)
+    refusals =
+        (outsidePair s n1 n2, number WindowSize) ∷ (ltb n2 n1, number WindowOrder) ∷ (paired s, number NoFreeRecord)
+        ∷ (ltb (length (o .bytes)) changeRoom, number ShortOutput) ∷ []
 
     -- the reference model's answer
     abbrev pair-answer : ℕ
-    pair-answer = firstOf ((not (opened s), number Settings) ∷ (outsidePair s n1 n2, number WindowSize) ∷ behind joins)
+    pair-answer = firstOf ((not (opened s), number Settings) ∷ refusals)
 
     pair-bytes : outsidePair s n1 n2 ≡ false → ltb n2 n1 ≡ false → pairBytes (headOf s) n1 n2 (l .tables) (l .watches) ≡ joins
     unfolding pairBytes
@@ -83,13 +77,7 @@ module _ (s : Reference) (l : Lent) (f : Invariant s l) where
 
     pair-answers : pairAnswer (headOf s) n1 n2 (l .tables) (l .watches) (length (o .bytes)) ≡ pair-answer
     unfolding pairAnswer outsidePair headOf pairStands paired
-    pair-answers =
-        judged-watchful s l f ((outsidePair s n1 n2, number WindowSize) ∷ behind bytes) ((outsidePair s n1 n2, number WindowSize) ∷ behind joins)
-        (firstOf-alike (outsidePair s n1 n2) (number WindowSize) (behind bytes) (behind joins)
-        (λ e. firstOf-alike (ltb n2 n1) (number WindowOrder) (last bytes) (last joins) (λ g. ap (λ (b : List ℕ). firstOf (last b)) (pair-bytes e g))))
-      where
-        bytes : List ℕ
-        bytes = pairBytes (headOf s) n1 n2 (l .tables) (l .watches)
+    pair-answers = judged-watchful s l f refusals refusals refl
 
     pair-fine : outsidePair s n1 n2 ≡ false → ltb n2 n1 ≡ false → tornPair (withPair (headOf s) n1 n2) ≡ false
     unfolding withPair headOf
@@ -142,9 +130,13 @@ module _ (s : Reference) (l : Lent) (f : Invariant s l) where
     abbrev dues : List ℕ
     dues = dueCells (newest s) (s .n1) (dueOf s)
 
+    -- the output is too short for these cells
+    abbrev short : List ℕ → List (Bool × ℕ)
+    short cells = (ltb (length (o .cells)) (length cells), number ShortOutput) ∷ []
+
     -- the reference model's answer
     abbrev due-answer : ℕ
-    due-answer = firstOf ((not (opened s), number Settings) ∷ short (o .cells) dues)
+    due-answer = firstOf ((not (opened s), number Settings) ∷ short dues)
 
     due-written : dueWritten (headOf s) (l .tables) ≡ dues
     unfolding dueWritten headOf
@@ -153,8 +145,7 @@ module _ (s : Reference) (l : Lent) (f : Invariant s l) where
     due-answers : dueAnswer (headOf s) (l .tables) (length (o .cells)) ≡ due-answer
     unfolding dueAnswer
     due-answers =
-        judged s l f (short (o .cells) (dueWritten (headOf s) (l .tables))) (short (o .cells) dues)
-        (ap (λ (c : List ℕ). firstOf (short (o .cells) c)) due-written)
+        judged s l f (short (dueWritten (headOf s) (l .tables))) (short dues) (ap (λ (c : List ℕ). firstOf (short c)) due-written)
 
     -- the look at what is due is seen alike
     pub looks-due : Agree Due o (referenceWith s l) (bookWith s l)

@@ -8,17 +8,15 @@ use mathlib.Core.List.{List, [], _∷_, _++_, append-nil, append-assoc}
 use lib.Dec.{ltb, leb, eqb}
 use lib.ListN.{length, getD, length-append}
 use borrow.Author.Tests.{eqb-true, leb-false, eq-eqb, lt-leb, le-ltb, not-false}
-use Rattle.lists.specs.Lists.{rising}
 use Rattle.head.specs.declared.Head.{Head}
 use Rattle.head.specs.declared.Refusal.the-variants.{ColumnCount, TapeFull, ShortOutput}
 use Rattle.head.specs.Refusals.{number, firstOf, granted}
-use Rattle.head.specs.Heads.{settingsHold, lastPosition, tornPair}
+use Rattle.head.specs.Heads.{settingsHold, lastPosition}
 use Rattle.head.proofs.Settings.{settings-within}
 use Rattle.head.proofs.Numbers.{zero-passed}
-use Rattle.model.specs.Reference.{Reference, Quote, ample, newest, headOf, opening, opened, withQuote, withQuotes, tooShort, tells, referenceStep}
+use Rattle.model.specs.Changes.{changeRoom}
+use Rattle.model.specs.Reference.{Reference, Quote, ample, newest, opening, opened, withQuote, withQuotes, tooShort, tells, referenceStep}
 use Rattle.model.specs.Audit.{tapeOpening, plays}
-use Rattle.model.proofs.Simulation.{Bounded}
-use Rattle.model.proofs.Written.{written, written-fits}
 
 -- the reference model that holds these quotes, with no watch standing
 abbrev pub holding : ℕ → ℕ → ℕ → List (List ℕ) → Reference
@@ -32,7 +30,7 @@ plays-nil : (s : Reference) → plays [] s ≡ s
 unfolding plays
 plays-nil s = refl
 
-module _ (s : Reference) (hold : opened s ≡ true) (ok : Bounded s) where
+module _ (s : Reference) (hold : opened s ≡ true) where
   -- the columns of a quote
   abbrev d : ℕ
   d = s .dimensions
@@ -49,24 +47,19 @@ module _ (s : Reference) (hold : opened s ≡ true) (ok : Bounded s) where
     n2 = s .n2;
   }
 
-  at-fits : (x : List ℕ) (qs : List (List ℕ)) → length qs < lastPosition → length (written (at qs) x) ≤ 62520
-  unfolding opened headOf tornPair
-  at-fits x qs room =
-      written-fits (at qs) x hold record { short = omega arith; small = ok .small; risen = ok .risen; eight = ok .eight; pair = ok .pair } room
-
   -- a quote is taken if it has d columns and the tape is not full
   quote-next : (x : List ℕ) (qs : List (List ℕ))
       → referenceStep (Quote x) ample (at qs) .next ≡ cond (eqb (length x) d && not (leb lastPosition (length qs))) (at (qs ++ (x ∷ []))) (at qs)
   unfolding referenceStep tells opened firstOf granted withQuote
-  quote-next x qs = rw hold (go (eqb (length x) d) (leb lastPosition (length qs)) refl)
+  quote-next x qs = rw hold (go (eqb (length x) d) (leb lastPosition (length qs)))
     where
-      go : (a b : Bool) → leb lastPosition (length qs) ≡ b
-          → granted (firstOf ((not a, number ColumnCount) ∷ (b, number TapeFull) ∷ (ltb 62520 (length (written (at qs) x)), number ShortOutput) ∷ []))
+      go : (a b : Bool)
+          → granted (firstOf ((not a, number ColumnCount) ∷ (b, number TapeFull) ∷ (ltb changeRoom changeRoom, number ShortOutput) ∷ []))
           (at (qs ++ (x ∷ []))) (at qs)
           ≡ cond (a && not b) (at (qs ++ (x ∷ []))) (at qs)
-      go true true e = refl
-      go true false e = rw (le-ltb 62520 (length (written (at qs) x)) (at-fits x qs (leb-false lastPosition (length qs) e)))
-      go false b e = refl
+      go true true = refl
+      go true false = refl
+      go false b = refl
 
   -- the first quote, and then the others
   plays-cons : (x : List ℕ) (xs qs : List (List ℕ))
@@ -127,19 +120,15 @@ module _ (d N directions : ℕ) (hold : settingsHold d N directions ≡ true) wh
   unfolding opened
   fresh-opened = hold
 
-  fresh-bounded : Bounded (holding d N directions [])
-  unfolding rising headOf tornPair
-  fresh-bounded = record { short = zero-le; small = settings-within d N directions hold .small-capacity; risen = refl; eight = zero-le; pair = refl }
-
   -- a book just opened holds a tape of quotes of d columns that is not too long
   pub opening-plays : (qs : List (List ℕ)) → WideAll d qs → length qs ≤ lastPosition → plays qs (opening d N directions) ≡ holding d N directions qs
   unfolding opening
-  opening-plays qs wide room = plays-all (holding d N directions []) fresh-opened fresh-bounded qs [] wide (omega arith)
+  opening-plays qs wide room = plays-all (holding d N directions []) fresh-opened qs [] wide (omega arith)
 
   -- one that holds as many quotes as the tape has took a tape of quotes of d columns that is not too long
   pub opening-took : (qs : List (List ℕ)) → length (plays qs (opening d N directions) .quotes) ≡ length qs → WideAll d qs × (length qs ≤ lastPosition)
   unfolding opening
-  opening-took qs e = rw zero-add at (taken (holding d N directions []) fresh-opened fresh-bounded qs [] zero-le (e ∙ sym (zero-add (length qs))))
+  opening-took qs e = rw zero-add at (taken (holding d N directions []) fresh-opened qs [] zero-le (e ∙ sym (zero-add (length qs))))
 
 -- lengths that are ample are long enough for settings that hold
 ample-long : (d N directions : ℕ) → settingsHold d N directions ≡ true → tooShort ample d N ≡ false

@@ -1,5 +1,5 @@
 -- A quote and its preview are answered alike by both models.
-use mathlib.Core.Path.{_≡_, refl, sym, ap, _∙_}
+use mathlib.Core.Path.{_≡_, refl, sym, _∙_}
 use mathlib.Core.Logic.{inr}
 use Prim.Native.Nat.{ℕ, zero, suc, _≤_, _<_}
 use native.Mathlib.Omega.{arith}
@@ -14,8 +14,9 @@ use Rattle.dominance.specs.Renewal.{quoteAt}
 use Rattle.head.specs.declared.Refusal.the-variants.{Settings, ColumnCount, TapeFull, ShortOutput}
 use Rattle.head.specs.Refusals.{number, firstOf, granted}
 use Rattle.head.specs.Heads.{lastPosition}
-use Rattle.head.proofs.Numbers.{zero-passed, firstOf-alike}
+use Rattle.head.proofs.Numbers.{zero-passed}
 use Rattle.model.specs.Rows.{filled}
+use Rattle.model.specs.Changes.{changeRoom}
 use Rattle.model.specs.Reference.{Reference, newest, rowsOf, headOf, opened, withQuote, tells, foretells, referenceStep}
 use Rattle.model.specs.Book.{shortLoan, replyOf, quoteRows, quoteHead, quoteBytes, quoteAnswer, quoteReply, quoteTables, quoteOut, previewReply, previewCounts, previewOut}
 use Rattle.model.specs.Calls.{Quote, Preview, Outputs, Lent, bookSeen, headAfter, worldAfter, bookStep, lengthsOf, shown, expectedStep}
@@ -54,7 +55,7 @@ module _ (s : Reference) (l : Lent) (f : Invariant s l) (x : List ℕ) where
   -- the book model writes the same
   bytes-are : newest s < lastPosition → quoteBytes (headOf s) x (l .tables) (l .watches) ≡ written s x
   unfolding quoteBytes
-  bytes-are h = rw (head-is h, rows-are, rows-read s l f, watches-read s l f) (written-is s x (f .risen) (f .pair))
+  bytes-are h = rw (head-is h, rows-are, rows-read s l f, watches-read s l f) (written-is s x (f .watches) (f .pair))
 
   -- ---- what is left
 
@@ -80,37 +81,27 @@ module _ (s : Reference) (l : Lent) (f : Invariant s l) (x : List ℕ) where
           long = rw (filled-long (s .dimensions) (s .capacity) (rowsOf s') (l .tables) few fit (long-tables (l .tables) (l .watches) (s .dimensions) (s .capacity) (f .long)) (s .dimensions) (s .capacity)) (f .long);
           tables = filled-again (s .dimensions) (s .capacity) (rowsOf s') (l .tables) few fit (rowsOf s');
           records = f .records;
-          risen = f .risen;
-          eight = f .eight;
+          watches = f .watches;
           pair = pair-kept s x (f .pair);
         }
 
   -- ---- the call
 
   module _ (o : Outputs) where
-    -- the refusals of an output that is too short, and of a tape that is full
-    abbrev short : List ℕ → List (Bool × ℕ)
-    short bytes = (ltb (length (o .bytes)) (length bytes), number ShortOutput) ∷ []
-
-    abbrev more : List ℕ → List (Bool × ℕ)
-    more bytes = (leb lastPosition (newest s), number TapeFull) ∷ short bytes
+    -- the refusals of a quote
+    abbrev refusals : List (Bool × ℕ)
+    refusals =
+        (not (eqb (length x) (s .dimensions)), number ColumnCount) ∷ (leb lastPosition (newest s), number TapeFull)
+        ∷ (ltb (length (o .bytes)) changeRoom, number ShortOutput) ∷ []
 
     -- the reference model's answer
     abbrev answer : ℕ
-    answer = firstOf ((not (opened s), number Settings) ∷ (not (eqb (length x) (s .dimensions)), number ColumnCount) ∷ more (written s x))
+    answer = firstOf ((not (opened s), number Settings) ∷ refusals)
 
     -- the book model's answer is the same
     answers : quoteAnswer (headOf s) x (l .tables) (l .watches) (length (o .bytes)) ≡ answer
     unfolding quoteAnswer headOf
-    answers =
-        judged-watchful s l f ((not (eqb (length x) (s .dimensions)), number ColumnCount) ∷ more bytes)
-        ((not (eqb (length x) (s .dimensions)), number ColumnCount) ∷ more (written s x))
-        (firstOf-alike (not (eqb (length x) (s .dimensions))) (number ColumnCount) (more bytes) (more (written s x))
-        (λ _. firstOf-alike (leb lastPosition (newest s)) (number TapeFull) (short bytes) (short (written s x))
-        (λ e. ap (λ (b : List ℕ). firstOf (short b)) (bytes-are (leb-false lastPosition (newest s) e)))))
-      where
-        bytes : List ℕ
-        bytes = quoteBytes (headOf s) x (l .tables) (l .watches)
+    answers = judged-watchful s l f refusals refusals refl
 
     -- the quote is seen alike
     pub quotes : Agree (Quote x) o (referenceWith s l) (bookWith s l)

@@ -27,8 +27,8 @@ unfolding bookSeen headAfter worldAfter bookStep expectedStep referenceStep tell
 unopened-agrees (Open d N directions) o l = opens d N directions l o unopened (inl refl)
 unopened-agrees (Quote x) o l = (refl, record { head = refl; lent = refl; since = inl refl })
 unopened-agrees (Look n) o l = (refl, record { head = refl; lent = refl; since = inl refl })
-unopened-agrees (Watch n) o l = (refl, record { head = refl; lent = refl; since = inl refl })
-unopened-agrees (End n) o l = (refl, record { head = refl; lent = refl; since = inl refl })
+unopened-agrees (Watch desk n) o l = (refl, record { head = refl; lent = refl; since = inl refl })
+unopened-agrees (End desk n) o l = (refl, record { head = refl; lent = refl; since = inl refl })
 unopened-agrees (Past n1 n2) o l = (refl, record { head = refl; lent = refl; since = inl refl })
 unopened-agrees (Pair n1 n2) o l = (refl, record { head = refl; lent = refl; since = inl refl })
 unopened-agrees Unpair o l = (refl, record { head = refl; lent = refl; since = inl refl })
@@ -39,8 +39,8 @@ opened-agrees : (c : Call) (o : Outputs) (s : Reference) (l : Lent) → Invarian
 opened-agrees (Open d N directions) o s l f = opens d N directions l o s (inr f)
 opened-agrees (Quote x) o s l f = quotes s l f x o
 opened-agrees (Look n) o s l f = looks s l f n o
-opened-agrees (Watch n) o s l f = watches s l f n o
-opened-agrees (End n) o s l f = ends s l f n o
+opened-agrees (Watch desk n) o s l f = watches s l f desk n o
+opened-agrees (End desk n) o s l f = ends s l f desk n o
 opened-agrees (Past n1 n2) o s l f = looks-back s l f n1 n2 o
 opened-agrees (Pair n1 n2) o s l f = pairs s l f n1 n2 o
 opened-agrees Unpair o s l f = unpairs s l f o

@@ -1,19 +1,20 @@
 -- How the two models stand between two calls of a list, and what the book model then reads and judges.
 use mathlib.Core.Path.{_≡_, refl, sym, ap, ap₂, _∙_}
 use mathlib.Core.Logic.{_⊎_, inl, inr}
-use Prim.Native.Nat.{ℕ, _≤_}
+use Prim.Native.Nat.{ℕ, _≤_, _<_}
 use native.Mathlib.Omega.{arith}
 use mathlib.Core.Bool.{Bool, true, false, _&&_, not, cond}
 use mathlib.Core.List.{List, [], _∷_}
 use lib.Dec.{ltb, leb, eqb}
 use lib.ListN.{length}
 use borrow.Author.Tests.{ltb-false, leb-true, eqb-false, not-false}
-use Rattle.lists.specs.Lists.{run, rising, padded}
+use Rattle.lists.specs.Lists.{run, padded}
 use Rattle.lists.proofs.Booleans.{and-left, and-right, none-left, none-right}
 use Rattle.head.specs.declared.Head.{Head}
 use Rattle.head.specs.declared.Refusal.the-variants.{Settings}
 use Rattle.head.specs.Refusals.{number, firstOf}
 use Rattle.head.specs.Heads.{settingsHold, lastPosition, tornPair}
+use Rattle.head.specs.Desks.{deskUnit}
 use Rattle.head.proofs.Settings.{settings-within}
 use Rattle.model.specs.Rows.{Row, Tables, rowsIn, filled, dueRows}
 use Rattle.model.specs.Reference.{Reference, unopened, newest, skylineOf, pastOf, paired, pairOf, rowsOf, headOf, dueOf, opened, outside, outsidePast, outsidePair}
@@ -22,10 +23,12 @@ use Rattle.model.specs.Calls.{Call, Outputs, Lent, World, bookStep, show
 use Rattle.model.proofs.Quotes.{past-listed, skyline-listed}
 use Rattle.model.proofs.Tables.{rows-filled}
 use Rattle.model.proofs.Torn.{PairWithin, pair-within}
+use Rattle.model.proofs.Records.{Records, no-records}
 use Rattle.model.proofs.Sound.{Wide, rows-none, rows-few, rows-wide, rows-sound, standing-padded, watches-sound}
 
 -- from the first accepted opening on: what is lent is filled from the reference model, whose settings hold, whose quotes have d
--- columns each and are not too many, whose watched n rise from 1 to N and are at most eight, and whose pair is not torn
+-- columns each and are not too many, whose watches rise, are a desk's of n from 1 to N and are within the shares, and whose pair is not
+-- torn
 pub record Invariant (s : Reference) (l : Lent) : Type 0 where
   pub settings : opened s ≡ true
   pub wide : Wide s
@@ -33,8 +36,7 @@ pub record Invariant (s : Reference) (l : Lent) : Type 0 where
   pub long : shortLoan (l .tables) (l .watches) (s .dimensions) (s .capacity) ≡ false
   pub tables : filled (s .dimensions) (s .capacity) (rowsOf s) (l .tables) ≡ l .tables
   pub records : padded 8 (s .watched) (l .watches) ≡ l .watches
-  pub risen : rising 1 (s .capacity) (s .watched) ≡ true
-  pub eight : length (s .watched) ≤ 8
+  pub watches : Records (s .capacity) (s .watched)
   pub pair : tornPair (headOf s) ≡ false
 
 -- between two calls: the head is the reference model's, both models are lent the same, and either no opening was accepted or what
@@ -44,24 +46,22 @@ pub record Simulation (k : Expected) (w : World) : Type 0 where
   pub lent : w .lent ≡ k .lent
   pub since : (k .reference ≡ unopened) ⊎ Invariant (k .reference) (k .lent)
 
--- a reference model whose positions and watched n fit the frames of changes, whose watched n rise and are at most eight, and whose pair
--- is not torn
+-- a reference model whose positions and n fit the frames of changes, whose watches rise, are a desk's of n from 1 to N and are within
+-- the shares, and whose pair is not torn
 pub record Bounded (s : Reference) : Type 0 where
   pub short : newest s ≤ lastPosition
   pub small : s .capacity ≤ 1024
-  pub risen : rising 1 (s .capacity) (s .watched) ≡ true
-  pub eight : length (s .watched) ≤ 8
+  pub watches : Records (s .capacity) (s .watched)
   pub pair : tornPair (headOf s) ≡ false
 
 -- the reference model is bounded wherever a book simulates it
 pub bounded : (s : Reference) (l : Lent) → (s ≡ unopened) ⊎ Invariant s l → Bounded s
-unfolding opened rising headOf tornPair
-bounded s l (inl e) = rw e (record { short = omega arith; small = omega arith; risen = refl; eight = omega arith; pair = refl })
+unfolding opened headOf tornPair
+bounded s l (inl e) = rw e (record { short = omega arith; small = omega arith; watches = no-records 0; pair = refl })
 bounded s l (inr f) = record {
   short = f .within;
   small = settings-within (s .dimensions) (s .capacity) (s .directions) (f .settings) .small-capacity;
-  risen = f .risen;
-  eight = f .eight;
+  watches = f .watches;
   pair = f .pair;
 }
 
@@ -93,6 +93,10 @@ unfolding outside
 in-range s n e =
     let t = not-false (leb 1 n && leb n (s .capacity)) e in
     (leb-true 1 n (and-left (leb 1 n) (leb n (s .capacity)) t), leb-true n (s .capacity) (and-right (leb 1 n) (leb n (s .capacity)) t))
+
+-- and far below what a desk counts for in a record
+pub in-unit : (s : Reference) (n : ℕ) → Bounded s → outside s n ≡ false → n < deskUnit
+in-unit s n ok e = let r = in-range s n e in omega (arith, r .1, ok .small)
 
 -- n1 and n2 that are refused neither with 5 nor with 14 have 1 ≤ n1 ≤ n2 ≤ N
 pub in-past-range : (s : Reference) (n1 n2 : ℕ) → outsidePast s n1 n2 ≡ false → ltb n2 n1 ≡ false → (1 ≤ n1) × (n1 ≤ n2) × (n2 ≤ s .capacity)
@@ -156,9 +160,9 @@ module _ (s : Reference) (l : Lent) (f : Invariant s l) where
       ap (rowsIn (s .dimensions) (length (rowsOf s))) (sym (f .tables))
       ∙ rows-filled (s .dimensions) (s .capacity) (rowsOf s) (l .tables) (rows-few s some-capacity) (rows-wide s (f .wide))
 
-  -- and its watched n
+  -- and its watches
   pub watches-read : standing (l .watches) ≡ s .watched
-  watches-read = ap standing (sym (f .records)) ∙ standing-padded (s .capacity) (s .watched) (l .watches) (f .risen) (f .eight)
+  watches-read = ap standing (sym (f .records)) ∙ standing-padded (s .capacity) (s .watched) (l .watches) (f .watches)
 
   -- and its skylines
   pub skyline-read : (n : ℕ) → 1 ≤ n → n ≤ s .capacity → listOf (headOf s) (bookRows (headOf s) (l .tables)) n ≡ skylineOf s n
@@ -178,7 +182,7 @@ module _ (s : Reference) (l : Lent) (f : Invariant s l) where
   rows-whole = rows-sound s some-capacity (f .within)
 
   watches-whole : tornWatches (s .capacity) (l .watches) ≡ false
-  watches-whole = ap (tornWatches (s .capacity)) (sym (f .records)) ∙ watches-sound (s .capacity) (s .watched) (l .watches) (f .risen) (f .eight)
+  watches-whole = ap (tornWatches (s .capacity)) (sym (f .records)) ∙ watches-sound (s .capacity) (s .watched) (l .watches) (f .watches)
 
   -- neither 3 nor 11 nor 12 is said: the answer is by what the call adds
   pub judged : (more more' : List (Bool × ℕ)) → firstOf more ≡ firstOf more' → answerOf (headOf s) (l .tables) more ≡ firstOf ((not (opened s), number Settings) ∷ more')

@@ -1,9 +1,10 @@
--- A watcher that reads the frames the calls on a book write holds its list after every call, until its watch ends: the skyline of its n, or
--- the past list of the pair.
+-- A watcher that reads the frames the calls on a book write holds its list after every call, until its watch ends: the skyline of its
+-- desk's n, or the past list of the pair.
 use mathlib.Core.Path.{_≡_, refl, sym, ap, _∙_}
 use mathlib.Core.List.{List, [], _∷_}
 use Prim.Native.Nat.{ℕ}
-use Rattle.lists.specs.Lists.{any, contains}
+use Rattle.lists.specs.Lists.{any}
+use Rattle.head.specs.declared.Desk.{Desk}
 use Rattle.model.specs.Reference.{unopened, paired}
 use Rattle.model.specs.Calls.{Lending, Lent, Seen, World, Expected, bookStep, expectedStep, runs, worldFirst, expectedFirst, referenceAtEnd}
 use Rattle.model.specs.Watcher.{Follower, OfSize, OfPair, Held, Nothing, watcherStep, watcher, watchedFor, heldBy}
@@ -27,8 +28,8 @@ module _ (f : Follower) where
 
 -- at first nothing is watched
 none-first : (f : Follower) → heldBy f unopened ≡ Nothing
-unfolding heldBy watchedFor contains any paired
-none-first (OfSize n) = refl
+unfolding heldBy watchedFor any paired
+none-first (OfSize desk n) = refl
 none-first OfPair = refl
 
 -- after every list of calls a watcher holds nothing where its list is not watched, and else its list
@@ -38,10 +39,10 @@ watcher-holds f cs l =
     ap (λ (held : Held). watcher f cs (runs bookStep cs (worldFirst l) .0) held) (sym (none-first f))
     ∙ holds-on f cs (expectedFirst l) (worldFirst l) (replay-ends [] l)
 
--- the watcher of n holds the skyline of n
-pub watcher-holds-skyline : (n : ℕ) (cs : List Lending) (l : Lent)
-    → watcher (OfSize n) cs (runs bookStep cs (worldFirst l) .0) Nothing ≡ heldBy (OfSize n) (referenceAtEnd cs l)
-watcher-holds-skyline n = watcher-holds (OfSize n)
+-- a desk's watcher of n holds the skyline of n
+pub watcher-holds-skyline : (desk : Desk) (n : ℕ) (cs : List Lending) (l : Lent)
+    → watcher (OfSize desk n) cs (runs bookStep cs (worldFirst l) .0) Nothing ≡ heldBy (OfSize desk n) (referenceAtEnd cs l)
+watcher-holds-skyline desk n = watcher-holds (OfSize desk n)
 
 -- the watcher of the pair holds its past list
 pub pair-holds-past : (cs : List Lending) (l : Lent)

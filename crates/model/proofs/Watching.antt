@@ -1,35 +1,35 @@
 -- A look, a look at a past list, a watch and an end are answered alike by both models.
 use mathlib.Core.Path.{_≡_, refl, sym, ap, _∙_}
 use mathlib.Core.Logic.{inr}
-use Prim.Native.Nat.{ℕ, zero, suc, _≤_}
-use native.Mathlib.Omega.{arith}
-use mathlib.Core.Bool.{Bool, true, false, not}
+use Prim.Native.Nat.{ℕ, zero, suc}
+use mathlib.Core.Bool.{Bool, false, not}
 use mathlib.Core.List.{List, [], _∷_, map}
-use lib.Dec.{ltb, leb, eqb}
+use lib.Dec.{ltb, eqb}
 use lib.ListN.{length}
-use borrow.Author.Tests.{leb-false}
-use Rattle.lists.specs.Lists.{contains, rising, insert, without, laid, padded}
-use Rattle.lists.proofs.Filters.{length-filter}
-use Rattle.lists.proofs.Rising.{rising-filter, length-insert, rising-insert}
+use Rattle.lists.specs.Lists.{contains, insert, without, laid, padded}
 use Rattle.lists.proofs.Writing.{length-padded, padded-again}
 use Rattle.head.specs.declared.Refusal.the-variants.{Settings, WindowSize, WindowOrder, AlreadyWatched, NoFreeRecord, NotWatched, ShortOutput}
 use Rattle.head.specs.Refusals.{number, firstOf, granted}
+use Rattle.head.specs.declared.Desk.{Desk}
+use Rattle.head.specs.Desks.{watchOf}
 use Rattle.head.proofs.Numbers.{zero-passed, firstOf-alike}
-use Rattle.model.specs.Changes.{join, frames}
+use Rattle.model.specs.Changes.{join, frames, changeRoom}
+use Rattle.model.specs.Shares.{deskFull}
 use Rattle.model.specs.Reference.{Reference, skylineOf, pastOf, rowOf, rowsOf, headOf, opened, outside, outsidePast, withWatched, tells, referenceStep}
 use Rattle.model.specs.Book.{shortLoan, bookRows, listOf, replyOf, outOfRange, lookCells, lookAnswer, lookReply, lookOut, pastCells, pastAnswer, pastReply, pastOut, watchBytes, watchAnswer, watchReply, watchWatches, watchOut, endAnswer, endReply, endWatches}
 use Rattle.model.specs.Calls.{Look, Watch, End, Past, Outputs, Lent, bookSeen, headAfter, worldAfter, bookStep, lengthsOf, shown, expectedStep}
-use Rattle.model.proofs.Simulation.{Invariant, Simulation, Agree, referenceWith, bookWith, long-records, in-range, in-past-range, simulation, shown-opened, shown-still, watches-read, skyline-read, past-read, judged, judged-watchful}
+use Rattle.model.proofs.Records.{Records, eight-records, records-insert, records-filter}
+use Rattle.model.proofs.Simulation.{Invariant, Simulation, bounded, Agree, referenceWith, bookWith, long-records, in-range, in-unit, in-past-range, simulation, shown-opened, shown-still, watches-read, skyline-read, past-read, judged, judged-watchful}
 
 -- the watches are no part of the head
-head-rewatched : (s : Reference) (ns : List ℕ) → headOf (withWatched s ns) ≡ headOf s
+head-rewatched : (s : Reference) (ws : List ℕ) → headOf (withWatched s ws) ≡ headOf s
 unfolding headOf withWatched rowsOf rowOf
-head-rewatched s ns = refl
+head-rewatched s ws = refl
 
 module _ (s : Reference) (l : Lent) (f : Invariant s l) (n : ℕ) where
-  -- the output is too short for what is written
+  -- the output is too short for these positions
   abbrev short : List ℕ → List ℕ → List (Bool × ℕ)
-  short out written = (ltb (length out) (length written), number ShortOutput) ∷ []
+  short out cells = (ltb (length out) (length cells), number ShortOutput) ∷ []
 
   list-read : outside s n ≡ false → listOf (headOf s) (bookRows (headOf s) (l .tables)) n ≡ skylineOf s n
   list-read e = let r = in-range s n e in skyline-read s l f n (r .0) (r .1)
@@ -60,108 +60,110 @@ module _ (s : Reference) (l : Lent) (f : Invariant s l) (n : ℕ) where
         go zero e = rw (look-answers, e, look-cells (zero-passed _ _ _ (zero-passed _ _ _ e .1) .0), shown-still s l f) (refl, simulation s l f)
         go (suc k) e = rw (look-answers, e, shown-still s l f) (refl, simulation s l f)
 
-  -- ---- other watches
+-- ---- other watches
 
-  module _ (ns : List ℕ) (few : length ns ≤ 8) (risen : rising 1 (s .capacity) ns ≡ true) where
-    -- what is lent, with these n in the records
-    abbrev relent : Lent
-    relent = record { tables = l .tables; watches = padded 8 ns (l .watches) }
+module _ (s : Reference) (l : Lent) (f : Invariant s l) (ws : List ℕ) (records : Records (s .capacity) ws) where
+  -- what is lent, with these watches in the records
+  abbrev relent : Lent
+  relent = record { tables = l .tables; watches = padded 8 ws (l .watches) }
 
-    -- the invariant holds with other watches
-    rewatched : Invariant (withWatched s ns) relent
-    unfolding withWatched opened rowsOf rowOf headOf shortLoan
-    rewatched = record {
-      settings = f .settings;
-      wide = f .wide;
-      within = f .within;
-      long = rw (length-padded 8 ns (l .watches) few (long-records (l .tables) (l .watches) (s .dimensions) (s .capacity) (f .long))) (f .long);
-      tables = f .tables;
-      records = padded-again 8 ns ns (l .watches) few;
-      risen = risen;
-      eight = few;
-      pair = f .pair;
-    }
+  -- the invariant holds with other watches
+  rewatched : Invariant (withWatched s ws) relent
+  unfolding withWatched opened rowsOf rowOf headOf shortLoan
+  rewatched =
+      let few = eight-records records in
+      record {
+        settings = f .settings;
+        wide = f .wide;
+        within = f .within;
+        long = rw (length-padded 8 ws (l .watches) few (long-records (l .tables) (l .watches) (s .dimensions) (s .capacity) (f .long))) (f .long);
+        tables = f .tables;
+        records = padded-again 8 ws ws (l .watches) few;
+        watches = records;
+        pair = f .pair;
+      }
 
-    shown-rewatched : shown (withWatched s ns) l ≡ relent
-    unfolding withWatched opened rowsOf rowOf
-    shown-rewatched = shown-opened (withWatched s ns) l (f .settings) ∙ rw (f .tables)
+  shown-rewatched : shown (withWatched s ws) l ≡ relent
+  unfolding withWatched opened rowsOf rowOf
+  shown-rewatched = shown-opened (withWatched s ws) l (f .settings) ∙ rw (f .tables)
 
-    simulation-rewatched : Simulation (referenceWith (withWatched s ns) relent) (bookWith s relent)
-    simulation-rewatched = record { head = sym (head-rewatched s ns); lent = refl; since = inr rewatched }
+  simulation-rewatched : Simulation (referenceWith (withWatched s ws) relent) (bookWith s relent)
+  simulation-rewatched = record { head = sym (head-rewatched s ws); lent = refl; since = inr rewatched }
+
+module _ (s : Reference) (l : Lent) (f : Invariant s l) (desk : Desk) (n : ℕ) where
+  -- the number of the watch
+  abbrev watch : ℕ
+  watch = watchOf desk n
 
   -- ---- watch
 
   module _ (o : Outputs) where
-    -- what the reference model writes
-    abbrev joins : List ℕ
-    joins = frames (map (join n) (skylineOf s n))
+    -- the refusals of a watch
+    abbrev refusals : List (Bool × ℕ)
+    refusals =
+        (outside s n, number WindowSize) ∷ (contains watch (s .watched), number AlreadyWatched) ∷ (deskFull desk (s .watched), number NoFreeRecord)
+        ∷ (ltb (length (o .bytes)) changeRoom, number ShortOutput) ∷ []
 
     -- the reference model's answer
     abbrev watch-answer : ℕ
-    watch-answer =
-        firstOf ((not (opened s), number Settings) ∷ (outside s n, number WindowSize) ∷ (contains n (s .watched), number AlreadyWatched) ∷ (leb 8 (length (s .watched)), number NoFreeRecord)
-        ∷ short (o .bytes) joins)
+    watch-answer = firstOf ((not (opened s), number Settings) ∷ refusals)
 
-    watch-bytes : outside s n ≡ false → watchBytes (headOf s) n (l .tables) (l .watches) ≡ joins
+    watch-bytes : outside s n ≡ false → watchBytes (headOf s) desk n (l .tables) (l .watches) ≡ frames (map (join watch) (skylineOf s n))
     unfolding watchBytes
-    watch-bytes e = rw (list-read e)
+    watch-bytes e = rw (list-read s l f n e)
 
-    watch-answers : watchAnswer (headOf s) n (l .tables) (l .watches) (length (o .bytes)) ≡ watch-answer
+    watch-answers : watchAnswer (headOf s) desk n (l .tables) (l .watches) (length (o .bytes)) ≡ watch-answer
     unfolding watchAnswer outOfRange headOf outside
-    watch-answers =
-        rw (watches-read s l f)
-        (judged-watchful s l f ((outside s n, number WindowSize) ∷ more bytes) ((outside s n, number WindowSize) ∷ more joins)
-        (firstOf-alike (outside s n) (number WindowSize) (more bytes) (more joins) (λ e. ap (λ (b : List ℕ). firstOf (more b)) (watch-bytes e))))
-      where
-        bytes : List ℕ
-        bytes = watchBytes (headOf s) n (l .tables) (l .watches)
-
-        more : List ℕ → List (Bool × ℕ)
-        more written = (contains n (s .watched), number AlreadyWatched) ∷ (leb 8 (length (s .watched)), number NoFreeRecord) ∷ short (o .bytes) written
+    watch-answers = rw (watches-read s l f) (judged-watchful s l f refusals refusals refl)
 
     -- the watch is seen alike
-    pub watches : Agree (Watch n) o (referenceWith s l) (bookWith s l)
+    pub watches : Agree (Watch desk n) o (referenceWith s l) (bookWith s l)
     unfolding bookSeen headAfter worldAfter bookStep expectedStep referenceStep tells lengthsOf watchReply watchWatches watchOut replyOf granted laid
     watches = go watch-answer refl
       where
-        go : (a : ℕ) → watch-answer ≡ a → Agree (Watch n) o (referenceWith s l) (bookWith s l)
+        more : List ℕ
+        more = insert watch (s .watched)
+
+        go : (a : ℕ) → watch-answer ≡ a → Agree (Watch desk n) o (referenceWith s l) (bookWith s l)
         go zero e =
             let a = zero-passed _ _ _ (zero-passed _ _ _ e .1) in
             let r = in-range s n (a .0) in
             let b = zero-passed _ _ _ (a .1) in
-            let c = leb-false 8 (length (s .watched)) (zero-passed _ _ _ (b .1) .0) in
-            let few : length (insert n (s .watched)) ≤ 8 = omega (arith, length-insert n (s .watched)) in
-            let risen = rising-insert 1 (s .capacity) n (s .watched) (r .0) (r .1) (b .0) (f .risen) in
-            rw (watch-answers, e, watch-bytes (a .0), watches-read s l f, shown-rewatched (insert n (s .watched)) few risen, head-rewatched s (insert n (s .watched)))
-            (refl, simulation-rewatched (insert n (s .watched)) few risen)
+            let small = in-unit s n (bounded s l (inr f)) (a .0) in
+            let records = records-insert (f .watches) desk n small (r .0) (r .1) (b .0) (zero-passed _ _ _ (b .1) .0) in
+            rw (watch-answers, e, watch-bytes (a .0), watches-read s l f, shown-rewatched s l f more records, head-rewatched s more)
+            (refl, simulation-rewatched s l f more records)
         go (suc k) e = rw (watch-answers, e, shown-still s l f) (refl, simulation s l f)
 
   -- ---- end
 
+  -- the refusals of an end
+  abbrev end-refusals : List (Bool × ℕ)
+  end-refusals = (outside s n, number WindowSize) ∷ (not (contains watch (s .watched)), number NotWatched) ∷ []
+
   -- the reference model's answer
   abbrev end-answer : ℕ
-  end-answer = firstOf ((not (opened s), number Settings) ∷ (outside s n, number WindowSize) ∷ (not (contains n (s .watched)), number NotWatched) ∷ [])
+  end-answer = firstOf ((not (opened s), number Settings) ∷ end-refusals)
 
-  end-answers : endAnswer (headOf s) n (l .tables) (l .watches) ≡ end-answer
+  end-answers : endAnswer (headOf s) desk n (l .tables) (l .watches) ≡ end-answer
   unfolding endAnswer outOfRange headOf outside
-  end-answers = rw (watches-read s l f) (judged-watchful s l f ((outside s n, number WindowSize) ∷ (not (contains n (s .watched)), number NotWatched) ∷ []) _ refl)
+  end-answers = rw (watches-read s l f) (judged-watchful s l f end-refusals end-refusals refl)
 
   -- the end of a watch is seen alike
-  pub ends : (o : Outputs) → Agree (End n) o (referenceWith s l) (bookWith s l)
+  pub ends : (o : Outputs) → Agree (End desk n) o (referenceWith s l) (bookWith s l)
   unfolding bookSeen headAfter worldAfter bookStep expectedStep referenceStep tells lengthsOf endReply endWatches replyOf granted laid without
   ends o = go end-answer refl
     where
-      ns : List ℕ
-      ns = without n (s .watched)
+      less : List ℕ
+      less = without watch (s .watched)
 
-      few : length ns ≤ 8
-      few = omega (arith, length-filter (λ m. not (eqb n m)) (s .watched), f .eight)
+      records : Records (s .capacity) less
+      records = records-filter (f .watches) (λ m. not (eqb watch m))
 
-      risen : rising 1 (s .capacity) ns ≡ true
-      risen = rising-filter (λ m. not (eqb n m)) 1 (s .capacity) (s .watched) (f .risen)
-
-      go : (a : ℕ) → end-answer ≡ a → Agree (End n) o (referenceWith s l) (bookWith s l)
-      go zero e = rw (end-answers, e, watches-read s l f, shown-rewatched ns few risen, head-rewatched s ns) (refl, simulation-rewatched ns few risen)
+      go : (a : ℕ) → end-answer ≡ a → Agree (End desk n) o (referenceWith s l) (bookWith s l)
+      go zero e =
+          rw (end-answers, e, watches-read s l f, shown-rewatched s l f less records, head-rewatched s less)
+          (refl, simulation-rewatched s l f less records)
       go (suc k) e = rw (end-answers, e, shown-still s l f) (refl, simulation s l f)
 
 -- ---- past look

@@ -7,12 +7,16 @@ use lib.ListN.{length, take}
 use Rattle.lists.specs.Lists.{filter, any, lastOr, between, contains, rising, insert, without, laid, padded}
 use Rattle.skyline.specs.Skyline.{windowStart}
 use Rattle.head.specs.declared.Head.{Head}
+use Rattle.head.specs.declared.Desk.{Desk}
+use Rattle.head.specs.declared.Desk.the-variants.{One, Two}
+use Rattle.head.specs.Desks.{deskNumber, deskIn, sizeIn, watchOf}
 use Rattle.head.specs.declared.Refusal.the-variants.{Settings, ColumnCount, WindowSize, TapeFull, AlreadyWatched, NoFreeRecord, NotWatched, ShortLoan, Torn, ShortOutput, WindowOrder}
 use Rattle.head.specs.Refusals.{number, firstOf, granted}
 use Rattle.head.specs.Replies.{Outcome}
 use Rattle.head.specs.Heads.{freshHead, settingsHold, afterQuote, withPair, tornPair, lastPosition}
 use Rattle.model.specs.Rows.{Row, Tables, rowsIn, filled, liveRows, listed, dueRows, dueCells, rowsAfter}
-use Rattle.model.specs.Changes.{join, pairJoin, changes, allChanges, pairChanges, frames}
+use Rattle.model.specs.Changes.{join, pairJoin, changes, allChanges, pairChanges, frames, changeRoom}
+use Rattle.model.specs.Shares.{aboveShares, deskFull}
 
 -- a table is shorter than these settings ask
 unfoldable pub shortTables : Tables → ℕ → ℕ → Bool
@@ -38,18 +42,23 @@ tornRows h rs =
     || not (eqb (h .live) (length (liveRows rs)))
     || any (λ r. ltb 0 (r .upperEnd) && not (ltb (r .position) (r .upperEnd) && leb (r .upperEnd) M)) rs
 
--- records that rise from lo on, none above N, and end in empties
+-- a record of desk one or two, its n from 1 to N
+unfoldable pub isWatch : ℕ → ℕ → Bool
+isWatch N w = leb (deskNumber One) (deskIn w) && leb (deskIn w) (deskNumber Two) && leb 1 (sizeIn w) && leb (sizeIn w) N
+
+-- watches that rise from lo on, and then empties: desk one's rising by n, then desk two's
 unfoldable pub ordered : ℕ → ℕ → List ℕ → Bool
 ordered lo N [] = true
-ordered lo N (w ∷ ws) = cond (eqb w 0) (not (any (ltb 0) ws)) (leb lo w && leb w N && ordered (suc w) N ws)
+ordered lo N (w ∷ ws) = cond (eqb w 0) (not (any (ltb 0) ws)) (leb lo w && isWatch N w && ordered (suc w) N ws)
 
--- the eight watch records are torn: not rising, not ending in empties, or above N (01: 12); records that no call left need not be torn
-unfoldable pub tornWatches : ℕ → List ℕ → Bool
-tornWatches N ws = not (ordered 1 N (take 8 ws))
-
--- the n that are watched, rising
+-- the watches that stand, rising
 unfoldable pub standing : List ℕ → List ℕ
 standing ws = filter (ltb 0) (take 8 ws)
+
+-- the eight watch records are torn: not desk one's watches, then desk two's, each rising by n within 1 to N, then empties, or over the
+-- shares (01 and 02: 12); records that no call left need not be torn
+unfoldable pub tornWatches : ℕ → List ℕ → Bool
+tornWatches N ws = not (ordered 1 N (take 8 ws)) || ltb 2 (aboveShares (standing ws))
 
 -- the rows that a book holds, live and retired
 unfoldable pub bookRows : Head → Tables → List Row
@@ -130,7 +139,7 @@ module _ (h : Head) (x : List ℕ) (t : Tables) (ws : List ℕ) where
   unfoldable pub quoteAnswer : ℕ → ℕ
   quoteAnswer room =
       watchfulAnswer h t ws ((not (eqb (length x) (h .dimensions)), number ColumnCount) ∷ (leb lastPosition (h .newest), number TapeFull)
-      ∷ (ltb room (length quoteBytes), number ShortOutput) ∷ [])
+      ∷ (ltb room changeRoom, number ShortOutput) ∷ [])
 
   -- what a quote hands back
   unfoldable pub quoteReply : ℕ → Outcome
@@ -161,11 +170,11 @@ module _ (h : Head) (x : List ℕ) (t : Tables) (ws : List ℕ) where
 -- how much a quote can write: for every n at most one change for each live row and one more, which is 1,025 at most, and 57,400 bytes for
 -- all watches; for the pair at most 1,024 changes; and 62,520 bytes in all
 pub record ChangesFit (h : Head) (x : List ℕ) (t : Tables) (ws : List ℕ) : Type 0 where
-  pub changes-each : (n : ℕ) → length (changes n (listOf h (bookRows h t) n) (listOf (quoteHead h x t ws) (quoteRows h x t ws) n)) ≤ h .live + 1
+  pub changes-each : (w : ℕ) → length (changes w (listOf h (bookRows h t) (sizeIn w)) (listOf (quoteHead h x t ws) (quoteRows h x t ws) (sizeIn w))) ≤ h .live + 1
   pub changes-most : h .live + 1 ≤ 1025
   pub watches-most : length (frames (allChanges (standing ws) (listOf h (bookRows h t)) (listOf (quoteHead h x t ws) (quoteRows h x t ws)))) ≤ 57400
   pub pair-most : length (pairChanges (pairListOf h (bookRows h t)) (pairListOf (quoteHead h x t ws) (quoteRows h x t ws))) ≤ 1024
-  pub bytes-most : length (quoteBytes h x t ws) ≤ 62520
+  pub bytes-most : length (quoteBytes h x t ws) ≤ changeRoom
 
 -- ---- look
 module _ (h : Head) (n : ℕ) (t : Tables) where
@@ -206,16 +215,16 @@ module _ (h : Head) (n1 n2 : ℕ) (t : Tables) where
   pastOut out = granted (pastAnswer (length out)) (laid pastCells out) out
 
 -- ---- watch and end
-module _ (h : Head) (n : ℕ) (t : Tables) (ws : List ℕ) where
+module _ (h : Head) (desk : Desk) (n : ℕ) (t : Tables) (ws : List ℕ) where
   -- a join for each position of the list of n, as frames
   unfoldable pub watchBytes : List ℕ
-  watchBytes = frames (map (join n) (listOf h (bookRows h t) n))
+  watchBytes = frames (map (join (watchOf desk n)) (listOf h (bookRows h t) n))
 
   -- the answer of a watch with this room for its joins: 3, 11, 12, then 5, 8, 9, 13
   unfoldable pub watchAnswer : ℕ → ℕ
   watchAnswer room =
-      watchfulAnswer h t ws ((outOfRange h n, number WindowSize) ∷ (contains n (standing ws), number AlreadyWatched)
-      ∷ (leb 8 (length (standing ws)), number NoFreeRecord) ∷ (ltb room (length watchBytes), number ShortOutput) ∷ [])
+      watchfulAnswer h t ws ((outOfRange h n, number WindowSize) ∷ (contains (watchOf desk n) (standing ws), number AlreadyWatched)
+      ∷ (deskFull desk (standing ws), number NoFreeRecord) ∷ (ltb room changeRoom, number ShortOutput) ∷ [])
 
   -- what a watch hands back
   unfoldable pub watchReply : ℕ → Outcome
@@ -223,7 +232,7 @@ module _ (h : Head) (n : ℕ) (t : Tables) (ws : List ℕ) where
 
   -- the watch records after a watch
   unfoldable pub watchWatches : ℕ → List ℕ
-  watchWatches room = granted (watchAnswer room) (padded 8 (insert n (standing ws)) ws) ws
+  watchWatches room = granted (watchAnswer room) (padded 8 (insert (watchOf desk n) (standing ws)) ws) ws
 
   -- the output after a watch
   unfoldable pub watchOut : List ℕ → List ℕ
@@ -231,7 +240,7 @@ module _ (h : Head) (n : ℕ) (t : Tables) (ws : List ℕ) where
 
   -- the answer of the end of a watch: 3, 11, 12, then 5, 10
   unfoldable pub endAnswer : ℕ
-  endAnswer = watchfulAnswer h t ws ((outOfRange h n, number WindowSize) ∷ (not (contains n (standing ws)), number NotWatched) ∷ [])
+  endAnswer = watchfulAnswer h t ws ((outOfRange h n, number WindowSize) ∷ (not (contains (watchOf desk n) (standing ws)), number NotWatched) ∷ [])
 
   -- what the end of a watch hands back
   unfoldable pub endReply : Outcome
@@ -239,7 +248,7 @@ module _ (h : Head) (n : ℕ) (t : Tables) (ws : List ℕ) where
 
   -- the watch records after the end of a watch
   unfoldable pub endWatches : List ℕ
-  endWatches = granted endAnswer (padded 8 (without n (standing ws)) ws) ws
+  endWatches = granted endAnswer (padded 8 (without (watchOf desk n) (standing ws)) ws) ws
 
 -- ---- pair, its end, and what is due
 module _ (h : Head) (n1 n2 : ℕ) (t : Tables) (ws : List ℕ) where
@@ -251,7 +260,7 @@ module _ (h : Head) (n1 n2 : ℕ) (t : Tables) (ws : List ℕ) where
   unfoldable pub pairAnswer : ℕ → ℕ
   pairAnswer room =
       watchfulAnswer h t ws ((ltb n1 2 || ltb (h .capacity) n2, number WindowSize) ∷ (ltb n2 n1, number WindowOrder)
-      ∷ (pairStands h, number NoFreeRecord) ∷ (ltb room (length pairBytes), number ShortOutput) ∷ [])
+      ∷ (pairStands h, number NoFreeRecord) ∷ (ltb room changeRoom, number ShortOutput) ∷ [])
 
   -- what a watch of the pair hands back
   unfoldable pub pairReply : ℕ → Outcome

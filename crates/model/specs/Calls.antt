@@ -59,17 +59,17 @@ bookSeen (Look n) o w =
     let t = w .lent .tables in
     let outputs : Outputs = record { bytes = o .bytes; cells = Book.lookOut (w .head) n t (o .cells) } in
     record { outcome = Book.lookReply (w .head) n t (length (o .cells)); counts = []; outputs = outputs; lent = w .lent }
-bookSeen (Watch n) o w =
+bookSeen (Watch desk n) o w =
     let t = w .lent .tables in
     let ws = w .lent .watches in
-    let outputs : Outputs = record { bytes = Book.watchOut (w .head) n t ws (o .bytes); cells = o .cells } in
-    let lent : Lent = record { tables = t; watches = Book.watchWatches (w .head) n t ws (length (o .bytes)) } in
-    record { outcome = Book.watchReply (w .head) n t ws (length (o .bytes)); counts = []; outputs = outputs; lent = lent }
-bookSeen (End n) o w =
+    let outputs : Outputs = record { bytes = Book.watchOut (w .head) desk n t ws (o .bytes); cells = o .cells } in
+    let lent : Lent = record { tables = t; watches = Book.watchWatches (w .head) desk n t ws (length (o .bytes)) } in
+    record { outcome = Book.watchReply (w .head) desk n t ws (length (o .bytes)); counts = []; outputs = outputs; lent = lent }
+bookSeen (End desk n) o w =
     let t = w .lent .tables in
     let ws = w .lent .watches in
-    let lent : Lent = record { tables = t; watches = Book.endWatches (w .head) n t ws } in
-    record { outcome = Book.endReply (w .head) n t ws; counts = []; outputs = o; lent = lent }
+    let lent : Lent = record { tables = t; watches = Book.endWatches (w .head) desk n t ws } in
+    record { outcome = Book.endReply (w .head) desk n t ws; counts = []; outputs = o; lent = lent }
 bookSeen (Past n1 n2) o w =
     let t = w .lent .tables in
     let outputs : Outputs = record { bytes = o .bytes; cells = Book.pastOut (w .head) n1 n2 t (o .cells) } in
@@ -96,8 +96,8 @@ unfoldable pub headAfter : Call → Outcome → Head → Head
 headAfter (Open d N directions) outcome h = granted (outcome .number) (outcome .head) h
 headAfter (Quote x) outcome h = outcome .head
 headAfter (Look n) outcome h = outcome .head
-headAfter (Watch n) outcome h = outcome .head
-headAfter (End n) outcome h = outcome .head
+headAfter (Watch desk n) outcome h = outcome .head
+headAfter (End desk n) outcome h = outcome .head
 headAfter (Past n1 n2) outcome h = outcome .head
 headAfter (Pair n1 n2) outcome h = outcome .head
 headAfter Unpair outcome h = outcome .head
@@ -125,7 +125,7 @@ lengthsOf l o = record {
 }
 
 -- what is lent, filled from the reference model: from the first accepted opening on the N places of each table from its rows and
--- the eight records from its watched n; all else as it was
+-- the eight records from its watches; all else as it was
 unfoldable pub shown : Reference → Lent → Lent
 shown s l =
     cond (opened s)

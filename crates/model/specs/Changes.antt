@@ -1,20 +1,31 @@
 -- Changes of a watched skyline, as messages and as bytes.
-use Prim.Native.Nat.{ℕ}
-use mathlib.Core.Bool.{not}
+use Prim.Native.Nat.{ℕ, _+_, _*_}
+use mathlib.Core.Bool.{not, cond}
 use mathlib.Core.List.{List, [], _++_, map}
+use lib.Dec.{eqb}
 use Rattle.lists.specs.Lists.{filter, flat, contains}
+use Rattle.head.specs.declared.Desk.the-variants.{Two}
+use Rattle.head.specs.Desks.{deskNumber, deskIn, sizeIn}
 use Rattle.frames.specs.declared.Message.{Message}
 use Rattle.frames.specs.declared.Message.the-variants.{Change, Position}
-use Rattle.frames.specs.Kinds.{leaveKind, joinKind, pairLeaveKind, pairJoinKind}
+use Rattle.frames.specs.Kinds.{leaveKind, joinKind, leaveTwoKind, joinTwoKind, pairLeaveKind, pairJoinKind}
 use Rattle.frames.specs.Frames.{frame}
 
--- a position leaves the list of n
-abbrev pub leave : ℕ → ℕ → Message
-leave = Change leaveKind
+-- the kind of a desk's leaves
+unfoldable pub leaveKindOf : ℕ → ℕ
+leaveKindOf desk = cond (eqb desk (deskNumber Two)) leaveTwoKind leaveKind
 
--- a position joins the list of n
+-- the kind of a desk's joins
+unfoldable pub joinKindOf : ℕ → ℕ
+joinKindOf desk = cond (eqb desk (deskNumber Two)) joinTwoKind joinKind
+
+-- a position leaves the list of the watch w
+abbrev pub leave : ℕ → ℕ → Message
+leave w = Change (leaveKindOf (deskIn w)) (sizeIn w)
+
+-- a position joins the list of the watch w
 abbrev pub join : ℕ → ℕ → Message
-join = Change joinKind
+join w = Change (joinKindOf (deskIn w)) (sizeIn w)
 
 -- a position leaves the past list of the pair
 abbrev pub pairLeave : ℕ → Message
@@ -33,13 +44,13 @@ missing these those = filter (λ p. not (contains p those)) these
 unfoldable pub changesBy : (ℕ → Message) → (ℕ → Message) → List ℕ → List ℕ → List Message
 changesBy leaves joins before after = map leaves (missing before after) ++ map joins (missing after before)
 
--- the changes of the watch of n
+-- the changes of the watch w
 unfoldable pub changes : ℕ → List ℕ → List ℕ → List Message
-changes n before after = changesBy (leave n) (join n) before after
+changes w before after = changesBy (leave w) (join w) before after
 
--- the changes of every watch, n rising as the watches do
+-- the changes of every watch, desk one's by n rising, then desk two's, as the watches rise
 unfoldable pub allChanges : List ℕ → (ℕ → List ℕ) → (ℕ → List ℕ) → List Message
-allChanges watched before after = flat (map (λ n. changes n (before n) (after n)) watched)
+allChanges watched before after = flat (map (λ w. changes w (before (sizeIn w)) (after (sizeIn w))) watched)
 
 -- the changes of the pair
 unfoldable pub pairChanges : List ℕ → List ℕ → List Message
@@ -48,3 +59,8 @@ pairChanges before after = changesBy pairLeave pairJoin before after
 -- the frames of messages without columns, each behind the one before
 unfoldable pub frames : List Message → List ℕ
 frames ms = flat (map (λ m. frame m []) ms)
+
+-- how many bytes of output every call that writes changes asks for (02: 62,520): for each of eight watches 1,025 frames of 7, and for the
+-- pair 1,024 of 5
+abbrev pub changeRoom : ℕ
+changeRoom = 8 * 1025 * 7 + 1024 * 5

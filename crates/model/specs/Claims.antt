@@ -7,6 +7,7 @@ use mathlib.Core.List.{List, [], _∷_, map, List·Memᴰ}
 use lib.Dec.{eqb}
 use lib.ListN.{length, getD, take, drop}
 use Rattle.head.specs.declared.Head.{Head}
+use Rattle.head.specs.declared.Desk.{Desk}
 use Rattle.head.specs.declared.Reply.{Reply}
 use Rattle.head.specs.declared.Effect.{Effect}
 use Rattle.head.specs.Heads.{freshHead, lastPosition}
@@ -35,10 +36,10 @@ pub data Made : Call → Outputs → World → Seen → Type 0 where
       → Quoted h x t ws (o .bytes) r t' bytes → Made (Quote x) o (world h t ws) (seen r (record { bytes = bytes; cells = o .cells }) t' ws)
   looked : {n : ℕ} {o : Outputs} {h : Head} {t : Tables} {ws : List ℕ} {r : Reply} {cells : List ℕ}
       → Looked h n t (o .cells) r cells → Made (Look n) o (world h t ws) (seen r (record { bytes = o .bytes; cells = cells }) t ws)
-  watched : {n : ℕ} {o : Outputs} {h : Head} {t : Tables} {ws : List ℕ} {r : Reply} {ws' bytes : List ℕ}
-      → Watched h n t ws (o .bytes) r ws' bytes → Made (Watch n) o (world h t ws) (seen r (record { bytes = bytes; cells = o .cells }) t ws')
-  ended : {n : ℕ} {o : Outputs} {h : Head} {t : Tables} {ws : List ℕ} {r : Reply} {ws' : List ℕ}
-      → Ended h n t ws r ws' → Made (End n) o (world h t ws) (seen r o t ws')
+  watched : {desk : Desk} {n : ℕ} {o : Outputs} {h : Head} {t : Tables} {ws : List ℕ} {r : Reply} {ws' bytes : List ℕ}
+      → Watched h desk n t ws (o .bytes) r ws' bytes → Made (Watch desk n) o (world h t ws) (seen r (record { bytes = bytes; cells = o .cells }) t ws')
+  ended : {desk : Desk} {n : ℕ} {o : Outputs} {h : Head} {t : Tables} {ws : List ℕ} {r : Reply} {ws' : List ℕ}
+      → Ended h desk n t ws r ws' → Made (End desk n) o (world h t ws) (seen r o t ws')
   pastLooked : {n1 n2 : ℕ} {o : Outputs} {h : Head} {t : Tables} {ws : List ℕ} {r : Reply} {cells : List ℕ}
       → PastLooked h n1 n2 t (o .cells) r cells → Made (Past n1 n2) o (world h t ws) (seen r (record { bytes = o .bytes; cells = cells }) t ws)
   paired : {n1 n2 : ℕ} {o : Outputs} {h : Head} {t : Tables} {ws : List ℕ} {r : Reply} {bytes : List ℕ}
@@ -67,8 +68,8 @@ unfoldable pub isQuote : Call → Bool
 isQuote (Open d N directions) = false
 isQuote (Quote x) = true
 isQuote (Look n) = false
-isQuote (Watch n) = false
-isQuote (End n) = false
+isQuote (Watch desk n) = false
+isQuote (End desk n) = false
 isQuote (Past n1 n2) = false
 isQuote (Pair n1 n2) = false
 isQuote Unpair = false
@@ -80,8 +81,8 @@ unfoldable pub isOpening : Call → Bool
 isOpening (Open d N directions) = true
 isOpening (Quote x) = false
 isOpening (Look n) = false
-isOpening (Watch n) = false
-isOpening (End n) = false
+isOpening (Watch desk n) = false
+isOpening (End desk n) = false
 isOpening (Past n1 n2) = false
 isOpening (Pair n1 n2) = false
 isOpening Unpair = false
@@ -117,7 +118,7 @@ pub record Refines (cs : List Lending) (l : Lent) (ss : List Seen) (end : World)
   pub head-last : end .head ≡ lastHead cs ss (freshHead 0 0 0)
   -- everything lent is at the end as the reference model shows
   pub lent-alike : end .lent ≡ expectedAtEnd cs l .lent
-  -- from the first accepted opening on the N places of each table are filled from its rows, and the eight records from its watched n
+  -- from the first accepted opening on the N places of each table are filled from its rows, and the eight records from its watches
   pub lent-filled : shown (referenceAtEnd cs l) (end .lent) ≡ end .lent
   -- a position has a live row at the end exactly if some n from 1 to N lists it
   pub live-iff-listed : (p : ℕ)
@@ -131,8 +132,9 @@ pub record Refines (cs : List Lending) (l : Lent) (ss : List Seen) (end : World)
   -- a position has a row at the end, live or retired, exactly if some n1 and n2 with 1 ≤ n1 ≤ n2 ≤ N have it on their past list
   pub held-iff-past : (p : ℕ)
       → List·Memᴰ p (positionsIn end) ↔ ((n1 : ℕ) × (n2 : ℕ) × (1 ≤ n1) × (n1 ≤ n2) × (n2 ≤ referenceAtEnd cs l .capacity) × List·Memᴰ p (pastOf (referenceAtEnd cs l) n1 n2))
-  -- after each call a watcher of n who applied the changes holds the list of n, and nothing while n is not watched
-  pub watcher-holds-list : (n k : ℕ) → watcher (OfSize n) (take k cs) (take k ss) Nothing ≡ heldBy (OfSize n) (referenceAtEnd (take k cs) l)
+  -- after each call a desk's watcher of n who applied the changes holds the list of n, and nothing while the desk does not watch n
+  pub watcher-holds-list : (desk : Desk) (n k : ℕ)
+      → watcher (OfSize desk n) (take k cs) (take k ss) Nothing ≡ heldBy (OfSize desk n) (referenceAtEnd (take k cs) l)
   -- and a watcher of the pair its past list, and nothing while no pair is watched
   pub pair-holds-past : (k : ℕ) → watcher OfPair (take k cs) (take k ss) Nothing ≡ heldBy OfPair (referenceAtEnd (take k cs) l)
   -- a row that is due after i calls is on the past list of the pair watched then after exactly its number of further accepted quotes

@@ -1,16 +1,20 @@
--- 01's marked cases M1 to M10 and its worked tape as 02 has them, books with equal rows, a tape with past lists and two with a watched
--- pair: one table of questions with their answers, and the answers that the definitions give.
-use Prim.Native.Nat.{ℕ, _+_}
-use mathlib.Core.Bool.{Bool, true, false, _&&_}
+-- 01's marked cases M1 to M10 and its worked tape as 02 has them, books with equal rows, a tape with past lists, two with a watched pair
+-- and two with two desks, and torn records: one table of questions with their answers, and the answers that the definitions give.
+use Prim.Native.Nat.{ℕ, _+_, _-_}
+use mathlib.Core.Bool.{Bool, true, false, _&&_, cond}
 use mathlib.Core.List.{List, [], _∷_, _++_, map}
 use lib.Dec.{eqb}
 use lib.ListN.{length, take, replicate}
 use Rattle.lists.specs.Lists.{run}
 use Rattle.head.specs.declared.Head.{Head}
+use Rattle.head.specs.declared.Desk.the-variants.{One, Two}
 use Rattle.head.specs.Replies.{Finding, yes, no, refused}
+use Rattle.head.specs.Desks.{recordOf}
 use Rattle.model.specs.Rows.{Row, Tables, liveRows}
-use Rattle.model.specs.Reference.{Reference, opening, skylineOf, rowOf, rowsOf}
-use Rattle.model.specs.Calls.{Call, Open, Quote, Look, Watch, End, Past, Pair, Unpair, Due, Preview, Outputs, Lending, Lent, Seen, bookStep, expectedStep, runs, worldFirst, expectedFirst}
+use Rattle.model.specs.Changes.{changeRoom}
+use Rattle.model.specs.Reference.{Reference, Lengths, Told, unopened, opening, skylineOf, rowOf, rowsOf, referenceStep}
+use Rattle.model.specs.Book.{tornWatches}
+use Rattle.model.specs.Calls.{Call, Open, Quote, Look, Watch, End, Past, Pair, Unpair, Due, Preview, Outputs, Lending, Lent, Seen, bookStep, runs, worldFirst}
 use Rattle.model.specs.Audit.{auditFinding, plays}
 
 -- the two models that calls are run by
@@ -31,9 +35,11 @@ pub data Question : Type 0 where
   -- the number of live rows after each quote of the tape, in a book of N
   RowCounts : ℕ → Question
   -- of each of these calls the refusal (0 for none), the newest position, the number of live rows, and what is written
-  Lines : Model → List Call → Question
+  Lines : List Call → Question
   -- what the audit says of a book: 1 for yes, 0 for no
   Audit : Head → Tables → Question
+  -- whether eight records are torn in a book of N, these the first, each a desk and an n, and empties behind them: 1 for torn, 0 for not
+  Torn : ℕ → List (ℕ × ℕ) → Question
 
 -- a line of the table
 pub record Case : Type 0 where
@@ -50,12 +56,12 @@ quotes = (5 ∷ 5 ∷ []) ∷ (3 ∷ 8 ∷ []) ∷ (4 ∷ 4 ∷ []) ∷ (7 ∷ 2
 abbrev after : ℕ → ℕ → Reference
 after N k = plays (take k quotes) (opening 2 N 0)
 
--- outputs with room for every answer below
-abbrev roomy : Outputs
-roomy = record { bytes = replicate 40 7; cells = replicate 40 7 }
+-- outputs with room for every answer below: as many bytes as a call that writes changes asks for
+unfoldable pub roomy : Outputs
+roomy = record { bytes = replicate changeRoom 7; cells = replicate 40 7 }
 
 -- these calls, each with such outputs
-abbrev lending : List Call → List Lending
+abbrev pub lending : List Call → List Lending
 lending cs = map (λ c. record { call = c; outputs = roomy }) cs
 
 -- a quote of two columns
@@ -65,19 +71,23 @@ quote a b = Quote (a ∷ b ∷ [])
 -- the calls of 01's tape
 abbrev tape : List Call
 tape =
-    Open 2 5 0 ∷ quote 5 5 ∷ quote 3 8 ∷ quote 4 4 ∷ quote 7 2 ∷ quote 4 4 ∷ Watch 2 ∷ quote 6 6 ∷ Look 5 ∷ quote 2 9 ∷ quote 4 3
+    Open 2 5 0 ∷ quote 5 5 ∷ quote 3 8 ∷ quote 4 4 ∷ quote 7 2 ∷ quote 4 4 ∷ Watch One 2 ∷ quote 6 6 ∷ Look 5 ∷ quote 2 9 ∷ quote 4 3
     ∷ Look 3 ∷ []
 
--- tables and watch records of any content, longer than a book of 2 columns and 6 places asks
-abbrev lent : Lent
+-- tables and watch records of any content, longer than the books below ask
+abbrev pub lent : Lent
 lent = record {
-  tables = record { columns = replicate 14 9; positions = replicate 7 9; lowerEnds = replicate 7 9; upperEnds = replicate 7 9 };
+  tables = record { columns = replicate 14 9; positions = replicate 9 9; lowerEnds = replicate 9 9; upperEnds = replicate 9 9 };
   watches = replicate 9 5;
 }
 
+-- their lengths and those of the outputs
+abbrev pub lengths : Lengths
+lengths = record { columns = 14; positions = 9; lowerEnds = 9; upperEnds = 9; watches = 9; bytes = changeRoom; cells = 40 }
+
 -- each call that takes an n, at N and at N + 1, on an empty book
 abbrev edges : List Call
-edges = Open 2 5 0 ∷ Look 5 ∷ Look 6 ∷ Watch 5 ∷ Watch 6 ∷ End 5 ∷ End 6 ∷ []
+edges = Open 2 5 0 ∷ Look 5 ∷ Look 6 ∷ Watch One 5 ∷ Watch One 6 ∷ End One 5 ∷ End One 6 ∷ []
 
 -- N is taken, N + 1 is refused with 5, and nothing is written
 abbrev edge-lines : List (List ℕ)
@@ -190,7 +200,7 @@ pairPrint =
 
 -- the calls of a tape with a watch beside the pair
 abbrev bothTape : List Call
-bothTape = Open 2 6 0 ∷ Pair 2 3 ∷ Watch 1 ∷ quote 5 5 ∷ quote 4 6 ∷ quote 1 1 ∷ quote 2 2 ∷ []
+bothTape = Open 2 6 0 ∷ Pair 2 3 ∷ Watch One 1 ∷ quote 5 5 ∷ quote 4 6 ∷ quote 1 1 ∷ quote 2 2 ∷ []
 
 -- its print: the pair's changes stand behind those of the watch
 abbrev bothPrint : List (List ℕ)
@@ -202,6 +212,47 @@ bothPrint =
     ∷ (0 ∷ 2 ∷ 2 ∷ leave 1 1 ++ join 1 2 ++ pairJoin 1)
     ∷ (0 ∷ 3 ∷ 1 ∷ leave 1 2 ++ join 1 3 ++ pairJoin 2)
     ∷ (0 ∷ 4 ∷ 2 ∷ leave 1 3 ++ join 1 4 ++ pairLeave 1 ++ pairLeave 2 ++ pairJoin 3)
+    ∷ []
+
+-- 02's example of two desks that share the records: 9 for desk one with 5 watches, for desk two with 3 beside them, then once the two
+-- left over are both taken
+abbrev sharesTape : List Call
+sharesTape =
+    Open 1 8 0 ∷ Watch One 1 ∷ Watch One 2 ∷ Watch One 3 ∷ Watch One 4 ∷ Watch One 5 ∷ Watch One 6 ∷ Watch Two 1 ∷ Watch Two 2 ∷ Watch Two 3 ∷ Watch Two 4
+    ∷ End One 5 ∷ Watch Two 4 ∷ Watch One 5 ∷ Watch Two 5 ∷ End Two 1 ∷ Watch One 5 ∷ Watch Two 1 ∷ []
+
+-- its refusals
+abbrev sharesPrint : List (List ℕ)
+sharesPrint = map (λ k. k ∷ 0 ∷ 0 ∷ []) (0 ∷ 0 ∷ 0 ∷ 0 ∷ 0 ∷ 0 ∷ 9 ∷ 0 ∷ 0 ∷ 0 ∷ 9 ∷ 0 ∷ 0 ∷ 9 ∷ 9 ∷ 0 ∷ 0 ∷ 9 ∷ [])
+
+-- the frames of desk two's changes
+abbrev leaveTwo : ℕ → ℕ → List ℕ
+leaveTwo n p = 34 ∷ n ∷ 0 ∷ p ∷ 0 ∷ 0 ∷ 0 ∷ []
+
+abbrev joinTwo : ℕ → ℕ → List ℕ
+joinTwo n p = 35 ∷ n ∷ 0 ∷ p ∷ 0 ∷ 0 ∷ 0 ∷ []
+
+-- the calls of a tape with watches of both desks, set in no order, and the pair; behind them a watch that stands at the other desk, its
+-- end, and one that stands already
+abbrev desksTape : List Call
+desksTape =
+    Open 2 6 0 ∷ Watch Two 2 ∷ Watch Two 1 ∷ Watch One 1 ∷ Pair 2 3 ∷ quote 5 5 ∷ quote 4 6 ∷ End One 1 ∷ quote 1 1 ∷ End One 1 ∷ Watch One 2 ∷ Watch Two 2 ∷ []
+
+-- its print: desk one's changes, desk two's by n rising, then the pair's
+abbrev desksPrint : List (List ℕ)
+desksPrint =
+    (0 ∷ 0 ∷ 0 ∷ [])
+    ∷ (0 ∷ 0 ∷ 0 ∷ [])
+    ∷ (0 ∷ 0 ∷ 0 ∷ [])
+    ∷ (0 ∷ 0 ∷ 0 ∷ [])
+    ∷ (0 ∷ 0 ∷ 0 ∷ [])
+    ∷ (0 ∷ 1 ∷ 1 ∷ join 1 1 ++ joinTwo 1 1 ++ joinTwo 2 1)
+    ∷ (0 ∷ 2 ∷ 2 ∷ leave 1 1 ++ join 1 2 ++ leaveTwo 1 1 ++ joinTwo 1 2 ++ joinTwo 2 2 ++ pairJoin 1)
+    ∷ (0 ∷ 2 ∷ 2 ∷ [])
+    ∷ (0 ∷ 3 ∷ 1 ∷ leaveTwo 1 2 ++ joinTwo 1 3 ++ leaveTwo 2 1 ++ leaveTwo 2 2 ++ joinTwo 2 3 ++ pairJoin 2)
+    ∷ (10 ∷ 3 ∷ 1 ∷ [])
+    ∷ (0 ∷ 3 ∷ 1 ∷ join 2 3)
+    ∷ (8 ∷ 3 ∷ 1 ∷ [])
     ∷ []
 
 -- ---- the audit's books
@@ -230,6 +281,23 @@ renewedBook = record { dimensions = 1; capacity = 2; directions = 0; newest = 2;
 abbrev equals : ℕ → ℕ → Tables
 equals upper lower = record { columns = 3 ∷ 3 ∷ []; positions = 1 ∷ 2 ∷ []; lowerEnds = 0 ∷ lower ∷ []; upperEnds = upper ∷ 0 ∷ [] }
 
+-- ---- watch records
+
+-- a record of each n from 1 up to these, of desk one and of desk two
+abbrev desksWatch : ℕ → ℕ → List (ℕ × ℕ)
+desksWatch one two = map (λ n. (1, n)) (run 1 one) ++ map (λ n. (2, n)) (run 1 two)
+
+-- torn, and not
+abbrev torn : List (List ℕ)
+torn = (1 ∷ []) ∷ []
+
+abbrev whole : List (List ℕ)
+whole = (0 ∷ []) ∷ []
+
+-- the numbers of these records, and empties behind them up to eight
+abbrev eight : List (ℕ × ℕ) → List ℕ
+eight rs = map (λ r. recordOf (r .0) (r .1)) rs ++ replicate (8 - length rs) 0
+
 -- ---- the table
 
 -- each marked case with its answer
@@ -248,8 +316,7 @@ table =
     -- M6
     ∷ record { question = Lists 0 (1 ∷ 2 ∷ 3 ∷ 4 ∷ 5 ∷ []); answer = replicate 5 [] }
     -- M7, and M6 again
-    ∷ record { question = Lines ByReference edges; answer = edge-lines }
-    ∷ record { question = Lines ByBook edges; answer = edge-lines }
+    ∷ record { question = Lines edges; answer = edge-lines }
     -- M8
     ∷ record { question = Audit (book 1) (sole 4294967295); answer = (0 ∷ []) ∷ [] }
     -- M9
@@ -267,17 +334,33 @@ table =
     ∷ record { question = Audit renewedBook (equals 2 1); answer = (0 ∷ []) ∷ [] }
     ∷ record { question = Ends 7; answer = (0 ∷ 0 ∷ 0 ∷ 5 ∷ 0 ∷ []) ∷ (5 ∷ 0 ∷ 0 ∷ 0 ∷ 0 ∷ []) ∷ [] }
     -- the worked tape
-    ∷ record { question = Lines ByReference tape; answer = print }
-    ∷ record { question = Lines ByBook tape; answer = print }
+    ∷ record { question = Lines tape; answer = print }
     -- the tape with past lists
-    ∷ record { question = Lines ByReference pastTape; answer = pastPrint }
-    ∷ record { question = Lines ByBook pastTape; answer = pastPrint }
+    ∷ record { question = Lines pastTape; answer = pastPrint }
     ∷ record { question = Ends 8; answer = (0 ∷ 0 ∷ 5 ∷ 0 ∷ 0 ∷ []) ∷ (0 ∷ 8 ∷ 8 ∷ 0 ∷ 0 ∷ []) ∷ [] }
     -- the tapes with a watched pair
-    ∷ record { question = Lines ByReference pairTape; answer = pairPrint }
-    ∷ record { question = Lines ByBook pairTape; answer = pairPrint }
-    ∷ record { question = Lines ByReference bothTape; answer = bothPrint }
-    ∷ record { question = Lines ByBook bothTape; answer = bothPrint }
+    ∷ record { question = Lines pairTape; answer = pairPrint }
+    ∷ record { question = Lines bothTape; answer = bothPrint }
+    -- the tapes with two desks
+    ∷ record { question = Lines sharesTape; answer = sharesPrint }
+    ∷ record { question = Lines desksTape; answer = desksPrint }
+    -- desk one's by n rising, then desk two's, then empties; 5 and 3, 4 and 4
+    ∷ record { question = Torn 8 []; answer = whole }
+    ∷ record { question = Torn 8 ((1, 2) ∷ (1, 8) ∷ (2, 2) ∷ []); answer = whole }
+    ∷ record { question = Torn 8 (desksWatch 5 3); answer = whole }
+    ∷ record { question = Torn 8 (desksWatch 4 4); answer = whole }
+    -- an n of 0 or above N, desk 0 or 3, desk two before desk one, n that does not rise, an empty in the middle
+    ∷ record { question = Torn 8 ((1, 0) ∷ []); answer = torn }
+    ∷ record { question = Torn 8 ((1, 9) ∷ []); answer = torn }
+    ∷ record { question = Torn 8 ((0, 5) ∷ []); answer = torn }
+    ∷ record { question = Torn 8 ((3, 5) ∷ []); answer = torn }
+    ∷ record { question = Torn 8 ((2, 5) ∷ (1, 6) ∷ []); answer = torn }
+    ∷ record { question = Torn 8 ((2, 5) ∷ (2, 5) ∷ []); answer = torn }
+    ∷ record { question = Torn 8 ((1, 5) ∷ (0, 0) ∷ (2, 5) ∷ []); answer = torn }
+    -- over the shares: 6 and none, 6 and 2, none and 6
+    ∷ record { question = Torn 8 (desksWatch 6 0); answer = torn }
+    ∷ record { question = Torn 8 (desksWatch 6 2); answer = torn }
+    ∷ record { question = Torn 8 (desksWatch 0 6); answer = torn }
     ∷ []
 
 -- ---- the definitions' answers
@@ -288,61 +371,73 @@ findingNumbers yes = 1 ∷ []
 findingNumbers no = 0 ∷ []
 findingNumbers (refused k) = 2 ∷ k ∷ []
 
--- what is seen of calls
-abbrev seen : Model → List Call → List Seen
-seen ByReference cs = runs expectedStep (lending cs) (expectedFirst lent) .0
-seen ByBook cs = runs bookStep (lending cs) (worldFirst lent) .0
+-- what the reference model tells of calls; it is lent nothing but lengths
+abbrev pub toldOf : List Call → Reference → List Told
+toldOf [] s = []
+toldOf (c ∷ cs) s =
+    let one = referenceStep c lengths s in
+    one ∷ toldOf cs (one .next)
+
+-- the refusal of a call, the newest position, the number of live rows, and what is written, as it is told
+abbrev pub toldLine : Told → List ℕ
+toldLine t = t .number ∷ t .head .newest ∷ t .head .live ∷ (t .bytes ++ t .cells)
 
 -- what was written, by the call and its count: frames, positions, or for each row that is due two cells
-abbrev written : Call → ℕ → Outputs → List ℕ
+abbrev pub written : Call → ℕ → Outputs → List ℕ
 written (Open d N directions) count o = []
 written (Quote x) count o = take count (o .bytes)
 written (Look n) count o = take count (o .cells)
-written (Watch n) count o = take count (o .bytes)
-written (End n) count o = []
+written (Watch desk n) count o = take count (o .bytes)
+written (End desk n) count o = []
 written (Past n1 n2) count o = take count (o .cells)
 written (Pair n1 n2) count o = take count (o .bytes)
 written Unpair count o = []
 written Due count o = take (count + count) (o .cells)
 written (Preview x) count o = take count (o .bytes)
 
--- the refusal of a call, the newest position, the number of live rows, and what is written
-abbrev line : Call → Seen → List ℕ
+-- the refusal of a call, the newest position, the number of live rows, and what is written, as it is seen
+abbrev pub line : Call → Seen → List ℕ
 line c s = s .outcome .number ∷ s .outcome .head .newest ∷ s .outcome .head .live ∷ written c (s .outcome .count) (s .outputs)
 
 -- a line for each call
-abbrev lines : List Call → List Seen → List (List ℕ)
+abbrev pub lines : List Call → List Seen → List (List ℕ)
 lines [] ss = []
 lines (c ∷ cs) [] = []
 lines (c ∷ cs) (s ∷ ss) = line c s ∷ lines cs ss
 
+-- the lines of calls by a model
+abbrev pub linesBy : Model → List Call → List (List ℕ)
+linesBy ByReference cs = map toldLine (toldOf cs unopened)
+linesBy ByBook cs = lines cs (runs bookStep (lending cs) (worldFirst lent) .0)
+
 -- the answer that the definitions give
-abbrev pub answerTo : Question → List (List ℕ)
-answerTo (Lists k ns) = map (skylineOf (after 5 k)) ns
-answerTo (Rows k) = map Row.position (liveRows (rowsOf (after 5 k))) ∷ []
-answerTo (LowerEnd k p) = (rowOf (after 5 k) p .lowerEnd ∷ []) ∷ []
-answerTo (Ends k) = map Row.lowerEnd (rowsOf (after 5 k)) ∷ map Row.upperEnd (rowsOf (after 5 k)) ∷ []
-answerTo (RowCounts N) = map (λ k. length (liveRows (rowsOf (after N k))) ∷ []) (run 1 8)
-answerTo (Lines m cs) = lines cs (seen m cs)
-answerTo (Audit h t) = findingNumbers (auditFinding h t) ∷ []
+abbrev pub answerTo : Model → Question → List (List ℕ)
+answerTo m (Lists k ns) = map (skylineOf (after 5 k)) ns
+answerTo m (Rows k) = map Row.position (liveRows (rowsOf (after 5 k))) ∷ []
+answerTo m (LowerEnd k p) = (rowOf (after 5 k) p .lowerEnd ∷ []) ∷ []
+answerTo m (Ends k) = map Row.lowerEnd (rowsOf (after 5 k)) ∷ map Row.upperEnd (rowsOf (after 5 k)) ∷ []
+answerTo m (RowCounts N) = map (λ k. length (liveRows (rowsOf (after N k))) ∷ []) (run 1 8)
+answerTo m (Lines cs) = linesBy m cs
+answerTo m (Audit h t) = findingNumbers (auditFinding h t) ∷ []
+answerTo m (Torn N rs) = (cond (tornWatches N (eight rs)) 1 0 ∷ []) ∷ []
 
 -- ---- the comparison
 
 -- two lists are the same
-abbrev same : List ℕ → List ℕ → Bool
+abbrev pub same : List ℕ → List ℕ → Bool
 same [] [] = true
 same [] (y ∷ ys) = false
 same (x ∷ xs) [] = false
 same (x ∷ xs) (y ∷ ys) = eqb x y && same xs ys
 
 -- two lists of lists are the same
-abbrev sameAll : List (List ℕ) → List (List ℕ) → Bool
+abbrev pub sameAll : List (List ℕ) → List (List ℕ) → Bool
 sameAll [] [] = true
 sameAll [] (y ∷ ys) = false
 sameAll (x ∷ xs) [] = false
 sameAll (x ∷ xs) (y ∷ ys) = same x y && sameAll xs ys
 
--- every answer of a table is that of the definitions
-abbrev pub allHold : List Case → Bool
-allHold [] = true
-allHold (c ∷ cs) = sameAll (answerTo (c .question)) (c .answer) && allHold cs
+-- every answer of a table is that of the definitions, calls run by this model
+abbrev pub allHold : Model → List Case → Bool
+allHold m [] = true
+allHold m (c ∷ cs) = sameAll (answerTo m (c .question)) (c .answer) && allHold m cs

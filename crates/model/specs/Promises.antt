@@ -4,6 +4,7 @@ use Prim.Native.Nat.{ℕ}
 use mathlib.Core.List.{List, [], _∷_}
 use lib.ListN.{length}
 use Rattle.head.specs.declared.Head.{Head}
+use Rattle.head.specs.declared.Desk.{Desk}
 use Rattle.head.specs.declared.Reply.{Reply}
 use Rattle.head.specs.declared.Effect.{Effect}
 use Rattle.head.specs.Replies.{outcome}
@@ -42,16 +43,16 @@ pub record PastLooked (h : Head) (n1 n2 : ℕ) (t : Tables) (before : List ℕ) 
   pub reply : outcome r ≡ Book.pastReply h n1 n2 t (length before)
   pub out : after ≡ Book.pastOut h n1 n2 t before
 
--- what a watch of n leaves of watches ws and output
-pub record Watched (h : Head) (n : ℕ) (t : Tables) (ws before : List ℕ) (r : Reply) (ws' after : List ℕ) : Type 0 where
-  pub reply : outcome r ≡ Book.watchReply h n t ws (length before)
-  pub watches : ws' ≡ Book.watchWatches h n t ws (length before)
-  pub out : after ≡ Book.watchOut h n t ws before
+-- what a desk's watch of n leaves of watches ws and output
+pub record Watched (h : Head) (desk : Desk) (n : ℕ) (t : Tables) (ws before : List ℕ) (r : Reply) (ws' after : List ℕ) : Type 0 where
+  pub reply : outcome r ≡ Book.watchReply h desk n t ws (length before)
+  pub watches : ws' ≡ Book.watchWatches h desk n t ws (length before)
+  pub out : after ≡ Book.watchOut h desk n t ws before
 
--- what the end of the watch of n leaves of watches ws
-pub record Ended (h : Head) (n : ℕ) (t : Tables) (ws : List ℕ) (r : Reply) (ws' : List ℕ) : Type 0 where
-  pub reply : outcome r ≡ Book.endReply h n t ws
-  pub watches : ws' ≡ Book.endWatches h n t ws
+-- what the end of a desk's watch of n leaves of watches ws
+pub record Ended (h : Head) (desk : Desk) (n : ℕ) (t : Tables) (ws : List ℕ) (r : Reply) (ws' : List ℕ) : Type 0 where
+  pub reply : outcome r ≡ Book.endReply h desk n t ws
+  pub watches : ws' ≡ Book.endWatches h desk n t ws
 
 -- what a watch of the pair n1 and n2 leaves of the output; tables and watches stay
 pub record Paired (h : Head) (n1 n2 : ℕ) (t : Tables) (ws before : List ℕ) (r : Reply) (after : List ℕ) : Type 0 where

@@ -9,14 +9,17 @@ use Rattle.dominance.specs.Renewal.{quoteAt, renewed}
 use Rattle.skyline.specs.Skyline.{windowStart, skyline}
 use Rattle.skyline.specs.Past.{lowerEnd, upperEnd}
 use Rattle.head.specs.declared.Head.{Head}
+use Rattle.head.specs.declared.Desk.{Desk}
+use Rattle.head.specs.Desks.{watchOf}
 use Rattle.head.specs.declared.Refusal.the-variants.{Settings, ColumnCount, WindowSize, TapeFull, AlreadyWatched, NoFreeRecord, NotWatched, ShortLoan, ShortOutput, WindowOrder}
 use Rattle.head.specs.Refusals.{number, firstOf, granted}
 use Rattle.head.specs.Heads.{freshHead, settingsHold, lastPosition}
 use Rattle.model.specs.Rows.{Row, liveRows, dueRows, dueCells}
-use Rattle.model.specs.Changes.{join, pairJoin, allChanges, pairChanges, frames}
+use Rattle.model.specs.Changes.{join, pairJoin, allChanges, pairChanges, frames, changeRoom}
+use Rattle.model.specs.Shares.{deskFull}
 
--- what the reference model holds: the settings (zeros at first), every quote accepted since they were taken, the watched n, and the
--- watched pair (0 and 0 when unset)
+-- what the reference model holds: the settings (zeros at first), every quote accepted since they were taken, the watches of
+-- both desks, each as the number of its record, and the watched pair (0 and 0 when unset)
 pub record Reference : Type 0 where
   pub dimensions : ℕ
   pub capacity : ℕ
@@ -118,14 +121,14 @@ module _ (s : Reference) where
   unfoldable pub withQuote : List ℕ → Reference
   withQuote x = withQuotes (x ∷ [])
 
-  -- with these n watched
+  -- with these watches
   unfoldable pub withWatched : List ℕ → Reference
-  withWatched ns = record {
+  withWatched ws = record {
     dimensions = s .dimensions;
     capacity = s .capacity;
     directions = s .directions;
     quotes = s .quotes;
-    watched = ns;
+    watched = ws;
     n1 = s .n1;
     n2 = s .n2;
   }
@@ -146,14 +149,14 @@ module _ (s : Reference) where
 unfoldable pub opening : ℕ → ℕ → ℕ → Reference
 opening d N directions = record { dimensions = d; capacity = N; directions = directions; quotes = []; watched = []; n1 = 0; n2 = 0 }
 
--- a call on a book: an opening with d, N and directions; a quote with its columns; a look, a watch and the end of a watch with their n;
+-- a call on a book: an opening with d, N and directions; a quote with its columns; a look with its n; a desk's watch and its end with their n;
 -- a look at a past list with its n1 and n2; a watch of the pair n1 and n2, its end, and what is due; a preview of a quote with its columns
 pub data Call : Type 0 where
   Open : ℕ → ℕ → ℕ → Call
   Quote : List ℕ → Call
   Look : ℕ → Call
-  Watch : ℕ → Call
-  End : ℕ → Call
+  Watch : Desk → ℕ → Call
+  End : Desk → ℕ → Call
   Past : ℕ → ℕ → Call
   Pair : ℕ → ℕ → Call
   Unpair : Call
@@ -173,7 +176,7 @@ pub record Lengths : Type 0 where
 -- lengths that are enough for every book and every answer: 1,024 rows of six columns, eight records, 62,520 bytes, and two cells for
 -- each of 1,024 rows
 abbrev pub ample : Lengths
-ample = record { columns = 6144; positions = 1024; lowerEnds = 1024; upperEnds = 1024; watches = 8; bytes = 62520; cells = 2048 }
+ample = record { columns = 6144; positions = 1024; lowerEnds = 1024; upperEnds = 1024; watches = 8; bytes = changeRoom; cells = 2048 }
 
 -- what the model tells of a call: 0 or the number of its refusal, the head and the count handed back, what is written at the start of
 -- each output, the row counts handed back beside the head (live and held, of a preview), and the model after it
@@ -223,7 +226,7 @@ quoteTold x l s =
     let next = withQuote s x in
     let written = frames (allChanges (s .watched) (skylineOf s) (skylineOf next) ++ pairChanges (pairOf s) (pairOf next)) in
     tells ((not (opened s), number Settings) ∷ (not (eqb (length x) (s .dimensions)), number ColumnCount)
-    ∷ (leb lastPosition (newest s), number TapeFull) ∷ (ltb (l .bytes) (length written), number ShortOutput) ∷ [])
+    ∷ (leb lastPosition (newest s), number TapeFull) ∷ (ltb (l .bytes) changeRoom, number ShortOutput) ∷ [])
     (headOf s) (length written) written [] next s
 
 -- one call of the reference model, its refusals in 01's order
@@ -236,14 +239,16 @@ referenceStep (Look n) l s =
     let written = skylineOf s n in
     tells ((not (opened s), number Settings) ∷ (outside s n, number WindowSize) ∷ (ltb (l .cells) (length written), number ShortOutput) ∷ [])
     (headOf s) (length written) [] written s s
-referenceStep (Watch n) l s =
-    let written = frames (map (join n) (skylineOf s n)) in
-    tells ((not (opened s), number Settings) ∷ (outside s n, number WindowSize) ∷ (contains n (s .watched), number AlreadyWatched)
-    ∷ (leb 8 (length (s .watched)), number NoFreeRecord) ∷ (ltb (l .bytes) (length written), number ShortOutput) ∷ [])
-    (headOf s) (length written) written [] (withWatched s (insert n (s .watched))) s
-referenceStep (End n) l s =
-    tells ((not (opened s), number Settings) ∷ (outside s n, number WindowSize) ∷ (not (contains n (s .watched)), number NotWatched) ∷ [])
-    (headOf s) 0 [] [] (withWatched s (without n (s .watched))) s
+referenceStep (Watch desk n) l s =
+    let watch = watchOf desk n in
+    let written = frames (map (join watch) (skylineOf s n)) in
+    tells ((not (opened s), number Settings) ∷ (outside s n, number WindowSize) ∷ (contains watch (s .watched), number AlreadyWatched)
+    ∷ (deskFull desk (s .watched), number NoFreeRecord) ∷ (ltb (l .bytes) changeRoom, number ShortOutput) ∷ [])
+    (headOf s) (length written) written [] (withWatched s (insert watch (s .watched))) s
+referenceStep (End desk n) l s =
+    let watch = watchOf desk n in
+    tells ((not (opened s), number Settings) ∷ (outside s n, number WindowSize) ∷ (not (contains watch (s .watched)), number NotWatched) ∷ [])
+    (headOf s) 0 [] [] (withWatched s (without watch (s .watched))) s
 referenceStep (Past n1 n2) l s =
     let written = pastOf s n1 n2 in
     tells ((not (opened s), number Settings) ∷ (outsidePast s n1 n2, number WindowSize) ∷ (ltb n2 n1, number WindowOrder)
@@ -252,7 +257,7 @@ referenceStep (Past n1 n2) l s =
 referenceStep (Pair n1 n2) l s =
     let written = frames (map pairJoin (pastOf s n1 n2)) in
     tells ((not (opened s), number Settings) ∷ (outsidePair s n1 n2, number WindowSize) ∷ (ltb n2 n1, number WindowOrder)
-    ∷ (paired s, number NoFreeRecord) ∷ (ltb (l .bytes) (length written), number ShortOutput) ∷ [])
+    ∷ (paired s, number NoFreeRecord) ∷ (ltb (l .bytes) changeRoom, number ShortOutput) ∷ [])
     (headOf s) (length written) written [] (withPairOf s n1 n2) s
 referenceStep Unpair l s =
     tells ((not (opened s), number Settings) ∷ (not (paired s), number NotWatched) ∷ [])

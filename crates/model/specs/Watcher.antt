@@ -1,21 +1,25 @@
--- A watcher of n or of the pair: reads the frames that the calls write, and applies the changes that are meant for it.
+-- A watcher of a desk's n or of the pair: reads the frames that the calls write, and applies the changes that are meant for it.
 use Prim.Native.Nat.{ℕ}
-use mathlib.Core.Bool.{Bool, true, false, cond}
+use mathlib.Core.Bool.{Bool, true, false, _&&_, cond}
 use mathlib.Core.List.{List, [], _∷_}
 use lib.Dec.{eqb}
 use lib.ListN.{length, take}
-use Rattle.lists.specs.Lists.{contains, insert, without}
+use Rattle.lists.specs.Lists.{any, insert, without}
+use Rattle.head.specs.declared.Desk.{Desk}
+use Rattle.head.specs.Desks.{deskNumber, sizeIn, watchOf}
 use Rattle.head.specs.Refusals.{granted}
 use Rattle.frames.specs.declared.Message.{Message}
 use Rattle.frames.specs.declared.Message.the-variants.{Quote, Sized, Change, Pair, Bare, Position, Open, End, Refused}
-use Rattle.frames.specs.Kinds.{leaveKind, joinKind, pairLeaveKind, pairJoinKind}
+use Rattle.frames.specs.Kinds.{pairLeaveKind, pairJoinKind}
 use Rattle.frames.specs.Frames.{messagesFrom}
+use Rattle.model.specs.Changes.{leaveKindOf, joinKindOf}
+use Rattle.model.specs.Shares.{ofDesk}
 use Rattle.model.specs.Reference.{Reference, skylineOf, paired, pairOf}
 use Rattle.model.specs.Calls.{Call, Lending, Seen}
 
--- a watcher: of the list of n, or of the past list of the pair
+-- a watcher: of the list of n at a desk, or of the past list of the pair
 pub data Follower : Type 0 where
-  OfSize : ℕ → Follower
+  OfSize : Desk → ℕ → Follower
   OfPair : Follower
 
 -- a list after a change of this kind at a position: it is taken out by a leave and put in by a join
@@ -24,12 +28,13 @@ applied leaves joins kind p held = cond (eqb kind leaves) (without p held) (cond
 
 -- the list that a watcher holds after a change of the list of m
 unfoldable pub heedsChange : Follower → ℕ → ℕ → ℕ → List ℕ → List ℕ
-heedsChange (OfSize n) k m p held = cond (eqb m n) (applied leaveKind joinKind k p held) held
+heedsChange (OfSize desk n) k m p held =
+    cond (eqb m n) (applied (leaveKindOf (deskNumber desk)) (joinKindOf (deskNumber desk)) k p held) held
 heedsChange OfPair k m p held = held
 
 -- the list that a watcher holds after a change of the past list of the pair
 unfoldable pub heedsPosition : Follower → ℕ → ℕ → List ℕ → List ℕ
-heedsPosition (OfSize n) k p held = held
+heedsPosition (OfSize desk n) k p held = held
 heedsPosition OfPair k p held = applied pairLeaveKind pairJoinKind k p held
 
 -- the list that a watcher holds after a message
@@ -61,14 +66,14 @@ reads f seen (Holding held) =
     let bytes = take (seen .outcome .count) (seen .outputs .bytes) in
     Holding (heedsAll f held (messagesFrom (length bytes) bytes 0))
 
--- a watch of m is that of the watcher
+-- this watch is that of the watcher: of its desk and of its n
 unfoldable pub sizedFor : Follower → ℕ → Bool
-sizedFor (OfSize n) m = eqb m n
-sizedFor OfPair m = false
+sizedFor (OfSize desk n) watch = ofDesk desk watch && eqb (sizeIn watch) n
+sizedFor OfPair watch = false
 
 -- the watch of the pair is that of the watcher
 unfoldable pub pairedFor : Follower → Bool
-pairedFor (OfSize n) = false
+pairedFor (OfSize desk n) = false
 pairedFor OfPair = true
 
 -- what is held after a call: an accepted watch of the watcher's begins with the empty list, its accepted end or an accepted opening
@@ -77,8 +82,9 @@ unfoldable pub watcherStep : Follower → Call → Seen → Held → Held
 watcherStep f (Call.Open d N directions) seen held = granted (seen .outcome .number) Nothing held
 watcherStep f (Call.Quote x) seen held = reads f seen held
 watcherStep f (Call.Look m) seen held = held
-watcherStep f (Call.Watch m) seen held = reads f seen (granted (seen .outcome .number) (cond (sizedFor f m) (Holding []) held) held)
-watcherStep f (Call.End m) seen held = granted (seen .outcome .number) (cond (sizedFor f m) Nothing held) held
+watcherStep f (Call.Watch desk m) seen held =
+    reads f seen (granted (seen .outcome .number) (cond (sizedFor f (watchOf desk m)) (Holding []) held) held)
+watcherStep f (Call.End desk m) seen held = granted (seen .outcome .number) (cond (sizedFor f (watchOf desk m)) Nothing held) held
 watcherStep f (Call.Past n1 n2) seen held = held
 watcherStep f (Call.Pair n1 n2) seen held = reads f seen (granted (seen .outcome .number) (cond (pairedFor f) (Holding []) held) held)
 watcherStep f Call.Unpair seen held = granted (seen .outcome .number) (cond (pairedFor f) Nothing held) held
@@ -93,12 +99,12 @@ watcher f (c ∷ cs) (s ∷ ss) held = watcher f cs ss (watcherStep f (c .call) 
 
 -- the watcher's list is watched
 unfoldable pub watchedFor : Follower → Reference → Bool
-watchedFor (OfSize n) s = contains n (s .watched)
+watchedFor (OfSize desk n) s = any (sizedFor (OfSize desk n)) (s .watched)
 watchedFor OfPair s = paired s
 
 -- the watcher's list by the reference model: the skyline of n, or the past list of the pair
 unfoldable pub listFor : Follower → Reference → List ℕ
-listFor (OfSize n) s = skylineOf s n
+listFor (OfSize desk n) s = skylineOf s n
 listFor OfPair s = pairOf s
 
 -- what a watcher is to hold by the reference model: nothing while its list is not watched, else the list

@@ -1,7 +1,6 @@
 -- What a line says, case by case; and the turns of the two loops over its bytes.
 use mathlib.Core.Path.{_≡_, refl, sym, ap, _∙_}
-use Prim.Native.Nat.{ℕ, zero, suc, _+_, _-_, _≤_, _<_}
-use native.Mathlib.Nat.{add-assoc}
+use Prim.Native.Nat.{ℕ, suc, _+_, _≤_, _<_}
 use native.Mathlib.Omega.{arith}
 use native.Mathlib.Numerals.{add-one}
 use mathlib.Core.Bool.{Bool, true, false, _&&_, _||_, not, cond}
@@ -12,7 +11,7 @@ use lib.Seq.{drop-cons}
 use borrow.Author.Tests.{lt-ltb, le-ltb, ltb-true, ltb-false, eq-eqb, ne-eqb, not-true, not-false}
 use Rattle.lists.proofs.Booleans.{and-left, and-right}
 use Rattle.head.specs.Refusals.{firstOf, granted}
-use Rattle.frames.specs.Kinds.{lookKind, watchKind, unwatchKind, pairKind, unpairKind, pastKind}
+use Rattle.frames.specs.Kinds.{lookKind, watchKind, unwatchKind, watchTwoKind, unwatchTwoKind, pairKind, unpairKind, pastKind}
 use Rattle.frames.specs.Frames.{framed, frame}
 use Rattle.frames.specs.Writing.{writeAnswer, Wrote}
 use Rattle.frames.specs.declared.Written.{Written}
@@ -20,7 +19,7 @@ use Rattle.frames.specs.declared.Message.{Message}
 use Rattle.frames.specs.declared.Message.the-variants.{Quote, Sized, Pair, Bare, Open}
 use Rattle.notation.specs.declared.Fields.{Fields}
 use Rattle.notation.specs.Fields.{noField, after, fieldsFrom}
-use Rattle.notation.specs.Lines.{nothing, opens, opening, quoteOf, pairs, pairOf, bareOf, fits, ofNumber, sizedOf, said, saidBy, lineLength}
+use Rattle.notation.specs.Lines.{nothing, opens, opening, quoteOf, pairs, pairOf, bareOf, fits, ofNumber, sizedOf, said, marked, signOf, saidBy, lineLength}
 
 -- ---- messages
 
@@ -90,61 +89,69 @@ module _ (f : Fields) where
   unfolding bareOf
   bare-of kind e = rw e
 
-  module _ (letter : ℕ) where
-    pub sized-not : fits f ≡ false → nothing ≡ sizedOf letter f
+  module _ (sign : ℕ) where
+    pub sized-not : fits f ≡ false → nothing ≡ sizedOf sign f
     unfolding sizedOf
     sized-not t = rw t
 
-    pub sized-of : fits f ≡ true → ofNumber letter (getD (f .numbers) 0 0) ≡ sizedOf letter f
+    pub sized-of : fits f ≡ true → ofNumber sign (getD (f .numbers) 0 0) ≡ sizedOf sign f
     unfolding sizedOf
     sized-of t = rw t
 
-    pub said-unfair : not (f .fair) || f .empty ≡ true → nothing ≡ said letter f
+    pub said-unfair : not (f .fair) || f .empty ≡ true → nothing ≡ said sign f
     unfolding said
     said-unfair t = rw t
 
     module _ (t : not (f .fair) || f .empty ≡ false) where
-      pub said-opening : letter ≡ 79 → opening f ≡ said letter f
+      pub said-opening : sign ≡ 79 → opening f ≡ said sign f
       unfolding said
       said-opening e = rw (t, e)
 
-      pub said-quote : letter ≡ 81 → quoteOf f ≡ said letter f
+      pub said-quote : sign ≡ 81 → quoteOf f ≡ said sign f
       unfolding said
       said-quote e = rw (t, e)
 
-      pub said-past : letter ≡ 80 → pairOf pastKind f ≡ said letter f
+      pub said-past : sign ≡ 80 → pairOf pastKind f ≡ said sign f
       unfolding said
       said-past e = rw (t, e)
 
-      pub said-pair : letter ≡ 66 → pairOf pairKind f ≡ said letter f
+      pub said-pair : sign ≡ 66 → pairOf pairKind f ≡ said sign f
       unfolding said
       said-pair e = rw (t, e)
 
-      pub said-unpair : letter ≡ 69 → bareOf unpairKind f ≡ said letter f
+      pub said-unpair : sign ≡ 69 → bareOf unpairKind f ≡ said sign f
       unfolding said
       said-unpair e = rw (t, e)
 
-      pub said-number : (letter ≡ 79 → ⊥) → (letter ≡ 81 → ⊥) → (letter ≡ 80 → ⊥) → (letter ≡ 66 → ⊥) → (letter ≡ 69 → ⊥) → sizedOf letter f ≡ said letter f
+      pub said-number : (sign ≡ 79 → ⊥) → (sign ≡ 81 → ⊥) → (sign ≡ 80 → ⊥) → (sign ≡ 66 → ⊥) → (sign ≡ 69 → ⊥) → sizedOf sign f ≡ said sign f
       unfolding said
-      said-number o q p b e = rw (t, ne-eqb letter 79 o, ne-eqb letter 81 q, ne-eqb letter 80 p, ne-eqb letter 66 b, ne-eqb letter 69 e)
+      said-number o q p b e = rw (t, ne-eqb sign 79 o, ne-eqb sign 81 q, ne-eqb sign 80 p, ne-eqb sign 66 b, ne-eqb sign 69 e)
 
--- the letters of a number
-module _ (letter n : ℕ) where
-  pub of-look : letter ≡ 76 → Sized lookKind n ≡ ofNumber letter n
+-- the signs of a number
+module _ (sign n : ℕ) where
+  pub of-look : sign ≡ 76 → Sized lookKind n ≡ ofNumber sign n
   unfolding ofNumber
-  of-look e = rw (eq-eqb letter 76 e)
+  of-look e = rw (eq-eqb sign 76 e)
 
-  pub of-watch : letter ≡ 87 → Sized watchKind n ≡ ofNumber letter n
+  pub of-watch : sign ≡ 87 → Sized watchKind n ≡ ofNumber sign n
   unfolding ofNumber
   of-watch e = rw e
 
-  pub of-end : letter ≡ 85 → Sized unwatchKind n ≡ ofNumber letter n
+  pub of-end : sign ≡ 85 → Sized unwatchKind n ≡ ofNumber sign n
   unfolding ofNumber
   of-end e = rw e
 
-  pub of-other : (letter ≡ 76 → ⊥) → (letter ≡ 87 → ⊥) → (letter ≡ 85 → ⊥) → nothing ≡ ofNumber letter n
+  pub of-watch-two : sign ≡ 343 → Sized watchTwoKind n ≡ ofNumber sign n
   unfolding ofNumber
-  of-other l w u = rw (ne-eqb letter 76 l, ne-eqb letter 87 w, ne-eqb letter 85 u)
+  of-watch-two e = rw e
+
+  pub of-end-two : sign ≡ 341 → Sized unwatchTwoKind n ≡ ofNumber sign n
+  unfolding ofNumber
+  of-end-two e = rw e
+
+  pub of-other : (sign ≡ 76 → ⊥) → (sign ≡ 87 → ⊥) → (sign ≡ 85 → ⊥) → (sign ≡ 343 → ⊥) → (sign ≡ 341 → ⊥) → nothing ≡ ofNumber sign n
+  unfolding ofNumber
+  of-other l w u v e = rw (ne-eqb sign 76 l, ne-eqb sign 87 w, ne-eqb sign 85 u, ne-eqb sign 343 v, ne-eqb sign 341 e)
 
 -- ---- the bytes of a line
 
@@ -184,18 +191,30 @@ module _ (line : List ℕ) where
 
 -- ---- a whole line
 
--- an empty line
-pub read-none : (line : List ℕ) {f : Fields} → length line < 1 → f ≡ fieldsFrom noField (drop 1 line) → record { message = nothing; numbers = f .numbers } ≡ saidBy line
-unfolding saidBy fieldsFrom
-read-none [] h e = rw e
-read-none (letter ∷ bytes) h e = absurd (omega arith)
+-- a line without a second byte is not marked
+pub none-marked : (line : List ℕ) → length line < 2 → false ≡ marked line
+unfolding marked
+none-marked [] h = refl
+none-marked (letter ∷ []) h = refl
+none-marked (letter ∷ byte ∷ bytes) h = absurd (omega arith)
 
--- a line with its letter
-pub read-some : (line : List ℕ) {f : Fields} {m : Message} → 1 ≤ length line → f ≡ fieldsFrom noField (drop 1 line) → m ≡ said (getD line 0 0) f
-    → record { message = m; numbers = f .numbers } ≡ saidBy line
+-- an empty line
+pub read-none : (line : List ℕ) (place : ℕ) {f : Fields} → length line < 1 → f ≡ fieldsFrom noField (drop place line) → record { message = nothing; numbers = f .numbers } ≡ saidBy line
+unfolding saidBy fieldsFrom
+read-none [] place h e = ap (λ (g : Fields). record { message = nothing; numbers = g .numbers }) (e ∙ ap (fieldsFrom noField) (drop-of-length-le [] {i = place} (omega arith)))
+read-none (letter ∷ bytes) place h e = absurd (omega arith)
+
+-- the fields of a line begin behind its sign
+behind-sign : (two : Bool) (letter : ℕ) (bytes : List ℕ) → drop (cond two 2 1) (letter ∷ bytes) ≡ cond two (drop 1 bytes) bytes
+behind-sign true letter bytes = refl
+behind-sign false letter bytes = refl
+
+-- a line with its sign
+pub read-some : (line : List ℕ) {two : Bool} {place sign : ℕ} {f : Fields} {m : Message} → 1 ≤ length line → two ≡ marked line → place ≡ cond two 2 1
+    → sign ≡ signOf two (getD line 0 0) → f ≡ fieldsFrom noField (drop place line) → m ≡ said sign f → record { message = m; numbers = f .numbers } ≡ saidBy line
 unfolding saidBy
-read-some [] h e s = absurd (omega arith)
-read-some (letter ∷ bytes) h e s = rw (s, e)
+read-some [] h t p g e s = absurd (omega arith)
+read-some (letter ∷ bytes) h t p g e s = rw (s, g, e, p, behind-sign, t)
 
 -- ---- what callers need
 

@@ -4,7 +4,6 @@ use mathlib.Core.Logic.{_⊎_, inl, inr}
 use Prim.Native.Nat.{ℕ, zero, suc, _+_, _-_, _*_, _/_, _%_, _^_, _≤_, _<_}
 use native.Mathlib.Nat.{pow-suc}
 use native.Mathlib.Omega.{arith}
-use native.Mathlib.Numerals.{add-one}
 use mathlib.Core.Bool.{Bool, true, false, _&&_, not, cond}
 use mathlib.Core.List.{List, [], _∷_, _++_, map, append-assoc, append-nil}
 use lib.Dec.{ltb, eqb}
@@ -13,13 +12,13 @@ use lib.Seq.{getD-append-seam, set-at}
 use borrow.Author.Tests.{ltb-true, ltb-false, lt-ltb, le-ltb, ne-eqb}
 use Rattle.lists.specs.Lists.{flat}
 use Rattle.lists.proofs.Booleans.{either, and-left, and-right}
-use Rattle.text.specs.Text.{digitsUpTo, digits, field, line}
+use Rattle.text.specs.Text.{digitsUpTo, digits, field, line, line2}
 use Rattle.frames.specs.declared.Message.the-variants.{Quote, Sized, Pair, Bare, Open}
-use Rattle.frames.specs.Kinds.{lookKind, watchKind, unwatchKind, pairKind, unpairKind, pastKind}
+use Rattle.frames.specs.Kinds.{lookKind, watchKind, unwatchKind, watchTwoKind, unwatchTwoKind, pairKind, unpairKind, pastKind}
 use Rattle.notation.specs.declared.Fields.{Fields}
-use Rattle.notation.specs.Fields.{noField, begun, grown, after, fieldsFrom}
+use Rattle.notation.specs.Fields.{noField, grown, after, fieldsFrom}
 use Rattle.notation.specs.declared.Said.{Said}
-use Rattle.notation.specs.Lines.{opens, opening, quoteOf, pairs, pairOf, bareOf, fits, ofNumber, sizedOf, said, saidBy}
+use Rattle.notation.specs.Lines.{opens, opening, quoteOf, pairs, pairOf, bareOf, fits, ofNumber, sizedOf, said, marked, signOf, saidBy}
 use Rattle.notation.proofs.Steps.{begun-next, grown-next, after-space, after-digit}
 
 -- bytes behind bytes
@@ -116,13 +115,36 @@ pub line-spelled : (letter : ℕ) (numbers : List ℕ) → line letter numbers �
 unfolding line spelled
 line-spelled letter numbers = refl
 
+-- so it is of a line with a 2 behind its letter
+unfoldable pub spelledTwo : ℕ → List ℕ → List ℕ
+spelledTwo letter numbers = letter ∷ spelled 50 numbers
+
+pub line-spelled-two : (letter : ℕ) (numbers : List ℕ) → line2 letter 50 numbers ≡ spelledTwo letter numbers ++ (10 ∷ [])
+unfolding line2 line spelled spelledTwo
+line-spelled-two letter numbers = refl
+
+-- fields begin with a space: no 2 stands before them
+unmarked : (letter : ℕ) (ns : List ℕ) → marked (letter ∷ flat (map field ns)) ≡ false
+unfolding marked flat field
+unmarked letter [] = refl
+unmarked letter (n ∷ ns) = refl
+
+-- its fields are its numbers
+all-read : (ns behind : List ℕ) → replicate (length ns) 0 ++ behind ≡ noField .numbers → length ns ≤ 6 → small ns ≡ true → fieldsFrom noField (flat (map field ns)) ≡ fieldsOf ns behind
+unfolding noField fieldsOf
+all-read ns behind e h s = ap (λ (l : List ℕ). fieldsFrom (fieldsOf [] l) (flat (map field ns))) (sym e) ∙ fields-read [] ns behind (omega arith) s
+
 -- a line of one to six numbers is read as its letter and those numbers
 line-read : (letter : ℕ) (ns behind : List ℕ) → replicate (length ns) 0 ++ behind ≡ noField .numbers → length ns ≤ 6 → small ns ≡ true
     → saidBy (spelled letter ns) ≡ record { message = said letter (fieldsOf ns behind); numbers = ns ++ behind }
-unfolding saidBy spelled noField fieldsOf
-line-read letter ns behind e h s =
-    ap (λ (f : Fields). record { message = said letter f; numbers = f .numbers })
-    (ap (λ (l : List ℕ). fieldsFrom (fieldsOf [] l) (flat (map field ns))) (sym e) ∙ fields-read [] ns behind (omega arith) s)
+unfolding saidBy spelled signOf fieldsOf
+line-read letter ns behind e h s = rw (unmarked letter ns) (ap (λ (f : Fields). record { message = said letter f; numbers = f .numbers }) (all-read ns behind e h s))
+
+-- so is one of desk two
+line-read-two : (letter : ℕ) (ns behind : List ℕ) → replicate (length ns) 0 ++ behind ≡ noField .numbers → length ns ≤ 6 → small ns ≡ true
+    → saidBy (spelledTwo letter ns) ≡ record { message = said (letter + 256) (fieldsOf ns behind); numbers = ns ++ behind }
+unfolding saidBy spelledTwo spelled marked signOf fieldsOf
+line-read-two letter ns behind e h s = ap (λ (f : Fields). record { message = said (letter + 256) f; numbers = f .numbers }) (all-read ns behind e h s)
 
 module _ (n : ℕ) (h : n < 65536) where
   one-small : small (n ∷ []) ≡ true
@@ -144,6 +166,15 @@ module _ (n : ℕ) (h : n < 65536) where
   pub end-read : saidBy (spelled 85 (n ∷ [])) .message ≡ Sized unwatchKind n
   unfolding noField said sizedOf fieldsOf fits ofNumber zeros
   end-read = ap (λ (s : Said). s .message) (line-read 85 (n ∷ []) zeros refl (omega arith) one-small) ∙ rw (lt-ltb n 65536 h)
+
+  -- so are desk two's
+  pub watch-two-read : saidBy (spelledTwo 87 (n ∷ [])) .message ≡ Sized watchTwoKind n
+  unfolding noField said sizedOf fieldsOf fits ofNumber zeros
+  watch-two-read = ap (λ (s : Said). s .message) (line-read-two 87 (n ∷ []) zeros refl (omega arith) one-small) ∙ rw (lt-ltb n 65536 h)
+
+  pub end-two-read : saidBy (spelledTwo 85 (n ∷ [])) .message ≡ Sized unwatchTwoKind n
+  unfolding noField said sizedOf fieldsOf fits ofNumber zeros
+  end-two-read = ap (λ (s : Said). s .message) (line-read-two 85 (n ∷ []) zeros refl (omega arith) one-small) ∙ rw (lt-ltb n 65536 h)
 
 -- the line of an opening is read back
 pub opening-read : (d N directions : ℕ) → d < 256 → N < 65536 → directions < 256 → saidBy (spelled 79 (d ∷ N ∷ directions ∷ [])) .message ≡ Open d N directions
@@ -173,7 +204,7 @@ module _ (n1 n2 : ℕ) (h : n1 < 65536) (k : n2 < 65536) where
 
 -- the line of the end of the pair, a letter alone, is read back
 pub unpair-read : saidBy (spelled 69 []) .message ≡ Bare unpairKind
-unfolding saidBy spelled flat fieldsFrom noField said bareOf
+unfolding saidBy spelled flat fieldsFrom noField said bareOf marked signOf
 unpair-read = refl
 
 -- the line of a quote is read back, with its columns

@@ -1,13 +1,13 @@
 -- What a line says, without its newline: a message, or none, and its numbers.
-use Prim.Native.Nat.{ℕ, zero, suc}
-use mathlib.Core.Bool.{Bool, true, false, _&&_, _||_, not, cond}
+use Prim.Native.Nat.{ℕ, suc, _+_}
+use mathlib.Core.Bool.{Bool, _&&_, _||_, not, cond}
 use mathlib.Core.List.{List, [], _∷_}
 use lib.Dec.{ltb, eqb}
-use lib.ListN.{getD}
+use lib.ListN.{getD, drop}
 use Rattle.head.specs.declared.Refusal.the-variants.{UnknownKind}
 use Rattle.frames.specs.declared.Message.{Message}
 use Rattle.frames.specs.declared.Message.the-variants.{Quote, Sized, Pair, Bare, Open, Refused}
-use Rattle.frames.specs.Kinds.{lookKind, watchKind, unwatchKind, pairKind, unpairKind, pastKind}
+use Rattle.frames.specs.Kinds.{lookKind, watchKind, unwatchKind, watchTwoKind, unwatchTwoKind, pairKind, unpairKind, pastKind}
 use Rattle.notation.specs.declared.Fields.{Fields}
 use Rattle.notation.specs.declared.Said.{Said}
 use Rattle.notation.specs.Fields.{noField, fieldsFrom}
@@ -45,31 +45,44 @@ bareOf kind f = cond (eqb (f .count) 0) (Bare kind) nothing
 unfoldable pub fits : Fields → Bool
 fits f = eqb (f .count) 1 && ltb (getD (f .numbers) 0 0) 65536
 
--- the message of a letter and a number: L, W or U
+-- a 2 stands behind the letter of a line, which makes it desk two's
+unfoldable pub marked : List ℕ → Bool
+marked line = eqb (getD line 1 0) 50
+
+-- the sign of a line: its letter, with 256 more where a 2 stands behind it
+unfoldable pub signOf : Bool → ℕ → ℕ
+signOf two letter = cond two (letter + 256) letter
+
+-- the message of a sign and a number: L, W, U, W2 or U2
 unfoldable pub ofNumber : ℕ → ℕ → Message
-ofNumber letter n =
-    cond (eqb letter 76) (Sized lookKind n)
-    (cond (eqb letter 87) (Sized watchKind n)
-    (cond (eqb letter 85) (Sized unwatchKind n) nothing))
+ofNumber sign n =
+    cond (eqb sign 76) (Sized lookKind n)
+    (cond (eqb sign 87) (Sized watchKind n)
+    (cond (eqb sign 85) (Sized unwatchKind n)
+    (cond (eqb sign 343) (Sized watchTwoKind n)
+    (cond (eqb sign 341) (Sized unwatchTwoKind n) nothing))))
 
--- the message of a letter and its fields, if they are such a number
+-- the message of a sign and its fields, if they are such a number
 unfoldable pub sizedOf : ℕ → Fields → Message
-sizedOf letter f = cond (fits f) (ofNumber letter (getD (f .numbers) 0 0)) nothing
+sizedOf sign f = cond (fits f) (ofNumber sign (getD (f .numbers) 0 0)) nothing
 
--- the message of a letter and its fields: O, Q, P, B, E, L, W or U
+-- the message of a sign and its fields: O, Q, P, B, E, L, W, U, W2 or U2
 unfoldable pub said : ℕ → Fields → Message
-said letter f =
+said sign f =
     cond (not (f .fair) || f .empty) nothing
-    (cond (eqb letter 79) (opening f)
-    (cond (eqb letter 81) (quoteOf f)
-    (cond (eqb letter 80) (pairOf pastKind f)
-    (cond (eqb letter 66) (pairOf pairKind f)
-    (cond (eqb letter 69) (bareOf unpairKind f) (sizedOf letter f))))))
+    (cond (eqb sign 79) (opening f)
+    (cond (eqb sign 81) (quoteOf f)
+    (cond (eqb sign 80) (pairOf pastKind f)
+    (cond (eqb sign 66) (pairOf pairKind f)
+    (cond (eqb sign 69) (bareOf unpairKind f) (sizedOf sign f))))))
 
 -- what a line says
 unfoldable pub saidBy : List ℕ → Said
 saidBy [] = record { message = nothing; numbers = noField .numbers }
-saidBy (letter ∷ bytes) = let f = fieldsFrom noField bytes in record { message = said letter f; numbers = f .numbers }
+saidBy (letter ∷ bytes) =
+    let two = marked (letter ∷ bytes) in
+    let f = fieldsFrom noField (cond two (drop 1 bytes) bytes) in
+    record { message = said (signOf two letter) f; numbers = f .numbers }
 
 -- how many bytes a line has before its newline
 unfoldable pub lineLength : List ℕ → ℕ

@@ -1,4 +1,5 @@
-// The notation of a tape, line by line: a letter and its numbers, in decimal, with one space before each. A line is read as a message.
+// The notation of a tape, line by line: a letter, a 2 behind it where the line is desk two's, and its numbers, in decimal, with one space
+// before each. A line is read as a message.
 mod lines;
 mod scanning;
 

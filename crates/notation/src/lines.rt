@@ -1,9 +1,10 @@
 // Reading a line as a message, and writing its frame.
 ghost use mathlib.Core.Path.{_≡_};
+ghost use mathlib.Core.Bool.{cond};
 ghost use Prim.Native.Nat.{_+_};
 ghost use lib.ListN.{drop};
 ghost use Rattle.frames.specs.Writing.{Wrote};
-ghost use Rattle.notation.specs.Lines.{opens, opening, quoteOf, pairs, pairOf, bareOf, fits, sizedOf, said, saidBy, lineLength};
+ghost use Rattle.notation.specs.Lines.{opens, opening, quoteOf, pairs, pairOf, bareOf, fits, sizedOf, said, marked, signOf, saidBy, lineLength};
 use crate::Fields;
 use crate::Said;
 use crate::scanning::fields_from;
@@ -13,7 +14,9 @@ use frames::PAIR;
 use frames::PAST;
 use frames::UNPAIR;
 use frames::UNWATCH;
+use frames::UNWATCH_TWO;
 use frames::WATCH;
+use frames::WATCH_TWO;
 use frames::Written;
 use head::Refusal;
 
@@ -87,45 +90,76 @@ fn fits(fields: Fields) -> bool
     (fields.count == 1) & (numbers[0] < 65536)
 }
 
-// The message of a letter and its fields, if they are such a number.
-fn sized(letter: u8, fields: Fields) -> Message
-    ensures { λ r. ⌜ r ≡ sizedOf letter fields ⌝ }
+// The message of a sign and its fields, if they are such a number.
+fn sized(sign: u16, fields: Fields) -> Message
+    ensures { λ r. ⌜ r ≡ sizedOf sign fields ⌝ }
 {
     let numbers = fields.numbers;
     if !fits(fields) {
         return Message::Refused(Refusal::UnknownKind);
     }
     let n = numbers[0] as u16;
-    match letter {
+    match sign {
         76 => Message::Sized(LOOK, n),
         87 => Message::Sized(WATCH, n),
         85 => Message::Sized(UNWATCH, n),
+        343 => Message::Sized(WATCH_TWO, n),
+        341 => Message::Sized(UNWATCH_TWO, n),
         _ => Message::Refused(Refusal::UnknownKind),
     }
 }
 
-// The message of a letter and its fields.
-fn message_of(letter: u8, fields: Fields) -> Message
-    ensures { λ r. ⌜ r ≡ said letter fields ⌝ }
+// The message of a sign and its fields.
+fn message_of(sign: u16, fields: Fields) -> Message
+    ensures { λ r. ⌜ r ≡ said sign fields ⌝ }
 {
     if !fields.fair | fields.empty {
         return Message::Refused(Refusal::UnknownKind);
     }
-    match letter {
+    match sign {
         79 => opening(fields),
         81 => quote(fields),
         80 => pair(PAST, fields),
         66 => pair(PAIR, fields),
         69 => bare(UNPAIR, fields),
-        _ => sized(letter, fields),
+        _ => sized(sign, fields),
     }
+}
+
+// Whether a 2 stands behind the letter of a line.
+fn marked(line: &[u8]) -> bool
+    ensures { λ r. ⌜ r ≡ marked (now (line .entry)) ⌝ }
+{
+    if line.len() < 2 {
+        return false;
+    }
+    line[1] == 50
+}
+
+// The sign of a line: its letter, with 256 more where a 2 stands behind it.
+fn sign_of(two: bool, letter: u8) -> u16
+    ensures { λ r. ⌜ r ≡ signOf two letter ⌝ }
+{
+    if two {
+        letter as u16 + 256
+    } else {
+        letter as u16
+    }
+}
+
+// Where the fields of a line begin.
+fn fields_place(two: bool) -> usize
+    ensures { λ r. ⌜ r ≡ cond two 2 1 ⌝ }
+{
+    if two { 2 } else { 1 }
 }
 
 // Reads a line, without its newline.
 pub fn read_line(line: &[u8]) -> Said
     ensures { λ r. ⌜ r ≡ saidBy (now (line .entry)) ⌝ }
 {
-    let fields = fields_from(line, 1);
+    let two = marked(line);
+    let fields = fields_from(line, fields_place(two));
     let numbers = fields.numbers;
     if line.len() < 1 {
         return Said {
@@ -134,7 +168,7 @@ pub fn read_line(line: &[u8]) -> Said
         };
     }
     Said {
-        message: message_of(line[0], fields),
+        message: message_of(sign_of(two, line[0]), fields),
         numbers,
     }
 }

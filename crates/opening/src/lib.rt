@@ -16,7 +16,7 @@ pub fn open(
     positions: &mut [u32],
     lower_ends: &mut [u32],
     upper_ends: &mut [u32],
-    watches: [u32; 8],
+    watches: [u64; 8],
 ) -> WatchReply
     ensures { λ r. ⌜ Opened dimensions capacity directions (tables (now (columns .entry)) (now (positions .entry)) (now («lower_ends» .entry)) (now («upper_ends» .entry))) watches (r .reply) (tables (now (columns .exit)) (now (positions .exit)) (now («lower_ends» .exit)) (now («upper_ends» .exit))) (r .watches) ⌝ }
 {

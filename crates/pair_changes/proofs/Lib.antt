@@ -1,5 +1,4 @@
 -- The laws of the crate.
 pub mod Seeking
 pub mod Sliding
-pub mod Tallying
 pub mod Pairs

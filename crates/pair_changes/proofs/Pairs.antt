@@ -58,13 +58,12 @@ module _ (h : Head) (t : Tables) (whole : Whole h (bookRows h t)) (fair : tornPa
       let below = ltb-true (getD (t .lowerEnds) i 0) (getD (t .positions) i 0) (not-false (ltb (getD (t .lowerEnds) i 0) (getD (t .positions) i 0)) (mem-none lowerAstray r (bookRows h t) member (whole .lower-ends))) in
       omega (arith, place-at h t whole i l)
 
-  -- what is asked before they are counted and written
-  pub paired : h .held ≤ 1024 → h .held ≤ length (t .lowerEnds) → h .held ≤ length (t .upperEnds) → Paired h (t .lowerEnds) (t .upperEnds)
-  paired few lower-room upper-room = record {
+  -- what is asked before they are written
+  pub paired : h .held ≤ length (t .lowerEnds) → h .held ≤ length (t .upperEnds) → Paired h (t .lowerEnds) (t .upperEnds)
+  paired lower-room upper-room = record {
     fair = fair;
     filled = places-full h t whole;
     space = space;
-    few = few;
     lower-room = lower-room;
     upper-room = upper-room;
     low = low;

@@ -81,7 +81,6 @@ module _ {h : Head} {lowers uppers : List ℕ} (v : Paired h lowers uppers) (b :
       let i = starts-within (h .newest) (h .capacity) (h .n1) (h .n2) (h .held) (w .0 .two) (w .0 .order) (w .0 .most) (w .1) (v .filled) in
       let j = ends-within (h .newest) (h .capacity) (h .n1) (h .n2) (h .held) (w .0 .two) (w .0 .order) (w .0 .most) (w .1) (v .filled) in
       let space = v .space in
-      let few = v .few in
       let lower-room = v .lower-room in
       let upper-room = v .upper-room in
       rw (f, s, e) record {
@@ -93,7 +92,6 @@ module _ {h : Head} {lowers uppers : List ℕ} (v : Paired h lowers uppers) (b :
         lower-room = omega (arith, j .1);
         upper-room = omega (arith, j .1);
         cell = omega (arith, j .3);
-        few = omega (arith, j .1);
       }
 
 -- the same of another name of the first position

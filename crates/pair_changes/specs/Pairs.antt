@@ -33,12 +33,6 @@ falls first uppers start end = ltb (start .before) (start .after) && lasts (end 
 unfoldable pub enters : ℕ → List ℕ → Shift → Shift → Bool
 enters first lowers start end = ltb (end .before) (end .after) && ltb (getD lowers (end .after - first) 0) (start .after)
 
--- a row of the window with these ends leaves since the new end is over it, or joins since the window moves past the old start
-unfoldable pub changesBy : Shift → Shift → ℕ → ℕ → Bool
-changesBy start end lower upper =
-    (eqb upper (end .after) && ltb lower (start .before))
-    || (ltb (start .before) (start .after) && (eqb lower (start .before) && lasts (end .after) upper))
-
 -- the place from which on rows may leave by their upper end: on a sound book behind the lower end of the row at the new end
 unfoldable pub droppedFrom : ℕ → List ℕ → Shift → Shift → Bool → ℕ
 droppedFrom first lowers start end sound =
@@ -78,7 +72,6 @@ module _ (first : ℕ) (lowers uppers : List ℕ) (start end : Shift) where
     pub lower-room : end .after < first + length lowers
     pub upper-room : end .after < first + length uppers
     pub cell : end .after ≤ lastPosition
-    pub few : end .after < first + 1024
 
 -- what the ends of count rows say of one another where calls left them: the row that a lower end names lasts on every list on which the
 -- row below it does, and a row lies behind the lower end of the row that its upper end names
@@ -105,7 +98,6 @@ module _ (h : Head) (lowers uppers : List ℕ) where
     pub fair : tornPair h ≡ false
     pub filled : h .newest + 1 ≡ windowStart (h .newest) (h .capacity) + h .held
     pub space : h .newest < lastPosition
-    pub few : h .held ≤ 1024
     pub lower-room : h .held ≤ length lowers
     pub upper-room : h .held ≤ length uppers
     pub low : (i : ℕ) → i < h .held → getD lowers i 0 < windowStart (h .newest) (h .capacity) + i

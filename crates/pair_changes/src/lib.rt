@@ -1,4 +1,4 @@
-// The changes that a quote makes to the past list of the pair, by the rows held before it: counted, and written as frames.
+// The changes that a quote makes to the past list of the pair, by the rows held before it, written as frames.
 ghost use mathlib.Core.Path.{_≡_};
 ghost use Prim.Native.Nat.{_≤_};
 ghost use mathlib.Core.Bool.{true};
@@ -7,13 +7,11 @@ ghost use Rattle.lists.specs.Lists.{laid};
 ghost use Rattle.skyline.specs.Skyline.{windowStart};
 ghost use Rattle.pair_changes.specs.Pairs.{pairFrames, Sound, Paired};
 
-mod counting;
 mod joins;
 mod leaves;
 mod windows;
 
 use changes::shift_of;
-use counting::count_moved;
 use head::Head;
 use joins::write_joins;
 use leaves::dropped_from;
@@ -22,20 +20,6 @@ use listing::start_of;
 use windows::begun;
 use windows::end_of;
 use windows::falls;
-
-// How many bytes the pair's changes take at a quote.
-pub fn count_pair_changes(head: Head, lower_ends: &[u32], upper_ends: &[u32]) -> usize
-    requires { ⌜ Paired head (now «lower_ends») (now «upper_ends») ⌝ }
-    ensures { λ r. ⌜ r ≡ length (pairFrames head (now («lower_ends» .entry)) (now («upper_ends» .entry))) ⌝ }
-{
-    if !begun(head) {
-        return 0;
-    }
-    let first = start_of(head, head.capacity);
-    let start = shift_of(head, head.n2);
-    let end = end_of(head);
-    5 * count_moved(lower_ends, upper_ends, first, start, end)
-}
 
 // Writes the pair's changes at a quote: the leaves, then the joins; sound says that the rows' ends are as calls leave them. Returns how
 // many bytes.

@@ -2,12 +2,12 @@
 use by_value::Made;
 use head::Answer;
 use head::Reply;
-use player_desk::Desk;
-use player_desk::Seen;
 use player_lines::Command;
 use player_lines::Line;
 use player_lines::quoted;
 use player_reads::read;
+use player_state::Seen;
+use player_state::State;
 use player_watches::set;
 
 // Whether a reply accepts.
@@ -19,12 +19,12 @@ fn accepts(reply: Reply) -> bool {
     }
 }
 
-// The desk after an opening. One that is refused leaves the head for the next call.
-fn opened(desk: Desk, made: Made) -> Desk {
+// The state after an opening. One that is refused leaves the head for the next call.
+fn opened(state: State, made: Made) -> State {
     let reply = made.reply;
     let records = made.records;
-    let head = desk.head;
-    let answered = desk.answered(reply, Seen::Bytes);
+    let head = state.head;
+    let answered = state.answered(reply, Seen::Bytes);
     if accepts(reply) {
         let fresh = reply.head;
         return answered.holding(fresh, records);
@@ -35,7 +35,7 @@ fn opened(desk: Desk, made: Made) -> Desk {
 // Makes the call of a line, where it asks for one: an opening and a quote write the tables, the others read them, with
 // the records or without.
 pub fn call(
-    desk: Desk,
+    state: State,
     line: Line,
     columns: &mut [u32],
     positions: &mut [u32],
@@ -43,11 +43,11 @@ pub fn call(
     upper_ends: &mut [u32],
     out: &mut [u8],
     cells: &mut [u32],
-) -> Desk {
+) -> State {
     let command = line.command;
     let n = line.numbers;
-    let head = desk.head;
-    let records = desk.records;
+    let head = state.head;
+    let records = state.records;
     match command {
         Command::Open => {
             let made = by_value::open(
@@ -60,7 +60,7 @@ pub fn call(
                 upper_ends,
                 records,
             );
-            opened(desk, made)
+            opened(state, made)
         }
         Command::Quote => {
             let quote = quoted(&n, line.count);
@@ -74,19 +74,12 @@ pub fn call(
                 records,
                 out,
             );
-            desk.answered(reply, Seen::Bytes)
+            state.answered(reply, Seen::Bytes)
         }
-        Command::Preview | Command::Watch | Command::End | Command::Pair | Command::Unpair => set(
-            desk,
-            line,
-            columns,
-            positions,
-            lower_ends,
-            upper_ends,
-            out,
-        ),
+        Command::Preview | Command::Watch(_) | Command::End(_) | Command::Pair | Command::Unpair =>
+            set(state, line, columns, positions, lower_ends, upper_ends, out),
         _ => read(
-            desk,
+            state,
             line,
             columns,
             positions,

@@ -2,10 +2,11 @@
 // space before each.
 mod words;
 
+use head::Desk;
 pub use words::quoted;
 pub use words::read_line;
 
-// What a line asks for. No line has come, or it is one that the player cannot take.
+// What a line asks for; of a watch and its end, whose it is. No line has come, or it is one that the player cannot take.
 pub enum Command {
     None,
     Unread,
@@ -14,8 +15,8 @@ pub enum Command {
     Preview,
     Look,
     Past,
-    Watch,
-    End,
+    Watch(Desk),
+    End(Desk),
     Pair,
     Unpair,
     Due,
@@ -26,7 +27,7 @@ pub enum Command {
     Show,
 }
 
-// What a line names: a table, the watches, or the output.
+// What a line names: a table, the n of the records, their desks, or the output.
 pub enum Name {
     None,
     Columns,
@@ -34,6 +35,7 @@ pub enum Name {
     Lower,
     Upper,
     Watches,
+    Desks,
     Out,
 }
 

@@ -2,6 +2,7 @@
 use crate::Command;
 use crate::Line;
 use crate::Name;
+use head::Desk;
 use notation::fields_from;
 
 // The numbers of a line behind its words: whether they are fair, how many there are, and zeros behind them.
@@ -93,6 +94,29 @@ fn numbers_from(line: &[u8], place: usize) -> Numbers {
     }
 }
 
+// The call on a watch or the pair that the bytes up to a place spell: those of desk two have a 2 behind the word.
+fn watch_of(line: &[u8], to: usize) -> Command {
+    if spells(line, 0, to, b"watch") {
+        return Command::Watch(Desk::One);
+    }
+    if spells(line, 0, to, b"watch2") {
+        return Command::Watch(Desk::Two);
+    }
+    if spells(line, 0, to, b"end") {
+        return Command::End(Desk::One);
+    }
+    if spells(line, 0, to, b"end2") {
+        return Command::End(Desk::Two);
+    }
+    if spells(line, 0, to, b"pair") {
+        return Command::Pair;
+    }
+    if spells(line, 0, to, b"unpair") {
+        return Command::Unpair;
+    }
+    Command::Unread
+}
+
 // The call on an opened book that the bytes up to a place spell.
 fn call_of(line: &[u8], to: usize) -> Command {
     if spells(line, 0, to, b"quote") {
@@ -107,22 +131,10 @@ fn call_of(line: &[u8], to: usize) -> Command {
     if spells(line, 0, to, b"past") {
         return Command::Past;
     }
-    if spells(line, 0, to, b"watch") {
-        return Command::Watch;
-    }
-    if spells(line, 0, to, b"end") {
-        return Command::End;
-    }
-    if spells(line, 0, to, b"pair") {
-        return Command::Pair;
-    }
-    if spells(line, 0, to, b"unpair") {
-        return Command::Unpair;
-    }
     if spells(line, 0, to, b"due") {
         return Command::Due;
     }
-    Command::Unread
+    watch_of(line, to)
 }
 
 // The command that the bytes up to a place spell.
@@ -165,6 +177,9 @@ fn name_of(line: &[u8], from: usize, to: usize) -> Name {
     if spells(line, from, to, b" watches") {
         return Name::Watches;
     }
+    if spells(line, from, to, b" desks") {
+        return Name::Desks;
+    }
     if spells(line, from, to, b" out") {
         return Name::Out;
     }
@@ -188,8 +203,8 @@ fn fits(command: Command, count: usize) -> bool {
         Command::Preview => true,
         Command::Look => count == 1,
         Command::Past => count == 2,
-        Command::Watch => count == 1,
-        Command::End => count == 1,
+        Command::Watch(_) => count == 1,
+        Command::End(_) => count == 1,
         Command::Pair => count == 2,
         Command::Unpair => count == 0,
         Command::Due => count == 0,

@@ -2,14 +2,14 @@
 use head::Answer;
 use head::Head;
 use head::Verdict;
-use player_desk::Desk;
-use player_desk::Seen;
 use player_output::Print;
 use player_output::flush;
 use player_output::put_bytes;
 use player_output::put_cells;
 use player_output::put_short;
 use player_output::put_word;
+use player_state::Seen;
+use player_state::State;
 
 // The number of an answer: 0 where it accepts.
 fn number(answer: Answer) -> u32 {
@@ -28,8 +28,8 @@ fn narrow(count: usize) -> u32 {
 }
 
 // Prints the reply of the last call.
-fn put_reply(print: Print, desk: Desk, gathered: &mut [u8]) -> Print {
-    let reply = desk.reply;
+fn put_reply(print: Print, state: State, gathered: &mut [u8]) -> Print {
+    let reply = state.reply;
     let answer = reply.answer;
     let head = reply.head;
     let numbers = [
@@ -48,8 +48,8 @@ fn put_reply(print: Print, desk: Desk, gathered: &mut [u8]) -> Print {
 }
 
 // Prints the verdict of the last audit.
-fn put_verdict(print: Print, desk: Desk, gathered: &mut [u8]) -> Print {
-    let verdict = desk.verdict;
+fn put_verdict(print: Print, state: State, gathered: &mut [u8]) -> Print {
+    let verdict = state.verdict;
     match verdict {
         Verdict::Yes => put_word(print, b"V yes\n", gathered),
         Verdict::No => put_word(print, b"V no\n", gathered),
@@ -81,9 +81,9 @@ fn column_cells(head: Head) -> usize {
     cells as usize
 }
 
-// Prints the records.
-fn put_records(print: Print, desk: Desk, gathered: &mut [u8]) -> Print {
-    let records = desk.records;
+// Prints the n of the records.
+fn put_sizes(print: Print, state: State, gathered: &mut [u8]) -> Print {
+    let records = state.records;
     let a = records[0];
     let b = records[1];
     let c = records[2];
@@ -96,29 +96,59 @@ fn put_records(print: Print, desk: Desk, gathered: &mut [u8]) -> Print {
     put_short(print, b'W', &numbers, gathered)
 }
 
+// Prints the desks of the records.
+fn put_desks(print: Print, state: State, gathered: &mut [u8]) -> Print {
+    let records = state.records;
+    let a = records[0];
+    let b = records[1];
+    let c = records[2];
+    let d = records[3];
+    let e = records[4];
+    let f = records[5];
+    let g = records[6];
+    let h = records[7];
+    let numbers = [
+        a.desk,
+        b.desk,
+        c.desk,
+        d.desk,
+        e.desk,
+        f.desk,
+        g.desk,
+        h.desk,
+    ];
+    put_short(print, b'D', &numbers, gathered)
+}
+
+// Prints the records: every n, then every desk.
+fn put_records(print: Print, state: State, gathered: &mut [u8]) -> Print {
+    let now = put_sizes(print, state, gathered);
+    put_desks(now, state, gathered)
+}
+
 // Prints the tables and the records.
 fn put_tables(
     print: Print,
-    desk: Desk,
+    state: State,
     columns: &[u32],
     positions: &[u32],
     lower_ends: &[u32],
     upper_ends: &[u32],
     gathered: &mut [u8],
 ) -> Print {
-    let head = desk.head;
+    let head = state.head;
     let n = places(head);
     let mut now = put_cells(print, b'C', columns, column_cells(head), gathered);
     now = put_cells(now, b'P', positions, n, gathered);
     now = put_cells(now, b'E', lower_ends, n, gathered);
     now = put_cells(now, b'U', upper_ends, n, gathered);
-    put_records(now, desk, gathered)
+    put_records(now, state, gathered)
 }
 
 // Prints a reply with the bytes that were written.
-fn put_bytes_reply(print: Print, desk: Desk, out: &[u8], gathered: &mut [u8]) -> Print {
-    let reply = desk.reply;
-    let now = put_reply(print, desk, gathered);
+fn put_bytes_reply(print: Print, state: State, out: &[u8], gathered: &mut [u8]) -> Print {
+    let reply = state.reply;
+    let now = put_reply(print, state, gathered);
     if reply.count == 0 {
         return now;
     }
@@ -128,13 +158,13 @@ fn put_bytes_reply(print: Print, desk: Desk, out: &[u8], gathered: &mut [u8]) ->
 // Prints a reply with the bytes that a preview wrote, and behind them the counts of live and held rows.
 fn put_preview(
     print: Print,
-    desk: Desk,
+    state: State,
     live: u32,
     held: u32,
     out: &[u8],
     gathered: &mut [u8],
 ) -> Print {
-    let now = put_bytes_reply(print, desk, out, gathered);
+    let now = put_bytes_reply(print, state, out, gathered);
     let numbers = [live, held];
     put_short(now, b'N', &numbers, gathered)
 }
@@ -142,12 +172,12 @@ fn put_preview(
 // Prints a reply with the first cells that were written, so many.
 fn put_cells_reply(
     print: Print,
-    desk: Desk,
+    state: State,
     cells: &[u32],
     count: usize,
     gathered: &mut [u8],
 ) -> Print {
-    let now = put_reply(print, desk, gathered);
+    let now = put_reply(print, state, gathered);
     if count == 0 {
         return now;
     }
@@ -169,7 +199,7 @@ fn put_unread(print: Print, gathered: &mut [u8]) -> Print {
 pub fn print_line(
     print: Print,
     found: bool,
-    desk: Desk,
+    state: State,
     columns: &[u32],
     positions: &[u32],
     lower_ends: &[u32],
@@ -183,19 +213,19 @@ pub fn print_line(
     }
     let mut now = print;
     now.lines = std::num::wrapping_add_u32(print.lines, 1);
-    let seen = desk.seen;
-    let reply = desk.reply;
+    let seen = state.seen;
+    let reply = state.reply;
     match seen {
         Seen::Nothing => now,
         Seen::Unread => put_unread(now, gathered),
-        Seen::Bytes => put_bytes_reply(now, desk, out, gathered),
-        Seen::Preview(live, held) => put_preview(now, desk, live, held, out, gathered),
-        Seen::Cells => put_cells_reply(now, desk, cells, reply.count, gathered),
-        Seen::Rows => put_cells_reply(now, desk, cells, row_cells(reply.count), gathered),
-        Seen::Verdict => put_verdict(now, desk, gathered),
+        Seen::Bytes => put_bytes_reply(now, state, out, gathered),
+        Seen::Preview(live, held) => put_preview(now, state, live, held, out, gathered),
+        Seen::Cells => put_cells_reply(now, state, cells, reply.count, gathered),
+        Seen::Rows => put_cells_reply(now, state, cells, row_cells(reply.count), gathered),
+        Seen::Verdict => put_verdict(now, state, gathered),
         Seen::Tables => put_tables(
             now,
-            desk,
+            state,
             columns,
             positions,
             lower_ends,

@@ -1,21 +1,21 @@
 // The calls that only read the tables and are lent no records: looks, what is due, and the audit.
-use player_desk::Desk;
-use player_desk::Seen;
 use player_lines::Command;
 use player_lines::Line;
+use player_state::Seen;
+use player_state::State;
 
 // A look.
 fn look(
-    desk: Desk,
+    state: State,
     line: Line,
     columns: &[u32],
     positions: &[u32],
     lower_ends: &[u32],
     upper_ends: &[u32],
     cells: &mut [u32],
-) -> Desk {
+) -> State {
     let n = line.numbers;
-    let head = desk.head;
+    let head = state.head;
     let reply = book::look(
         head,
         n[0],
@@ -25,21 +25,21 @@ fn look(
         upper_ends,
         cells,
     );
-    desk.answered(reply, Seen::Cells)
+    state.answered(reply, Seen::Cells)
 }
 
 // A look at a past list.
 fn past(
-    desk: Desk,
+    state: State,
     line: Line,
     columns: &[u32],
     positions: &[u32],
     lower_ends: &[u32],
     upper_ends: &[u32],
     cells: &mut [u32],
-) -> Desk {
+) -> State {
     let n = line.numbers;
-    let head = desk.head;
+    let head = state.head;
     let reply = book::past(
         head,
         n[0],
@@ -50,50 +50,50 @@ fn past(
         upper_ends,
         cells,
     );
-    desk.answered(reply, Seen::Cells)
+    state.answered(reply, Seen::Cells)
 }
 
 // What is due.
 fn due(
-    desk: Desk,
+    state: State,
     columns: &[u32],
     positions: &[u32],
     lower_ends: &[u32],
     upper_ends: &[u32],
     cells: &mut [u32],
-) -> Desk {
-    let head = desk.head;
+) -> State {
+    let head = state.head;
     let reply = book::due(head, columns, positions, lower_ends, upper_ends, cells);
-    desk.answered(reply, Seen::Rows)
+    state.answered(reply, Seen::Rows)
 }
 
 // The audit.
 fn audit(
-    desk: Desk,
+    state: State,
     columns: &[u32],
     positions: &[u32],
     lower_ends: &[u32],
     upper_ends: &[u32],
-) -> Desk {
-    let head = desk.head;
+) -> State {
+    let head = state.head;
     let verdict = audits::audit(head, columns, positions, lower_ends, upper_ends);
-    desk.judged(verdict)
+    state.judged(verdict)
 }
 
 // Makes the call of a line that only reads the tables and is lent no records, where it asks for one.
 pub fn read(
-    desk: Desk,
+    state: State,
     line: Line,
     columns: &[u32],
     positions: &[u32],
     lower_ends: &[u32],
     upper_ends: &[u32],
     cells: &mut [u32],
-) -> Desk {
+) -> State {
     let command = line.command;
     match command {
         Command::Look => look(
-            desk,
+            state,
             line,
             columns,
             positions,
@@ -102,7 +102,7 @@ pub fn read(
             cells,
         ),
         Command::Past => past(
-            desk,
+            state,
             line,
             columns,
             positions,
@@ -110,8 +110,8 @@ pub fn read(
             upper_ends,
             cells,
         ),
-        Command::Due => due(desk, columns, positions, lower_ends, upper_ends, cells),
-        Command::Audit => audit(desk, columns, positions, lower_ends, upper_ends),
-        _ => desk,
+        Command::Due => due(state, columns, positions, lower_ends, upper_ends, cells),
+        Command::Audit => audit(state, columns, positions, lower_ends, upper_ends),
+        _ => state,
     }
 }

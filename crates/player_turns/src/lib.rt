@@ -1,11 +1,11 @@
 // A turn of the book player: what one line asks for, done on as much of the buffers as is lent.
 ghost use Prim.Native.Nat.{_≤_};
 use player_calls::call;
-use player_desk::Desk;
-use player_desk::begin;
-use player_desk::poke;
 use player_lines::Command;
 use player_lines::Line;
+use player_state::State;
+use player_state::begin;
+use player_state::poke;
 
 // The lesser of two lengths.
 fn least(lent: usize, length: usize) -> usize
@@ -16,7 +16,7 @@ fn least(lent: usize, length: usize) -> usize
 
 // Plays a line: pokes its cell, or makes its call on the parts that are lent. A look is lent as many cells as bytes.
 pub fn play(
-    desk: Desk,
+    state: State,
     line: Line,
     columns: &mut [u32],
     positions: &mut [u32],
@@ -24,9 +24,9 @@ pub fn play(
     upper_ends: &mut [u32],
     out: &mut [u8],
     cells: &mut [u32],
-) -> Desk {
+) -> State {
     let command = line.command;
-    let begun = begin(desk, line);
+    let begun = begin(state, line);
     if let Command::Cell = command {
         return poke(begun, line, columns, positions, lower_ends, upper_ends);
     }

@@ -1,34 +1,35 @@
 // The calls that read the tables and are lent the records: the preview of a quote, and those that set and end watches and
 // the pair.
 use by_value::Made;
-use player_desk::Desk;
-use player_desk::Seen;
+use head::Desk;
 use player_lines::Command;
 use player_lines::Line;
 use player_lines::quoted;
+use player_state::Seen;
+use player_state::State;
 
-// The desk after a watch is set or ended.
-fn recorded(desk: Desk, made: Made) -> Desk {
+// The state after a watch is set or ended.
+fn recorded(state: State, made: Made) -> State {
     let reply = made.reply;
     let records = made.records;
     let next = reply.head;
-    let answered = desk.answered(reply, Seen::Bytes);
+    let answered = state.answered(reply, Seen::Bytes);
     answered.holding(next, records)
 }
 
 // A preview.
 fn preview(
-    desk: Desk,
+    state: State,
     line: Line,
     columns: &[u32],
     positions: &[u32],
     lower_ends: &[u32],
     upper_ends: &[u32],
     out: &mut [u8],
-) -> Desk {
+) -> State {
     let n = line.numbers;
-    let head = desk.head;
-    let records = desk.records;
+    let head = state.head;
+    let records = state.records;
     let quote = quoted(&n, line.count);
     let effect = by_value::preview(
         head,
@@ -40,11 +41,12 @@ fn preview(
         records,
         out,
     );
-    desk.answered(effect.reply, Seen::Preview(effect.live, effect.held))
+    state.answered(effect.reply, Seen::Preview(effect.live, effect.held))
 }
 
-// A watch.
+// A desk's watch.
 fn watch(
+    state: State,
     desk: Desk,
     line: Line,
     columns: &[u32],
@@ -52,12 +54,13 @@ fn watch(
     lower_ends: &[u32],
     upper_ends: &[u32],
     out: &mut [u8],
-) -> Desk {
+) -> State {
     let n = line.numbers;
-    let head = desk.head;
-    let records = desk.records;
+    let head = state.head;
+    let records = state.records;
     let made = by_value::watch(
         head,
+        desk,
         n[0],
         columns,
         positions,
@@ -66,23 +69,25 @@ fn watch(
         records,
         out,
     );
-    recorded(desk, made)
+    recorded(state, made)
 }
 
-// The end of a watch.
+// The end of a desk's watch.
 fn end(
+    state: State,
     desk: Desk,
     line: Line,
     columns: &[u32],
     positions: &[u32],
     lower_ends: &[u32],
     upper_ends: &[u32],
-) -> Desk {
+) -> State {
     let n = line.numbers;
-    let head = desk.head;
-    let records = desk.records;
+    let head = state.head;
+    let records = state.records;
     let made = by_value::end(
         head,
+        desk,
         n[0],
         columns,
         positions,
@@ -90,22 +95,22 @@ fn end(
         upper_ends,
         records,
     );
-    recorded(desk, made)
+    recorded(state, made)
 }
 
 // The pair set.
 fn pair(
-    desk: Desk,
+    state: State,
     line: Line,
     columns: &[u32],
     positions: &[u32],
     lower_ends: &[u32],
     upper_ends: &[u32],
     out: &mut [u8],
-) -> Desk {
+) -> State {
     let n = line.numbers;
-    let head = desk.head;
-    let records = desk.records;
+    let head = state.head;
+    let records = state.records;
     let reply = by_value::pair(
         head,
         n[0],
@@ -117,40 +122,57 @@ fn pair(
         records,
         out,
     );
-    desk.answered(reply, Seen::Bytes)
+    state.answered(reply, Seen::Bytes)
 }
 
 // The pair ended.
 fn unpair(
-    desk: Desk,
+    state: State,
     columns: &[u32],
     positions: &[u32],
     lower_ends: &[u32],
     upper_ends: &[u32],
-) -> Desk {
-    let head = desk.head;
-    let records = desk.records;
+) -> State {
+    let head = state.head;
+    let records = state.records;
     let reply = by_value::unpair(head, columns, positions, lower_ends, upper_ends, records);
-    desk.answered(reply, Seen::Bytes)
+    state.answered(reply, Seen::Bytes)
 }
 
 // Makes the call of a line that reads the tables and is lent the records, where it asks for one.
 pub fn set(
-    desk: Desk,
+    state: State,
     line: Line,
     columns: &[u32],
     positions: &[u32],
     lower_ends: &[u32],
     upper_ends: &[u32],
     out: &mut [u8],
-) -> Desk {
+) -> State {
     let command = line.command;
     match command {
-        Command::Preview => preview(desk, line, columns, positions, lower_ends, upper_ends, out),
-        Command::Watch => watch(desk, line, columns, positions, lower_ends, upper_ends, out),
-        Command::End => end(desk, line, columns, positions, lower_ends, upper_ends),
-        Command::Pair => pair(desk, line, columns, positions, lower_ends, upper_ends, out),
-        Command::Unpair => unpair(desk, columns, positions, lower_ends, upper_ends),
-        _ => desk,
+        Command::Preview => preview(state, line, columns, positions, lower_ends, upper_ends, out),
+        Command::Watch(desk) => watch(
+            state,
+            desk,
+            line,
+            columns,
+            positions,
+            lower_ends,
+            upper_ends,
+            out,
+        ),
+        Command::End(desk) => end(
+            state,
+            desk,
+            line,
+            columns,
+            positions,
+            lower_ends,
+            upper_ends,
+        ),
+        Command::Pair => pair(state, line, columns, positions, lower_ends, upper_ends, out),
+        Command::Unpair => unpair(state, columns, positions, lower_ends, upper_ends),
+        _ => state,
     }
 }

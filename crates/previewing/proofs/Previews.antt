@@ -28,7 +28,7 @@ tells-quote h x t ws r e q o =
     }
 
 -- the changes may be written by places of which there are n
-pub writable-in : {h : Head} {x : List ℕ} {t : Tables} {ws : List ℕ} {f : Finding} {ps : List ℕ} → Entering h x t ws f ps → {n : ℕ} → length ps ≡ n
-    → Writable h (take (n - f .at) (drop (f .at) ps)) (t .lowerEnds) (heldRows h x (t .columns) (t .upperEnds))
-writable-in {h} {x} {t} {ws} {f} {ps} v e =
-    subst (λ (n : ℕ). Writable h (take (n - f .at) (drop (f .at) ps)) (t .lowerEnds) (heldRows h x (t .columns) (t .upperEnds))) e (writable v)
+pub writable-in : {h : Head} {x : List ℕ} {t : Tables} {ws : List ℕ} {room : ℕ} {f : Finding} {ps : List ℕ} → Entering h x t ws room f ps → {n : ℕ} → length ps ≡ n
+    → Writable h (f .lower) (take (n - f .at) (drop (f .at) ps)) (t .lowerEnds) (heldRows h x (t .columns) (t .upperEnds)) ws room
+writable-in {h} {x} {t} {ws} {room} {f} {ps} v e =
+    subst (λ (n : ℕ). Writable h (f .lower) (take (n - f .at) (drop (f .at) ps)) (t .lowerEnds) (heldRows h x (t .columns) (t .upperEnds)) ws room) e (writable v)

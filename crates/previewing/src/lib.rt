@@ -9,6 +9,7 @@ use head::Head;
 use head::Reply;
 use quoting::judge_row;
 use settling::find;
+use writing::accept;
 use writing::write;
 
 // What a preview tells of the reply that the quote would give: its answer and count, the head as it came, and how many rows are live and
@@ -37,11 +38,12 @@ pub fn preview(
     positions: &[u32],
     lower_ends: &[u32],
     upper_ends: &[u32],
-    watches: [u32; 8],
+    watches: [u64; 8],
     out: &mut [u8],
 ) -> Effect
     ensures { λ r. ⌜ Previewed head (now (quote .entry)) (tables (now (columns .entry)) (now (positions .entry)) (now («lower_ends» .entry)) (now («upper_ends» .entry))) watches (now (out .entry)) r (now (out .exit)) ⌝ }
 {
+    let room = out.len();
     let answer = judge_row(
         head,
         quote,
@@ -50,6 +52,7 @@ pub fn preview(
         lower_ends,
         upper_ends,
         watches,
+        room,
     );
     match answer {
         Answer::Accepted => {}
@@ -67,10 +70,9 @@ pub fn preview(
     let mut places = [0u16; 1024];
     let found = find(head, quote, columns, upper_ends, &mut places);
     let at = found.at;
-    let reply = write(
+    let count = write(
         head,
         found,
-        false,
         &places[at..],
         quote,
         columns,
@@ -79,5 +81,5 @@ pub fn preview(
         watches,
         out,
     );
-    effect_of(head, reply)
+    effect_of(head, accept(head, found, count))
 }

@@ -4,18 +4,19 @@ use mathlib.Core.Logic.{_⊎_, inl, inr}
 use Prim.Native.Nat.{ℕ, _+_, _-_, _*_, _≤_, _<_}
 use native.Mathlib.Nat.{add-assoc}
 use native.Mathlib.Omega.{arith}
-use mathlib.Core.Bool.{Bool, true, false, cond}
+use mathlib.Core.Bool.{Bool, true, false, _||_, cond}
 use mathlib.Core.List.{List, [], _∷_}
 use lib.Dec.{eqb}
 use lib.ListN.{length, getD}
-use borrow.Author.Tests.{ne-eqb}
+use borrow.Author.Tests.{eqb-true}
 use Rattle.lists.specs.Lists.{laid}
+use Rattle.lists.proofs.Booleans.{or-cases}
 use Rattle.lists.proofs.Runs.{order}
 use Rattle.octets.specs.Bytes.{number2, number4}
 use Rattle.frames.specs.declared.Shape.{Shape}
 use Rattle.frames.specs.declared.Shape.the-variants.{Columns, Size, SizePosition, SizePair, Bare, Position, Settings, Unknown}
 use Rattle.frames.specs.declared.Message.{Message}
-use Rattle.frames.specs.Kinds.{leaveKind, joinKind, pairLeaveKind, pairJoinKind, kinds, shapeIn, shapeOf, bodyLength}
+use Rattle.frames.specs.Kinds.{leaveKind, joinKind, leaveTwoKind, joinTwoKind, pairLeaveKind, pairJoinKind, kinds, shapeIn, shapeOf, bodyLength}
 use Rattle.frames.specs.Frames.{messageBy, messageAt, Reading, stays, readAt}
 use Rattle.frames.proofs.Shapes.{change-body, position-body}
 use Rattle.frames.proofs.ReadCases as cases
@@ -23,7 +24,7 @@ use Rattle.frames.proofs.ReadCases.{whole-next}
 use Rattle.frames.proofs.Reading.{told-at}
 use Rattle.text.specs.Text.{line, line2, Laid}
 use Rattle.text.proofs.Lines.{line-short, line2-short}
-use Rattle.printed.specs.Printed.{changeLine}
+use Rattle.printed.specs.Printed.{letterOf, changeLine}
 
 -- ---- where a frame ends
 
@@ -69,73 +70,111 @@ module _ (bytes : List ℕ) (place : ℕ) where
   abbrev message : Message
   message = messageAt bytes (place + 1) kind
 
-  -- 24 bytes of text suffice for the line of each 7 of frames: that of n and a position has at most 24, that of a position 14
-  pub line-fits : 7 * length (changeLine message) ≤ 24 * (1 + bodyLength kind)
+  -- 25 bytes of text suffice for the line of each 7 of frames: that of n and a position has at most 25, that of a position 14
+  pub line-fits : 7 * length (changeLine message) ≤ 25 * (1 + bodyLength kind)
   unfolding changeLine messageAt messageBy
   line-fits = go (shapeOf kind) refl
     where
-      change : (a b : Bool) (ns : List ℕ) → length ns ≡ 2 → length (cond a (line 45 ns) (cond b (line 43 ns) [])) ≤ 24
-      change true b ns e = omega (arith, line-short 45 ns)
-      change false true ns e = omega (arith, line-short 43 ns)
-      change false false ns e = omega arith
+      change : (a b : Bool) (letter : ℕ) (ns : List ℕ) → length ns ≡ 2 → length (cond a (line letter ns) (cond b (line2 letter 50 ns) [])) ≤ 25
+      change true b letter ns e = omega (arith, line-short letter ns)
+      change false true letter ns e = omega (arith, line2-short letter 50 ns)
+      change false false letter ns e = omega arith
 
-      position : (a b : Bool) (ns : List ℕ) → length ns ≡ 1 → length (cond a (line2 45 45 ns) (cond b (line2 43 43 ns) [])) ≤ 14
-      position true b ns e = omega (arith, line2-short 45 45 ns)
-      position false true ns e = omega (arith, line2-short 43 43 ns)
-      position false false ns e = omega arith
+      position : (a : Bool) (letter : ℕ) (ns : List ℕ) → length ns ≡ 1 → length (cond a (line2 letter letter ns) []) ≤ 14
+      position true letter ns e = omega (arith, line2-short letter letter ns)
+      position false letter ns e = omega arith
 
-      go : (shape : Shape) → shapeOf kind ≡ shape → 7 * length (changeLine (messageBy shape bytes (place + 1) kind)) ≤ 24 * (1 + bodyLength kind)
+      go : (shape : Shape) → shapeOf kind ≡ shape → 7 * length (changeLine (messageBy shape bytes (place + 1) kind)) ≤ 25 * (1 + bodyLength kind)
       go Columns e = omega arith
       go Size e = omega arith
       go SizePosition e =
-          omega (arith, change-body kind e, change (eqb kind leaveKind) (eqb kind joinKind) (number2 bytes (place + 1) ∷ number4 bytes (place + 1 + 2) ∷ []) refl)
+          omega (
+            arith,
+            change-body kind e,
+            change (eqb kind leaveKind || eqb kind joinKind) (eqb kind leaveTwoKind || eqb kind joinTwoKind) (letterOf kind)
+                (number2 bytes (place + 1) ∷ number4 bytes (place + 1 + 2) ∷ []) refl,
+          )
       go SizePair e = omega arith
       go Bare e = omega arith
-      go Position e = omega (arith, position-body kind e, position (eqb kind pairLeaveKind) (eqb kind pairJoinKind) (number4 bytes (place + 1) ∷ []) refl)
+      go Position e = omega (arith, position-body kind e, position (eqb kind pairLeaveKind || eqb kind pairJoinKind) (letterOf kind) (number4 bytes (place + 1) ∷ []) refl)
       go Settings e = omega arith
       go Unknown e = omega arith
 
+  -- the shape of each kind of change
+  same-shape : (a b : ℕ) (shape : Shape) → shapeOf a ≡ shape → shapeOf b ≡ shape → eqb kind a || eqb kind b ≡ true → shapeOf kind ≡ shape
+  same-shape a b shape u v e = go (or-cases (eqb kind a) (eqb kind b) e)
+    where
+      go : (eqb kind a ≡ true) ⊎ (eqb kind b ≡ true) → shapeOf kind ≡ shape
+      go (inl t) = ap shapeOf (eqb-true kind a t) ∙ u
+      go (inr t) = ap shapeOf (eqb-true kind b t) ∙ v
+
+  one-shape : eqb kind leaveKind || eqb kind joinKind ≡ true → shapeOf kind ≡ SizePosition
+  unfolding shapeOf shapeIn kinds
+  one-shape = same-shape leaveKind joinKind SizePosition refl refl
+
+  two-shape : eqb kind leaveTwoKind || eqb kind joinTwoKind ≡ true → shapeOf kind ≡ SizePosition
+  unfolding shapeOf shapeIn kinds
+  two-shape = same-shape leaveTwoKind joinTwoKind SizePosition refl refl
+
+  pair-shape : eqb kind pairLeaveKind || eqb kind pairJoinKind ≡ true → shapeOf kind ≡ Position
+  unfolding shapeOf shapeIn kinds
+  pair-shape = same-shape pairLeaveKind pairJoinKind Position refl refl
+
   -- the frame stands within the bytes, so its numbers and its line have room
-  module _ (room : ℕ) (h : place < readAt bytes place .next) (long : 24 * (readAt bytes place .next - place) ≤ 7 * room) where
-    pub change-asks : shapeOf kind ≡ SizePosition → (place + 7 ≤ length bytes) × (24 ≤ room)
+  module _ (room : ℕ) (h : place < readAt bytes place .next) (long : 25 * (readAt bytes place .next - place) ≤ 7 * room) where
+    change-asks : shapeOf kind ≡ SizePosition → (place + 7 ≤ length bytes) × (25 ≤ room)
     change-asks e = let t = told-at bytes place h in (omega (arith, t .next, t .inside, change-body kind e), omega (arith, t .next, change-body kind e))
 
-    pub position-asks : shapeOf kind ≡ Position → (place + 5 ≤ length bytes) × (14 ≤ room)
-    position-asks e = let t = told-at bytes place h in (omega (arith, t .next, t .inside, position-body kind e), omega (arith, t .next, position-body kind e))
+    pub one-asks : eqb kind leaveKind || eqb kind joinKind ≡ true → (place + 7 ≤ length bytes) × (24 ≤ room)
+    one-asks e = let a = change-asks (one-shape e) in (a .0, omega (arith, a .1))
+
+    pub two-asks : eqb kind leaveTwoKind || eqb kind joinTwoKind ≡ true → (place + 7 ≤ length bytes) × (25 ≤ room)
+    two-asks e = change-asks (two-shape e)
+
+    pub pair-asks : eqb kind pairLeaveKind || eqb kind pairJoinKind ≡ true → (place + 5 ≤ length bytes) × (14 ≤ room)
+    pair-asks e =
+        let t = told-at bytes place h in
+        let body = position-body kind (pair-shape e) in
+        (omega (arith, t .next, t .inside, body), omega (arith, t .next, body))
 
   -- the line of each kind of change
-  pub leave-line : kind ≡ leaveKind → changeLine message ≡ line 45 (number2 bytes (place + 1) ∷ number4 bytes (place + 3) ∷ [])
-  unfolding changeLine messageAt messageBy shapeOf shapeIn kinds
-  leave-line e = rw (e, add-assoc place 1 2)
+  pub one-line : {letter : ℕ} → letter ≡ letterOf kind → eqb kind leaveKind || eqb kind joinKind ≡ true
+      → changeLine message ≡ line letter (number2 bytes (place + 1) ∷ number4 bytes (place + 3) ∷ [])
+  unfolding changeLine messageAt messageBy
+  one-line l e = rw (one-shape e, e, l, add-assoc place 1 2)
 
-  pub join-line : kind ≡ joinKind → changeLine message ≡ line 43 (number2 bytes (place + 1) ∷ number4 bytes (place + 3) ∷ [])
-  unfolding changeLine messageAt messageBy shapeOf shapeIn kinds
-  join-line e = rw (e, add-assoc place 1 2)
+  pub two-line : {letter : ℕ} → letter ≡ letterOf kind → eqb kind leaveTwoKind || eqb kind joinTwoKind ≡ true
+      → changeLine message ≡ line2 letter 50 (number2 bytes (place + 1) ∷ number4 bytes (place + 3) ∷ [])
+  unfolding changeLine messageAt messageBy
+  two-line l e = rw (two-shape e, not-one (or-cases (eqb kind leaveTwoKind) (eqb kind joinTwoKind) e), e, l, add-assoc place 1 2)
+    where
+      not-one : (eqb kind leaveTwoKind ≡ true) ⊎ (eqb kind joinTwoKind ≡ true) → eqb kind leaveKind || eqb kind joinKind ≡ false
+      not-one (inl t) = rw (eqb-true kind leaveTwoKind t)
+      not-one (inr t) = rw (eqb-true kind joinTwoKind t)
 
-  pub pair-leave-line : kind ≡ pairLeaveKind → changeLine message ≡ line2 45 45 (number4 bytes (place + 1) ∷ [])
-  unfolding changeLine messageAt messageBy shapeOf shapeIn kinds
-  pair-leave-line e = rw e
-
-  pub pair-join-line : kind ≡ pairJoinKind → changeLine message ≡ line2 43 43 (number4 bytes (place + 1) ∷ [])
-  unfolding changeLine messageAt messageBy shapeOf shapeIn kinds
-  pair-join-line e = rw e
+  pub pair-line : {letter : ℕ} → letter ≡ letterOf kind → eqb kind pairLeaveKind || eqb kind pairJoinKind ≡ true
+      → changeLine message ≡ line2 letter letter (number4 bytes (place + 1) ∷ [])
+  unfolding changeLine messageAt messageBy
+  pair-line l e = rw (pair-shape e, e, l)
 
   -- a frame that is no change has no line
-  no-line : (kind ≡ leaveKind → ⊥) → (kind ≡ joinKind → ⊥) → (kind ≡ pairLeaveKind → ⊥) → (kind ≡ pairJoinKind → ⊥) → changeLine message ≡ []
-  unfolding changeLine messageAt messageBy
-  no-line l j l' j' = go (shapeOf kind)
-    where
-      go : (shape : Shape) → changeLine (messageBy shape bytes (place + 1) kind) ≡ []
-      go Columns = refl
-      go Size = refl
-      go SizePosition = rw (ne-eqb kind leaveKind l, ne-eqb kind joinKind j)
-      go SizePair = refl
-      go Bare = refl
-      go Position = rw (ne-eqb kind pairLeaveKind l', ne-eqb kind pairJoinKind j')
-      go Settings = refl
-      go Unknown = refl
+  module _ (one : eqb kind leaveKind || eqb kind joinKind ≡ false) (two : eqb kind leaveTwoKind || eqb kind joinTwoKind ≡ false)
+      (pair : eqb kind pairLeaveKind || eqb kind pairJoinKind ≡ false) where
+    no-line : changeLine message ≡ []
+    unfolding changeLine messageAt messageBy
+    no-line = go (shapeOf kind)
+      where
+        go : (shape : Shape) → changeLine (messageBy shape bytes (place + 1) kind) ≡ []
+        go Columns = refl
+        go Size = refl
+        go SizePosition = rw (one, two)
+        go SizePair = refl
+        go Bare = refl
+        go Position = rw pair
+        go Settings = refl
+        go Unknown = refl
 
-  -- nothing is laid
-  pub nothing-laid : (kind ≡ leaveKind → ⊥) → (kind ≡ joinKind → ⊥) → (kind ≡ pairLeaveKind → ⊥) → (kind ≡ pairJoinKind → ⊥) → (before : List ℕ) → Laid (changeLine message) before 0 before
-  unfolding laid
-  nothing-laid l j l' j' before = rw (no-line l j l' j') (record { counted = refl; text = refl })
+    -- nothing is laid
+    pub nothing-laid : (before : List ℕ) → Laid (changeLine message) before 0 before
+    unfolding laid
+    nothing-laid before = rw no-line (record { counted = refl; text = refl })

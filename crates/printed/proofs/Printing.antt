@@ -1,6 +1,6 @@
 -- The lines of changes laid one behind the other: the invariant of the loop that lays them.
 use mathlib.Core.Path.{_≡_, refl, sym, ap, _∙_}
-use Prim.Native.Nat.{ℕ, zero, suc, _+_, _-_, _*_, _≤_, _<_}
+use Prim.Native.Nat.{ℕ, suc, _+_, _-_, _*_, _≤_, _<_}
 use native.Mathlib.Omega.{arith}
 use mathlib.Core.List.{List, [], _∷_, _++_, append-nil, append-assoc}
 use lib.ListN.{length, getD, length-append}
@@ -23,19 +23,19 @@ lines-more m ms = refl
 
 -- ---- the loop
 
--- some frames are read, the next one ends at next: their lines stand at the front, at most 24 bytes for each 7 of theirs, and the lines of
+-- some frames are read, the next one ends at next: their lines stand at the front, at most 25 bytes for each 7 of theirs, and the lines of
 -- the frames to come are all that is missing
 pub record Printing (bytes before text : List ℕ) (at place next : ℕ) : Type 0 where
-  pub enough : 24 * length bytes ≤ 7 * length before
+  pub enough : 25 * length bytes ≤ 7 * length before
   pub ahead : next ≡ readAt bytes place .next
   pub most : ℕ
   pub fuel : length bytes ≤ place + most
   pub lines : List ℕ
-  pub short : 7 * length lines ≤ 24 * place
+  pub short : 7 * length lines ≤ 25 * place
   pub front : Front lines before text at
   pub rest : changesText bytes ≡ lines ++ changeLines (messagesFrom most bytes place)
 
-pub printing-start : (bytes before : List ℕ) (next : ℕ) → 24 * length bytes ≤ 7 * length before → next ≡ readAt bytes 0 .next → Printing bytes before before 0 0 next
+pub printing-start : (bytes before : List ℕ) (next : ℕ) → 25 * length bytes ≤ 7 * length before → next ≡ readAt bytes 0 .next → Printing bytes before before 0 0 next
 unfolding changesText
 printing-start bytes before next h e =
     record {
@@ -72,7 +72,7 @@ module _ (bytes : List ℕ) {before text : List ℕ} {at place next : ℕ} (v : 
     printing-at = let f = v .front in omega (arith, f .place, f .long, v .short, v .enough, next-inside)
 
     -- there is room for its line
-    pub printing-room : 24 * (readAt bytes place .next - place) ≤ 7 * (length text - at)
+    pub printing-room : 25 * (readAt bytes place .next - place) ≤ 7 * (length text - at)
     printing-room = let f = v .front in omega (arith, f .place, f .long, v .short, v .enough, v .ahead, next-inside)
 
     abbrev message : Message
@@ -90,7 +90,7 @@ module _ (bytes : List ℕ) {before text : List ℕ} {at place next : ℕ} (v : 
     -- its line is laid into the rest of the text
     module _ {last : List ℕ} {used next' : ℕ} (l : Laid (changeLine message) (midOf at (length text - at) text) used last) (e : next' ≡ readAt bytes next .next) where
       -- the lines up to there are short
-      more-short : 7 * length (v .lines ++ changeLine message) ≤ 24 * next
+      more-short : 7 * length (v .lines ++ changeLine message) ≤ 25 * next
       more-short = rw length-append (omega (arith, v .short, v .ahead, frame-there .next, line-fits bytes place))
 
       pub printing-more : Printing bytes before (putMid at (length text - at) text last) (at + used) next next'

@@ -6,9 +6,11 @@ ghost use lib.ListN.{length, getD, take};
 ghost use Rattle.octets.specs.Bytes.{number2, number4};
 ghost use Rattle.frames.specs.Frames.{messageAt, readAt};
 ghost use Rattle.text.specs.Text.{line, line2, Laid};
-ghost use Rattle.printed.specs.Printed.{changeLine, changesText};
+ghost use Rattle.printed.specs.Printed.{letterOf, changeLine, changesText};
 use frames::JOIN;
+use frames::JOIN_TWO;
 use frames::LEAVE;
+use frames::LEAVE_TWO;
 use frames::PAIR_JOIN;
 use frames::PAIR_LEAVE;
 use frames::body_length;
@@ -46,6 +48,17 @@ fn put_numbers(letter: u8, bytes: &[u8], place: usize, text: &mut [u8]) -> usize
     put_line(letter, &[n, position], text)
 }
 
+// Lays the same line with a 2 behind the letter. Returns how many bytes.
+fn put_numbers_two(letter: u8, bytes: &[u8], place: usize, text: &mut [u8]) -> usize
+    requires { ⌜ place + 7 ≤ length (now bytes) ⌝ }
+    requires { ⌜ 25 ≤ length (now text) ⌝ }
+    ensures { λ r. ⌜ Laid (line2 letter 50 (number2 (now (bytes .entry)) (place + 1) ∷ number4 (now (bytes .entry)) (place + 3) ∷ [])) (now (text .entry)) r (now (text .exit)) ⌝ }
+{
+    let n = two_at(bytes, place + 1) as u32;
+    let position = four_at(bytes, place + 3);
+    put_line2(letter, 50, &[n, position], text)
+}
+
 // Lays the line of a position, which stands in the frame at a place, behind a letter that stands twice. Returns how many bytes.
 fn put_position(letter: u8, bytes: &[u8], place: usize, text: &mut [u8]) -> usize
     requires { ⌜ place + 5 ≤ length (now bytes) ⌝ }
@@ -56,32 +69,41 @@ fn put_position(letter: u8, bytes: &[u8], place: usize, text: &mut [u8]) -> usiz
     put_line2(letter, letter, &[position], text)
 }
 
-// Lays the line of the frame at a place, and returns how many bytes: none for a frame that is no change. 24 bytes of text suffice for each 7
+// The letter of a change's line, by its kind: - for a leave, + for a join.
+fn letter_of(kind: u8) -> u8
+    ensures { λ r. ⌜ r ≡ letterOf kind ⌝ }
+{
+    if (kind == LEAVE) | (kind == LEAVE_TWO) | (kind == PAIR_LEAVE) {
+        45
+    } else {
+        43
+    }
+}
+
+// Lays the line of the frame at a place, and returns how many bytes: none for a frame that is no change. 25 bytes of text suffice for each 7
 // of frames.
 fn put_change(bytes: &[u8], place: usize, text: &mut [u8]) -> usize
     requires { ⌜ place < readAt (now bytes) place .next ⌝ }
-    requires { ⌜ 24 * (readAt (now bytes) place .next - place) ≤ 7 * length (now text) ⌝ }
+    requires { ⌜ 25 * (readAt (now bytes) place .next - place) ≤ 7 * length (now text) ⌝ }
     ensures { λ r. ⌜ Laid (changeLine (messageAt (now (bytes .entry)) (place + 1) (getD (now (bytes .entry)) place 0))) (now (text .entry)) r (now (text .exit)) ⌝ }
 {
     let kind = bytes[place];
-    if kind == LEAVE {
-        return put_numbers(45, bytes, place, text);
+    let letter = letter_of(kind);
+    if (kind == LEAVE) | (kind == JOIN) {
+        return put_numbers(letter, bytes, place, text);
     }
-    if kind == JOIN {
-        return put_numbers(43, bytes, place, text);
+    if (kind == LEAVE_TWO) | (kind == JOIN_TWO) {
+        return put_numbers_two(letter, bytes, place, text);
     }
-    if kind == PAIR_LEAVE {
-        return put_position(45, bytes, place, text);
-    }
-    if kind == PAIR_JOIN {
-        return put_position(43, bytes, place, text);
+    if (kind == PAIR_LEAVE) | (kind == PAIR_JOIN) {
+        return put_position(letter, bytes, place, text);
     }
     0
 }
 
 // Lays the lines of the changes whose frames stand in the bytes, and returns how many bytes of text.
 fn put_frames(bytes: &[u8], text: &mut [u8]) -> usize
-    requires { ⌜ 24 * length (now bytes) ≤ 7 * length (now text) ⌝ }
+    requires { ⌜ 25 * length (now bytes) ≤ 7 * length (now text) ⌝ }
     ensures { λ r. ⌜ Laid (changesText (now (bytes .entry))) (now (text .entry)) r (now (text .exit)) ⌝ }
 {
     let mut at = 0;
@@ -99,7 +121,7 @@ fn put_frames(bytes: &[u8], text: &mut [u8]) -> usize
 // Lays the lines of the changes whose frames are the first count bytes, and returns how many bytes of text.
 pub fn put_changes(bytes: &[u8], count: usize, text: &mut [u8]) -> usize
     requires { ⌜ count ≤ length (now bytes) ⌝ }
-    requires { ⌜ 24 * count ≤ 7 * length (now text) ⌝ }
+    requires { ⌜ 25 * count ≤ 7 * length (now text) ⌝ }
     ensures { λ r. ⌜ Laid (changesText (take count (now (bytes .entry)))) (now (text .entry)) r (now (text .exit)) ⌝ }
 {
     put_frames(&bytes[..count], text)

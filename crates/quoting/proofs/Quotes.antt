@@ -1,28 +1,29 @@
--- A quote on a book: what is known once its rows are compared with it, and what it leaves.
+-- A quote on a book: what is known once it is accepted and its rows are compared with it, and what it leaves.
 use mathlib.Core.Path.{_≡_, refl, sym, ap, ap₂, _∙_}
 use Prim.Native.Nat.{ℕ, _+_, _-_, _≤_}
 use native.Mathlib.Omega.{arith}
 use mathlib.Core.Bool.{false}
 use mathlib.Core.List.{List, _++_}
-use lib.Seq.{take-all}
-use lib.ListN.{length, take, drop, length-drop}
-use borrow.Author.Tests.{leb-false, eqb-true, not-false}
 use lib.Dec.{eqb}
+use lib.ListN.{length, take, drop, length-drop}
+use lib.Seq.{take-all}
+use borrow.Author.Tests.{ltb-false, leb-false, eqb-true, not-false}
+use Rattle.lists.specs.Lists.{laid}
 use Rattle.skyline.specs.Skyline.{windowStart}
 use Rattle.head.specs.declared.Head.{Head}
 use Rattle.head.specs.declared.Answer.{Answer}
 use Rattle.head.specs.declared.Answer.the-variants.{Accepted, Refused}
 use Rattle.head.specs.declared.Refusal.{Refusal}
 use Rattle.head.specs.declared.Reply.{Reply}
-use Rattle.head.specs.Heads.{lastPosition}
-use Rattle.head.specs.Refusals.{numberOf, granted}
-use Rattle.head.specs.Replies.{Outcome, outcome}
+use Rattle.head.specs.Heads.{lastPosition, afterQuote}
+use Rattle.head.specs.Refusals.{numberOf}
+use Rattle.head.specs.Replies.{outcome}
 use Rattle.head.proofs.Numbers.{zero-passed}
 use Rattle.model.specs.Rows.{Row, Tables, filled, rowsAfter}
-use Rattle.model.specs.Changes.{allChanges, pairChanges}
-use Rattle.model.specs.Book.{tornWatches, bookRows, standing, listOf, pairListOf, watchfulAnswer, quoteRows, quoteHead, quoteBytes, quoteAnswer, quoteReply, quoteTables, quoteOut, replyOf}
+use Rattle.model.specs.Changes.{allChanges, pairChanges, changeRoom}
+use Rattle.model.specs.Book.{tornWatches, bookRows, standing, listOf, pairListOf, quoteRows, quoteHead, quoteBytes, quoteAnswer, quoteReply, quoteTables, quoteOut}
 use Rattle.model.specs.Promises.{Quoted}
-use Rattle.model.proofs.Replying.{refused-reply, refused-left, accepted-left}
+use Rattle.model.proofs.Replying.{refused-reply, refused-left, accepted-reply, accepted-left}
 use Rattle.model.proofs.ChangeFrames.{frames-append}
 use Rattle.model.proofs.ChangesFit.{changes-fit}
 use Rattle.finding.specs.Found.{Rows}
@@ -36,38 +37,44 @@ use Rattle.cells.specs.Marked.{Below}
 use Rattle.changes.specs.Watches.{allFrames}
 use Rattle.changes.proofs.Quoting.{quote-frames}
 use Rattle.pair_changes.proofs.Pairs.{pair-frames, paired}
-use Rattle.judging.proofs.Answering.{tested-more, stays, watchful-passed}
-use Rattle.quoting.specs.Answers.{rowAnswer}
-use Rattle.writing.specs.Bytes.{changeBytes, Countable, Writable, roomAnswer, Written}
+use Rattle.judging.proofs.Answering.{watchful-passed}
+use Rattle.writing.specs.Bytes.{changeBytes, Writable, acceptedReply}
 
--- what is known where a quote passed every test but the last
-pub admitted : (h : Head) (x : List ℕ) (t : Tables) (ws : List ℕ) → rowAnswer h x t ws ≡ 0 → Admitted h x t × (tornWatches (h .capacity) ws ≡ false)
-unfolding rowAnswer
-admitted h x t ws e =
+-- what is known where a quote is accepted
+pub record Taken (h : Head) (x : List ℕ) (t : Tables) (ws : List ℕ) (room : ℕ) : Type 0 where
+  pub admitted : Admitted h x t
+  pub untorn : tornWatches (h .capacity) ws ≡ false
+  pub wide : changeRoom ≤ room
+
+pub taken : (h : Head) (x : List ℕ) (t : Tables) (ws : List ℕ) (room : ℕ) → quoteAnswer h x t ws room ≡ 0 → Taken h x t ws room
+unfolding quoteAnswer
+taken h x t ws room e =
     let p = watchful-passed h t ws _ e in
     let c = zero-passed _ _ _ (p .2) in
-    let f = zero-passed _ _ _ (c .1) in (
-      record {
+    let f = zero-passed _ _ _ (c .1) in
+    record {
+      admitted = record {
         passed = p .0;
         wide = eqb-true (length x) (h .dimensions) (not-false (eqb (length x) (h .dimensions)) (c .0));
         below = leb-false lastPosition (h .newest) (f .0);
-      },
-      p .1,
-    )
+      };
+      untorn = p .1;
+      wide = ltb-false room changeRoom (zero-passed _ _ _ (f .1) .0);
+    }
 
 -- the rows are few
 pub few-held : {h : Head} {x : List ℕ} {t : Tables} → Admitted h x t → h .held ≤ 1024
 few-held a = omega (arith, places a .2, within a .small-capacity)
 
 -- ---- once the rows are compared with the quote
-pub record Entering (h : Head) (x : List ℕ) (t : Tables) (ws : List ℕ) (f : Finding) (ps : List ℕ) : Type 0 where
-  pub accepted : rowAnswer h x t ws ≡ 0
+pub record Entering (h : Head) (x : List ℕ) (t : Tables) (ws : List ℕ) (room : ℕ) (f : Finding) (ps : List ℕ) : Type 0 where
+  pub accepted : quoteAnswer h x t ws room ≡ 0
   pub eight : length ws ≡ 8
   pub finds : Finds h x (t .columns) (t .upperEnds) ps f
 
-module _ {h : Head} {x : List ℕ} {t : Tables} {ws : List ℕ} {f : Finding} {ps : List ℕ} (v : Entering h x t ws f ps) where
+module _ {h : Head} {x : List ℕ} {t : Tables} {ws : List ℕ} {room : ℕ} {f : Finding} {ps : List ℕ} (v : Entering h x t ws room f ps) where
   abbrev pub book : Admitted h x t
-  book = admitted h x t ws (v .accepted) .0
+  book = taken h x t ws room (v .accepted) .admitted
 
   abbrev rows : Rows
   rows = heldRows h x (t .columns) (t .upperEnds)
@@ -81,7 +88,7 @@ module _ {h : Head} {x : List ℕ} {t : Tables} {ws : List ℕ} {f : Finding} {p
   bytes-are =
       ap₂ {C = List ℕ} (λ (k l : List ℕ). k ++ l)
       (ap (allFrames h (t .lowerEnds) rows (f .lower)) (sym (take-all 8 ws (omega (arith, v .eight))))
-      ∙ quote-frames h t x (f .lower) (whole book) (book .below) (within book .some-capacity) (found-lower book (v .finds)) ws (admitted h x t ws (v .accepted) .1))
+      ∙ quote-frames h t x (f .lower) (whole book) (book .below) (within book .some-capacity) (found-lower book (v .finds)) ws (taken h x t ws room (v .accepted) .untorn))
       (pair-frames h t (whole book) (book .passed .pair-fair) (book .below) x ws)
       ∙ sym (frames-append (allChanges (standing ws) (listOf h (bookRows h t)) (listOf next rest)) (pairChanges (pairListOf h (bookRows h t)) (pairListOf next rest)))
     where
@@ -96,20 +103,6 @@ module _ {h : Head} {x : List ℕ} {t : Tables} {ws : List ℕ} {f : Finding} {p
   unfolding windowStart expiredPlaces
   window-filled = omega (arith, held-is book, within book .some-capacity)
 
-  -- what is asked before the changes are counted
-  pub countable : Countable h (f .lower) (t .lowerEnds) rows ws
-  countable = record {
-    untorn = admitted h x t ws (v .accepted) .1;
-    full = record {
-      fits = rows-fit book;
-      lower-room = omega (arith, places book .2, long book .lowerEnds);
-      filled = window-filled .0;
-      space = book .below;
-    };
-    paired = paired h t (whole book) (book .passed .pair-fair) (book .below) (few-held book) (omega (arith, places book .2, long book .lowerEnds)) (omega (arith, places book .2, long book .upperEnds));
-    most = rw bytes-are (changes-fit h x t ws (book .passed .held) (book .passed .untorn) (book .passed .pair-fair) .bytes-most);
-  }
-
   -- the part of the places that lists the retired rows
   abbrev retired : List ℕ
   retired = take (length ps - f .at) (drop (f .at) ps)
@@ -117,11 +110,26 @@ module _ {h : Head} {x : List ℕ} {t : Tables} {ws : List ℕ} {f : Finding} {p
   retired-is : retired ≡ drop (f .at) ps
   retired-is = take-all (length ps - f .at) (drop (f .at) ps) (omega (arith, length-drop (f .at) ps))
 
-  -- and before they are written
-  pub writable : Writable h retired (t .lowerEnds) rows
+  -- what is asked before the changes are written
+  pub writable : Writable h (f .lower) retired (t .lowerEnds) rows ws room
   writable = record {
     few = omega (arith, within book .small-capacity);
+    untorn = taken h x t ws room (v .accepted) .untorn;
+    full = record {
+      fits = rows-fit book;
+      lower-room = omega (arith, places book .2, long book .lowerEnds);
+      filled = window-filled .0;
+      space = book .below;
+    };
     outdone = record { from = expiredPlaces h; stays = window-filled .1; listed = retired-is ∙ v .finds .listed };
+    paired = paired h t (whole book) (book .passed .pair-fair) (book .below) (omega (arith, places book .2, long book .lowerEnds)) (omega (arith, places book .2, long book .upperEnds));
+    fits =
+        rw bytes-are
+        (omega (
+          arith,
+          changes-fit h x t ws (book .passed .held) (book .passed .untorn) (book .passed .pair-fair) .bytes-most,
+          taken h x t ws room (v .accepted) .wide,
+        ));
   }
 
   -- the retired places are those of rows held
@@ -132,42 +140,33 @@ module _ {h : Head} {x : List ℕ} {t : Tables} {ws : List ℕ} {f : Finding} {p
   pub uppers-settled : {us : List ℕ} → us ≡ uppersPut h (f .by) retired (t .upperEnds) → us ≡ uppersPut h (f .by) (drop (f .at) ps) (t .upperEnds)
   uppers-settled e = e ∙ rw retired-is
 
-  -- what is left once the changes are written or refused
-  module _ {out after : List ℕ} {r : Reply} (w : Written h (f .live) (f .held) bytes out r after) where
-    -- the room for the changes decides
-    room-decides : roomAnswer (length out) bytes ≡ quoteAnswer h x t ws (length out)
-    unfolding rowAnswer quoteAnswer watchfulAnswer granted
-    room-decides = rw bytes-are (tested-more _ _ (sym (v .accepted)) refl refl)
+  -- an accepted quote is answered with no number
+  answered : numberOf Accepted ≡ quoteAnswer h x t ws room
+  answered = sym (v .accepted)
 
-    -- so that the reply is the quote's
-    pub reply-is : outcome r ≡ quoteReply h x t ws (length out)
-    unfolding quoteReply quoteHead quoteRows
-    reply-is = w .reply ∙ rw (room-decides, found-live book (v .finds), found-held book (v .finds), bytes-are)
+  -- what is handed back once so many bytes are written is the quote's reply
+  pub reply-is : {count : ℕ} {r : Reply} → count ≡ length bytes → r ≡ acceptedReply h (f .live) (f .held) count → outcome r ≡ quoteReply h x t ws room
+  unfolding quoteReply quoteHead quoteRows
+  reply-is c e =
+      ap outcome e
+      ∙ accepted-reply answered refl h (rw (found-live book (v .finds), found-held book (v .finds))) (rw bytes-are at c)
 
-    answer-is : numberOf (r .answer) ≡ quoteAnswer h x t ws (length out)
-    unfolding quoteReply replyOf
-    answer-is = ap Outcome.number reply-is
+-- and the output is as the quote leaves it
+pub out-is : {h : Head} {x : List ℕ} {t : Tables} {ws : List ℕ} {f : Finding} {ps : List ℕ} (out : List ℕ) {after : List ℕ} → (v : Entering h x t ws (length out) f ps)
+    → after ≡ laid (changeBytes h (f .lower) (t .lowerEnds) (heldRows h x (t .columns) (t .upperEnds)) ws) out → after ≡ quoteOut h x t ws out
+unfolding quoteOut
+out-is out v l = accepted-left (answered v) refl out (rw (bytes-are v) at l)
 
-    -- and the output is as the quote leaves it
-    pub out-is : after ≡ quoteOut h x t ws out
-    unfolding quoteOut
-    out-is = w .out ∙ rw (room-decides, bytes-are)
+-- the rows after the quote fill the tables
+pub quote-done : {h : Head} {x : List ℕ} {t : Tables} {ws : List ℕ} {f : Finding} {ps : List ℕ} (out : List ℕ) {after : List ℕ} {count : ℕ} {r : Reply} {t' : Tables} → (v : Entering h x t ws (length out) f ps)
+    → count ≡ length (changeBytes h (f .lower) (t .lowerEnds) (heldRows h x (t .columns) (t .upperEnds)) ws) → r ≡ acceptedReply h (f .live) (f .held) count
+    → after ≡ laid (changeBytes h (f .lower) (t .lowerEnds) (heldRows h x (t .columns) (t .upperEnds)) ws) out
+    → t' ≡ filled (h .dimensions) (h .capacity) (rowsAfter (h .dimensions) (h .directions) (h .capacity) (h .newest) x (bookRows h t)) t → Quoted h x t ws out r t' after
+unfolding quoteTables quoteRows
+quote-done {t = t} out v c e o l = record { reply = reply-is v c e; lent = accepted-left (answered v) refl t l; out = out-is out v o }
 
-    -- where the changes do not fit, everything lent stays as it was
-    pub quote-full : {k : Refusal} → r .answer ≡ Refused k → Quoted h x t ws out r t after
-    unfolding quoteTables
-    quote-full e = record { reply = reply-is; lent = refused-left answer-is e t _; out = out-is }
-
-    -- else the rows after the quote fill the tables
-    pub quote-done : {t' : Tables} → r .answer ≡ Accepted
-        → t' ≡ filled (h .dimensions) (h .capacity) (rowsAfter (h .dimensions) (h .directions) (h .capacity) (h .newest) x (bookRows h t)) t → Quoted h x t ws out r t' after
-    unfolding quoteTables quoteRows
-    quote-done e l = record { reply = reply-is; lent = accepted-left answer-is e t l; out = out-is }
-
--- a quote that is refused before its rows are compared leaves everything as it was
-pub quote-refused : (h : Head) (x : List ℕ) (t : Tables) (ws out : List ℕ) {a : Answer} {k : Refusal} → numberOf a ≡ rowAnswer h x t ws → a ≡ Refused k
+-- a quote that is refused leaves everything as it was
+pub quote-refused : (h : Head) (x : List ℕ) (t : Tables) (ws out : List ℕ) {a : Answer} {k : Refusal} → numberOf a ≡ quoteAnswer h x t ws (length out) → a ≡ Refused k
     → Quoted h x t ws out (record { answer = a; head = h; count = 0 }) t out
-unfolding rowAnswer quoteAnswer watchfulAnswer quoteReply quoteTables quoteOut
-quote-refused h x t ws out {a} e f =
-    let judged : numberOf a ≡ quoteAnswer h x t ws (length out) = stays _ _ e f refl in
-    record { reply = refused-reply judged f h _ _; lent = refused-left judged f t _; out = refused-left judged f out _ }
+unfolding quoteReply quoteTables quoteOut
+quote-refused h x t ws out e f = record { reply = refused-reply e f h _ _; lent = refused-left e f t _; out = refused-left e f out _ }

@@ -1,25 +1,28 @@
-// The judgement of a quote but for the output, on any tables and on a book that calls left.
+// The judgement of a quote, on any tables and on a book that calls left.
 ghost use mathlib.Core.Path.{_≡_};
 ghost use Rattle.head.specs.Refusals.{numberOf, firstOf, granted};
+ghost use Rattle.model.specs.Book.{quoteAnswer};
 ghost use Rattle.model.specs.Promises.{tables};
-ghost use Rattle.quoting.specs.Answers.{quoteTests, rowAnswer, reachedAnswer};
+ghost use Rattle.quoting.specs.Answers.{quoteTests, reachedAnswer};
 use head::Answer;
 use head::Head;
 use head::Refusal;
 use judging::judge_settings;
 use judging::judge_watchful;
+use judging::short_output;
 use judging::with_test;
 
-// An answer with the tests of the quote itself behind it: 4, 6.
-fn with_quote(answer: Answer, head: Head, quote: &[u32]) -> Answer
-    ensures { λ r. ⌜ numberOf r ≡ granted (numberOf answer) (firstOf (quoteTests head (now (quote .entry)))) (numberOf answer) ⌝ }
+// An answer with the tests of the quote and of an output of this length behind it: 4, 6, 13.
+fn with_quote(answer: Answer, head: Head, quote: &[u32], room: usize) -> Answer
+    ensures { λ r. ⌜ numberOf r ≡ granted (numberOf answer) (firstOf (quoteTests head (now (quote .entry)) room)) (numberOf answer) ⌝ }
 {
     let d = head.dimensions as usize;
     let wide = with_test(answer, quote.len() != d, Refusal::ColumnCount);
-    with_test(wide, Head::MAX_POSITION <= head.newest, Refusal::TapeFull)
+    let below = with_test(wide, Head::MAX_POSITION <= head.newest, Refusal::TapeFull);
+    with_test(below, short_output(room), Refusal::ShortOutput)
 }
 
-// The answer of a quote but for the output: 3, 11, 12, 4, 6.
+// The answer of a quote with an output of this length.
 pub fn judge_row(
     head: Head,
     quote: &[u32],
@@ -27,17 +30,18 @@ pub fn judge_row(
     positions: &[u32],
     lower_ends: &[u32],
     upper_ends: &[u32],
-    watches: [u32; 8],
+    watches: [u64; 8],
+    room: usize,
 ) -> Answer
-    ensures { λ r. ⌜ numberOf r ≡ rowAnswer head (now (quote .entry)) (tables (now (columns .entry)) (now (positions .entry)) (now («lower_ends» .entry)) (now («upper_ends» .entry))) watches ⌝ }
+    ensures { λ r. ⌜ numberOf r ≡ quoteAnswer head (now (quote .entry)) (tables (now (columns .entry)) (now (positions .entry)) (now («lower_ends» .entry)) (now («upper_ends» .entry))) watches room ⌝ }
 {
     let judged = judge_watchful(head, columns, positions, lower_ends, upper_ends, watches);
-    with_quote(judged, head, quote)
+    with_quote(judged, head, quote, room)
 }
 
-// The answer of a quote on a book that calls left, but for the output: 3, 4, 6.
-pub fn judge_reached(head: Head, quote: &[u32]) -> Answer
-    ensures { λ r. ⌜ numberOf r ≡ reachedAnswer head (now (quote .entry)) ⌝ }
+// The answer of a quote on a book that calls left: 3, 4, 6, 13.
+pub fn judge_reached(head: Head, quote: &[u32], room: usize) -> Answer
+    ensures { λ r. ⌜ numberOf r ≡ reachedAnswer head (now (quote .entry)) room ⌝ }
 {
-    with_quote(judge_settings(head), head, quote)
+    with_quote(judge_settings(head), head, quote, room)
 }

@@ -1,11 +1,12 @@
 // The quote in stages: it is judged; what it does to the rows is found; its changes are written; the tables are settled, one at a time.
 ghost use mathlib.Core.Path.{_≡_};
+ghost use lib.ListN.{length};
+ghost use Rattle.model.specs.Book.{quoteAnswer};
 ghost use Rattle.model.specs.Calls.{Reached};
 ghost use Rattle.model.specs.Promises.{tables, world, Quoted};
 ghost use Rattle.settling.specs.Findings.{heldRows, Finds};
 ghost use Rattle.settling.specs.Settled.{Known};
 ghost use Rattle.writing.specs.Bytes.{SoundIf};
-ghost use Rattle.quoting.specs.Answers.{rowAnswer};
 
 mod judged;
 
@@ -17,40 +18,35 @@ pub use judged::judge_row;
 use settling::Finding;
 use settling::find;
 use settling::find_reached;
-use settling::named_before;
 use settling::settle;
 use settling::settle_lower_ends;
 use settling::settle_upper_ends;
+use writing::accept;
 use writing::write;
 
-// Enters a quote that passed every test but the last, by what was found. Of the tables' places only those below used may hold anything,
-// lower ends that name the expired position stand below place named, and sound says that the rows' ends are as calls leave them.
+// Enters an accepted quote by what was found.
 fn enter(
     head: Head,
     found: Finding,
     places: &[u16],
-    named: usize,
-    used: usize,
-    sound: bool,
     quote: &[u32],
     columns: &mut [u32],
     positions: &mut [u32],
     lower_ends: &mut [u32],
     upper_ends: &mut [u32],
-    watches: [u32; 8],
+    watches: [u64; 8],
     out: &mut [u8],
 ) -> Reply
-    requires { ⌜ rowAnswer head (now quote) (tables (now columns) (now positions) (now «lower_ends») (now «upper_ends»)) watches ≡ 0 ⌝ }
+    requires { ⌜ quoteAnswer head (now quote) (tables (now columns) (now positions) (now «lower_ends») (now «upper_ends»)) watches (length (now out)) ≡ 0 ⌝ }
     requires { ⌜ Finds head (now quote) (now columns) (now «upper_ends») (now places) found ⌝ }
-    requires { ⌜ Known head used named (tables (now columns) (now positions) (now «lower_ends») (now «upper_ends»)) ⌝ }
-    requires { ⌜ SoundIf sound head (now «lower_ends») (heldRows head (now quote) (now columns) (now «upper_ends»)) ⌝ }
+    requires { ⌜ Known head (found .knows) (tables (now columns) (now positions) (now «lower_ends») (now «upper_ends»)) ⌝ }
+    requires { ⌜ SoundIf (found .knows .sound) head (now «lower_ends») (heldRows head (now quote) (now columns) (now «upper_ends»)) ⌝ }
     ensures { λ r. ⌜ Quoted head (now (quote .entry)) (tables (now (columns .entry)) (now (positions .entry)) (now («lower_ends» .entry)) (now («upper_ends» .entry))) watches (now (out .entry)) r (tables (now (columns .exit)) (now (positions .exit)) (now («lower_ends» .exit)) (now («upper_ends» .exit))) (now (out .exit)) ⌝ }
 {
     let at = found.at;
-    let reply = write(
+    let count = write(
         head,
         found,
-        sound,
         &places[at..],
         quote,
         columns,
@@ -59,20 +55,14 @@ fn enter(
         watches,
         out,
     );
-    let answer = reply.answer;
-    match answer {
-        Answer::Accepted => {}
-        Answer::Refused(_) => {
-            return reply;
-        }
-    }
     let d = head.dimensions as usize;
     let by = found.by;
+    let used = found.knows.used;
     settle(head, d, by, quote, used, columns);
     settle(head, 1, by, &[head.newest + 1], used, positions);
-    settle_lower_ends(head, found, named, used, lower_ends);
+    settle_lower_ends(head, found, lower_ends);
     settle_upper_ends(head, by, &places[at..], used, upper_ends);
-    reply
+    accept(head, found, count)
 }
 
 // Takes a quote on any tables: they are judged, and every place may hold anything.
@@ -83,11 +73,12 @@ pub fn quote(
     positions: &mut [u32],
     lower_ends: &mut [u32],
     upper_ends: &mut [u32],
-    watches: [u32; 8],
+    watches: [u64; 8],
     out: &mut [u8],
 ) -> Reply
     ensures { λ r. ⌜ Quoted head (now (quote .entry)) (tables (now (columns .entry)) (now (positions .entry)) (now («lower_ends» .entry)) (now («upper_ends» .entry))) watches (now (out .entry)) r (tables (now (columns .exit)) (now (positions .exit)) (now («lower_ends» .exit)) (now («upper_ends» .exit))) (now (out .exit)) ⌝ }
 {
+    let room = out.len();
     let answer = judge_row(
         head,
         quote,
@@ -96,6 +87,7 @@ pub fn quote(
         lower_ends,
         upper_ends,
         watches,
+        room,
     );
     match answer {
         Answer::Accepted => {}
@@ -109,15 +101,10 @@ pub fn quote(
     }
     let mut places = [0u16; 1024];
     let found = find(head, quote, columns, upper_ends, &mut places);
-    let named = head.held as usize;
-    let used = head.capacity as usize;
     enter(
         head,
         found,
         &places,
-        named,
-        used,
-        false,
         quote,
         columns,
         positions,
@@ -136,13 +123,14 @@ pub fn quote_reached(
     positions: &mut [u32],
     lower_ends: &mut [u32],
     upper_ends: &mut [u32],
-    watches: [u32; 8],
+    watches: [u64; 8],
     out: &mut [u8],
 ) -> Reply
     requires { ⌜ Reached (world head (tables (now columns) (now positions) (now «lower_ends») (now «upper_ends»)) watches) ⌝ }
     ensures { λ r. ⌜ Quoted head (now (quote .entry)) (tables (now (columns .entry)) (now (positions .entry)) (now («lower_ends» .entry)) (now («upper_ends» .entry))) watches (now (out .entry)) r (tables (now (columns .exit)) (now (positions .exit)) (now («lower_ends» .exit)) (now («upper_ends» .exit))) (now (out .exit)) ⌝ }
 {
-    let answer = judge_reached(head, quote);
+    let room = out.len();
+    let answer = judge_reached(head, quote, room);
     match answer {
         Answer::Accepted => {}
         Answer::Refused(_) => {
@@ -155,15 +143,10 @@ pub fn quote_reached(
     }
     let mut places = [0u16; 1024];
     let found = find_reached(head, quote, columns, upper_ends, &mut places);
-    let named = named_before(head, upper_ends);
-    let used = head.held as usize;
     enter(
         head,
         found,
         &places,
-        named,
-        used,
-        true,
         quote,
         columns,
         positions,

@@ -19,6 +19,7 @@ use Rattle.model.specs.Rows.{expiring}
 use Rattle.finding.specs.declared.Found.{Found}
 use Rattle.finding.specs.Found as finding
 use Rattle.finding.specs.Found.{Rows, live, liveIn, over, under, retires, retired, youngest}
+use Rattle.settling.specs.declared.Knowledge.{Knowledge}
 use Rattle.settling.specs.declared.Finding.{Finding}
 use Rattle.settling.specs.Findings.{expiredPlaces, positionOf, heldRows, Findable, Tellable, told, retiredPlaces, youngestOver, Finds, Placed, namedBefore}
 
@@ -109,14 +110,18 @@ module _ {h : Head} {x columns uppers before : List ℕ} (v : Findable h x colum
         }
 
     -- and is what is to be found
-    pub tells : {g : Finding} → g ≡ told h uppers (r .at) (r .last) (length places - r .at) → Finds h x columns uppers places g
-    tells {g} t =
+    pub tells : {g : Finding} {knows known : Knowledge} → g ≡ told h uppers knows (r .at) (r .last) (length places - r .at) → knows ≡ known
+        → (g .knows ≡ known) × Finds h x columns uppers places g
+    tells {g} t k =
         let at : g .at ≡ r .at = ap Finding.at t in
-        record {
-          listed = rw at (f .listed ∙ rw e);
-          most = rw at (f .most);
-          tells = t ∙ rw (at, count-is, f .last, e);
-        }
+        let same = ap Finding.knows t in (
+          same ∙ k,
+          record {
+            listed = rw at (f .listed ∙ rw e);
+            most = rw at (f .most);
+            tells = t ∙ rw (same, at, count-is, f .last, e);
+          },
+        )
 
 -- what is told
 module _ {h : Head} {uppers : List ℕ} {last count by n : ℕ} (v : Tellable h uppers last count) (e : by ≡ expiredPlaces h) (l : n ≡ liveIn uppers 0 by) where
@@ -124,9 +129,9 @@ module _ {h : Head} {uppers : List ℕ} {last count by n : ℕ} (v : Tellable h 
   pub lost-within : n + count ≤ h .live
   lost-within = rw (l, e) (v .lost)
 
-  pub told-is : (at : ℕ) {gone lower : ℕ} → gone ≡ expiring (h .newest) (h .capacity) → lower ≡ positionOf h last
-      → record { by = by; gone = gone; at = at; lower = lower; live = h .live - (n + count) + 1; held = h .held - by + 1 } ≡ told h uppers at last count
-  told-is at g p = rw (l, e, g, p)
+  pub told-is : (knows : Knowledge) (at : ℕ) {gone lower : ℕ} → gone ≡ expiring (h .newest) (h .capacity) → lower ≡ positionOf h last
+      → record { by = by; gone = gone; at = at; lower = lower; live = h .live - (n + count) + 1; held = h .held - by + 1; knows = knows } ≡ told h uppers knows at last count
+  told-is knows at g p = rw (l, e, g, p)
 
 -- ---- where lower ends may name the expired position
 

@@ -36,7 +36,7 @@ use Rattle.model.proofs.Reached.{reached-by}
 use Rattle.cells.specs.Blank.{Blank}
 use Rattle.cells.proofs.Blanks.{blank-padded}
 use Rattle.finding.specs.Found.{Rows, live, over, under, retires, Sound}
-use Rattle.settling.specs.Findings.{expiredPlaces, heldRows, namedBefore}
+use Rattle.settling.specs.Findings.{expiredPlaces, heldRows, namedBefore, knowsReached}
 use Rattle.settling.specs.Settled.{Unnamed, Known}
 use Rattle.settling.proofs.Reading.{run-at}
 use Rattle.settling.proofs.Numbers.{before-none, before-live, before-upper}
@@ -221,8 +221,8 @@ module _ (s : Reference) (l : Lent) (f : Invariant s l) where
       blank-padded (s .capacity * s .dimensions) (length (rowsOf s) * s .dimensions) (flat (map Row.columns (rowsOf s))) (t .columns)
       (omega (arith, cells-counted (s .dimensions) (rowsOf s) (rows-wide s (f .wide)))) (mul-le-mul-right (s .dimensions) few)
 
-  known : Known h (h .held) (namedBefore h (t .upperEnds)) t
-  unfolding filled headOf
+  known : Known h (knowsReached h (t .upperEnds)) t
+  unfolding filled headOf knowsReached
   known = record {
     held-used = le-refl (h .held);
     used-fit = few;
@@ -285,9 +285,9 @@ reached-sound {h} {t} {ws} x =
     (λ l k. no-capacity k) (λ s l f k. sound s l f x (expiredPlaces (headOf s)))
 
 -- and only the places of its rows are in use, and the rows that name the expired position lie before its upper end
-pub reached-known : {h : Head} {t : Tables} {ws : List ℕ} → Reached (world h t ws) → 1 ≤ h .capacity → Known h (h .held) (namedBefore h (t .upperEnds)) t
+pub reached-known : {h : Head} {t : Tables} {ws : List ℕ} → Reached (world h t ws) → 1 ≤ h .capacity → Known h (knowsReached h (t .upperEnds)) t
 reached-known {h} {t} {ws} =
-    reached-by (λ w. 1 ≤ w .head .capacity → Known (w .head) (w .head .held) (namedBefore (w .head) (w .lent .tables .upperEnds)) (w .lent .tables))
+    reached-by (λ w. 1 ≤ w .head .capacity → Known (w .head) (knowsReached (w .head) (w .lent .tables .upperEnds)) (w .lent .tables))
     (λ l k. no-capacity k) (λ s l f k. known s l f)
 
 -- and the lower end of a live row, if it is held, is that of a live row

@@ -26,8 +26,9 @@ use Rattle.cells.specs.Marked.{marked, Below}
 use Rattle.cells.proofs.Blanks.{blank-none}
 use Rattle.cells.proofs.Marking.{length-marked}
 use Rattle.finding.specs.Found.{Rows, live, over, retires, retired}
+use Rattle.settling.specs.declared.Knowledge.{Knowledge}
 use Rattle.settling.specs.declared.Finding.{Finding}
-use Rattle.settling.specs.Findings.{expiredPlaces, heldRows, retiredPlaces, Finds, Placed}
+use Rattle.settling.specs.Findings.{expiredPlaces, heldRows, retiredPlaces, Finds, Placed, knowsAny}
 use Rattle.settling.specs.Settled.{rowsPut, lowersPut, uppersPut, Ready, Unnamed, Known}
 use Rattle.settling.proofs.Reading.{rows-part, getD-marked}
 use Rattle.settling.proofs.Standing.{Admitted, within, long, whole, held-is, places, position-at, left-is}
@@ -105,8 +106,8 @@ module _ {h : Head} {x : List ℕ} {t : Tables} (a : Admitted h x t) where
         s = heldRows h x (t .columns) (t .upperEnds)
 
     -- the columns may be settled
-    module _ {used named : ℕ} (n : Known h used named t) where
-      pub ready-columns : Ready h (h .dimensions) (f .by) used (t .columns)
+    module _ {known : Knowledge} (n : Known h known t) where
+      pub ready-columns : Ready h (h .dimensions) (f .by) (known .used) (t .columns)
       ready-columns = rw (found-by a v) (record {
         narrow = within a .few-columns;
         few = within a .small-capacity;
@@ -119,7 +120,7 @@ module _ {h : Head} {x : List ℕ} {t : Tables} (a : Admitted h x t) where
       })
 
       -- and a table of one cell a row
-      ready-cells : (cells : List ℕ) → h .capacity ≤ length cells → Blank used (h .capacity) cells → Ready h 1 (f .by) used cells
+      ready-cells : (cells : List ℕ) → h .capacity ≤ length cells → Blank (known .used) (h .capacity) cells → Ready h 1 (f .by) (known .used) cells
       ready-cells cells l b = rw (found-by a v) (record {
         narrow = omega arith;
         few = within a .small-capacity;
@@ -128,20 +129,20 @@ module _ {h : Head} {x : List ℕ} {t : Tables} (a : Admitted h x t) where
         held-used = n .held-used;
         used-fit = n .used-fit;
         long = rw mul-one l;
-        blank = rw (mul-one used, mul-one (h .capacity)) b;
+        blank = rw (mul-one (known .used), mul-one (h .capacity)) b;
       })
 
-      pub ready-positions : Ready h 1 (f .by) used (t .positions)
+      pub ready-positions : Ready h 1 (f .by) (known .used) (t .positions)
       ready-positions = ready-cells (t .positions) (long a .positions) (n .positions)
 
-      pub ready-lowers : Ready h 1 (f .by) used (t .lowerEnds)
+      pub ready-lowers : Ready h 1 (f .by) (known .used) (t .lowerEnds)
       ready-lowers = ready-cells (t .lowerEnds) (long a .lowerEnds) (n .lowerEnds)
 
-      pub ready-uppers : Ready h 1 (f .by) used (t .upperEnds)
+      pub ready-uppers : Ready h 1 (f .by) (known .used) (t .upperEnds)
       ready-uppers = ready-cells (t .upperEnds) (long a .upperEnds) (n .upperEnds)
 
       -- the lower ends from place named on do not name what expired
-      pub unnamed : Unnamed (f .gone) named (h .held) (t .lowerEnds)
+      pub unnamed : Unnamed (f .gone) (known .named) (h .held) (t .lowerEnds)
       unnamed = rw (found-gone a v) (n .unnamed)
 
     -- the tables hold the rows after the quote
@@ -153,7 +154,8 @@ module _ {h : Head} {x : List ℕ} {t : Tables} (a : Admitted h x t) where
         rw (c, p ∙ put-one h (f .by) ((h .newest + 1) ∷ []) (t .positions), l, u, next-columns, next-positions, next-lowers, next-uppers, found-by a v, found-gone a v, found-lower a v, v .listed)
 
   -- on any tables every place may hold anything, and each lower end may name the expired position
-  pub any-known : Known h (h .capacity) (h .held) t
+  pub any-known : Known h (knowsAny h) t
+  unfolding knowsAny
   any-known = record {
     held-used = places a .2;
     used-fit = le-refl (h .capacity);

@@ -8,6 +8,7 @@ use Rattle.head.specs.declared.Head.{Head}
 use Rattle.model.specs.Rows.{Tables, expiring, renamed}
 use Rattle.cells.specs.Blank.{Blank}
 use Rattle.cells.specs.Marked.{marked}
+use Rattle.settling.specs.declared.Knowledge.{Knowledge}
 
 module _ (h : Head) where
   -- a table of so many cells a row once so many rows at the front are lost and a row is put behind the others, with zeros up to
@@ -42,13 +43,13 @@ pub record Unnamed (gone from to : ℕ) (lowers : List ℕ) : Type 0 where
   pub within : from ≤ to
   pub same : (i : ℕ) → from ≤ i → i < to → renamed gone (getD lowers i 0) ≡ getD lowers i 0
 
--- what is known of a book's tables: only the places below used may hold anything, zeros stand from there up to place N, and no
+-- what is known of a book's tables is so: only the places below used may hold anything, zeros stand from there up to place N, and no
 -- lower end from place named on names the expired position
-pub record Known (h : Head) (used named : ℕ) (t : Tables) : Type 0 where
-  pub held-used : h .held ≤ used
-  pub used-fit : used ≤ h .capacity
-  pub columns : Blank (used * h .dimensions) (h .capacity * h .dimensions) (t .columns)
-  pub positions : Blank used (h .capacity) (t .positions)
-  pub lowerEnds : Blank used (h .capacity) (t .lowerEnds)
-  pub upperEnds : Blank used (h .capacity) (t .upperEnds)
-  pub unnamed : Unnamed (expiring (h .newest) (h .capacity)) named (h .held) (t .lowerEnds)
+pub record Known (h : Head) (k : Knowledge) (t : Tables) : Type 0 where
+  pub held-used : h .held ≤ k .used
+  pub used-fit : k .used ≤ h .capacity
+  pub columns : Blank (k .used * h .dimensions) (h .capacity * h .dimensions) (t .columns)
+  pub positions : Blank (k .used) (h .capacity) (t .positions)
+  pub lowerEnds : Blank (k .used) (h .capacity) (t .lowerEnds)
+  pub upperEnds : Blank (k .used) (h .capacity) (t .upperEnds)
+  pub unnamed : Unnamed (expiring (h .newest) (h .capacity)) (k .named) (h .held) (t .lowerEnds)

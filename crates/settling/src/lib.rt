@@ -7,7 +7,7 @@ ghost use Rattle.head.specs.Heads.{lastPosition};
 ghost use Rattle.model.specs.Rows.{expiring};
 ghost use Rattle.cells.specs.Marked.{Below};
 ghost use Rattle.finding.specs.Found.{liveIn, Sound};
-ghost use Rattle.settling.specs.Findings.{expiredPlaces, positionOf, heldRows, Findable, Tellable, told, Finds, Placed, namedBefore};
+ghost use Rattle.settling.specs.Findings.{expiredPlaces, positionOf, heldRows, Findable, Tellable, told, Finds, Placed, namedBefore, knowsAny, knowsReached};
 ghost use Rattle.settling.specs.Settled.{rowsPut, lowersPut, uppersPut, Ready, Unnamed};
 use cells::enter;
 use cells::rename;
@@ -16,8 +16,16 @@ use finding::find_any;
 use finding::find_sound;
 use head::Head;
 
+// What is known of a book before a quote changes it: whether the rows' ends are as calls leave them, below which place the lower ends
+// stand that name the expired position, and below which place alone the tables may hold anything.
+pub struct Knowledge {
+    pub sound: bool,
+    pub named: usize,
+    pub used: usize,
+}
+
 // What is found of a quote before anything is written: how many places expire with it, the position that does, from where on the
-// places of the retired rows are listed, the quote's lower end, and how many rows are live and held after it.
+// places of the retired rows are listed, the quote's lower end, how many rows are live and held after it, and what is known of the book.
 pub struct Finding {
     pub by: usize,
     pub gone: u32,
@@ -25,6 +33,7 @@ pub struct Finding {
     pub lower: u32,
     pub live: u32,
     pub held: u32,
+    pub knows: Knowledge,
 }
 
 // How many places expire with the next quote: one where all N hold a row.
@@ -71,10 +80,18 @@ fn expired_live(by: usize, upper_ends: &[u32]) -> u32
     if upper_ends[0] == 0 { 1 } else { 0 }
 }
 
-// What is found, from where the retired rows are listed, the number of the youngest row over the quote, and how many are retired.
-fn tell(head: Head, upper_ends: &[u32], at: usize, last: usize, retired: usize) -> Finding
+// What is found, from where the retired rows are listed, the number of the youngest row over the quote, how many are retired, and what is
+// known.
+fn tell(
+    head: Head,
+    upper_ends: &[u32],
+    at: usize,
+    last: usize,
+    retired: usize,
+    knows: Knowledge,
+) -> Finding
     requires { ⌜ Tellable head (now «upper_ends») last retired ⌝ }
-    ensures { λ r. ⌜ r ≡ told head (now («upper_ends» .entry)) at last retired ⌝ }
+    ensures { λ r. ⌜ r ≡ told head (now («upper_ends» .entry)) knows at last retired ⌝ }
 {
     let by = expired_places(head);
     let gone = expired_position(head);
@@ -87,7 +104,24 @@ fn tell(head: Head, upper_ends: &[u32], at: usize, last: usize, retired: usize) 
         lower,
         live: head.live - lost + 1,
         held: head.held - (by as u32) + 1,
+        knows,
     }
+}
+
+// How many places may hold a lower end that names the expired position, in a book that calls left.
+fn named_before(head: Head, upper_ends: &[u32]) -> usize
+    requires { ⌜ Placed head (now «upper_ends») ⌝ }
+    ensures { λ r. ⌜ r ≡ namedBefore head (now («upper_ends» .entry)) ⌝ }
+{
+    let gone = expired_position(head);
+    if gone == 0 {
+        return 0;
+    }
+    let upper = upper_ends[0];
+    if upper == 0 {
+        return head.held as usize;
+    }
+    (upper - gone) as usize
 }
 
 // Finds what a quote does to the rows of any book that is not torn, and lists the places of those that it retires.
@@ -99,6 +133,7 @@ pub fn find(
     places: &mut [u16],
 ) -> Finding
     requires { ⌜ Findable head (now quote) (now columns) (now «upper_ends») (now places) ⌝ }
+    ensures { λ r. ⌜ r .knows ≡ knowsAny head ⌝ }
     ensures { λ r. ⌜ Finds head (now (quote .entry)) (now (columns .entry)) (now («upper_ends» .entry)) (now (places .exit)) r ⌝ }
 {
     let d = head.dimensions as usize;
@@ -114,12 +149,18 @@ pub fn find(
         held,
         places,
     );
+    let knows = Knowledge {
+        sound: false,
+        named: held,
+        used: head.capacity as usize,
+    };
     tell(
         head,
         upper_ends,
         found.at,
         found.last,
         places.len() - found.at,
+        knows,
     )
 }
 
@@ -133,6 +174,8 @@ pub fn find_reached(
 ) -> Finding
     requires { ⌜ Findable head (now quote) (now columns) (now «upper_ends») (now places) ⌝ }
     requires { ⌜ Sound (heldRows head (now quote) (now columns) (now «upper_ends»)) (expiredPlaces head) (head .held) ⌝ }
+    requires { ⌜ Placed head (now «upper_ends») ⌝ }
+    ensures { λ r. ⌜ r .knows ≡ knowsReached head (now («upper_ends» .entry)) ⌝ }
     ensures { λ r. ⌜ Finds head (now (quote .entry)) (now (columns .entry)) (now («upper_ends» .entry)) (now (places .exit)) r ⌝ }
 {
     let d = head.dimensions as usize;
@@ -148,29 +191,19 @@ pub fn find_reached(
         held,
         places,
     );
+    let knows = Knowledge {
+        sound: true,
+        named: named_before(head, upper_ends),
+        used: held,
+    };
     tell(
         head,
         upper_ends,
         found.at,
         found.last,
         places.len() - found.at,
+        knows,
     )
-}
-
-// How many places may hold a lower end that names the expired position, in a book that calls left.
-pub fn named_before(head: Head, upper_ends: &[u32]) -> usize
-    requires { ⌜ Placed head (now «upper_ends») ⌝ }
-    ensures { λ r. ⌜ r ≡ namedBefore head (now («upper_ends» .entry)) ⌝ }
-{
-    let gone = expired_position(head);
-    if gone == 0 {
-        return 0;
-    }
-    let upper = upper_ends[0];
-    if upper == 0 {
-        return head.held as usize;
-    }
-    (upper - gone) as usize
 }
 
 // Puts a row into a table of so many cells a row, behind those that are left; of its places only those below used may hold anything.
@@ -192,19 +225,20 @@ pub fn settle(head: Head, width: usize, by: usize, row: &[u32], used: usize, cel
 }
 
 // Settles the lower ends: those that name the expired position are among the first, so many as may, and the quote's is put behind.
-pub fn settle_lower_ends(
-    head: Head,
-    found: Finding,
-    named: usize,
-    used: usize,
-    lower_ends: &mut [u32],
-)
-    requires { ⌜ Ready head 1 (found .by) used (now «lower_ends») ⌝ }
-    requires { ⌜ Unnamed (found .gone) named (head .held) (now «lower_ends») ⌝ }
+pub fn settle_lower_ends(head: Head, found: Finding, lower_ends: &mut [u32])
+    requires { ⌜ Ready head 1 (found .by) (found .knows .used) (now «lower_ends») ⌝ }
+    requires { ⌜ Unnamed (found .gone) (found .knows .named) (head .held) (now «lower_ends») ⌝ }
     ensures { λ _. ⌜ now («lower_ends» .exit) ≡ lowersPut head (found .by) (found .gone) (found .lower) (now («lower_ends» .entry)) ⌝ }
 {
-    rename(lower_ends, found.gone, named);
-    settle(head, 1, found.by, &[found.lower], used, lower_ends);
+    rename(lower_ends, found.gone, found.knows.named);
+    settle(
+        head,
+        1,
+        found.by,
+        &[found.lower],
+        found.knows.used,
+        lower_ends,
+    );
 }
 
 // Settles the upper ends: those of the retired rows name the quote, and the quote has none.

@@ -13,7 +13,7 @@ use Rattle.head.specs.declared.Effect.{Effect}
 use Rattle.head.specs.declared.Watch.{Watch}
 use Rattle.model.specs.Rows.{Tables}
 use Rattle.model.specs.Book.{shortLoan, standing, tornWatches, watchfulAnswer, quoteRows, quoteHead, quoteBytes, quoteAnswer, quoteReply, quoteTables, quoteOut, previewReply, previewCounts, previewOut, pairBytes, pairAnswer, pairReply, pairOut, unpairAnswer, unpairReply}
-use Rattle.watches.specs.Records.{watched, firstEight}
+use Rattle.watches.specs.Records.{recordNumber, watched, firstEight}
 use Rattle.model.specs.Promises.{Quoted, Previewed, Paired, Unpaired}
 
 -- as many numbers as there are records, of eight that are read off them
@@ -33,13 +33,13 @@ few-in (suc n) [] = refl
 few-in (suc n) (w ∷ ws) = leb·suc-suc (suc (length (take n ws))) n ∙ few-in n ws ∙ sym (leb·suc-suc (suc (length ws)) n)
 
 module _ (ws : List ℕ) where
-  torn-front : (N : ℕ) → tornWatches N (take 8 ws) ≡ tornWatches N ws
-  unfolding tornWatches
-  torn-front N = rw (take-take 8 8 ws (omega arith))
-
   pub standing-front : standing (take 8 ws) ≡ standing ws
   unfolding standing
   standing-front = rw (take-take 8 8 ws (omega arith))
+
+  torn-front : (N : ℕ) → tornWatches N (take 8 ws) ≡ tornWatches N ws
+  unfolding tornWatches
+  torn-front N = rw (take-take 8 8 ws (omega arith), standing-front)
 
   pub short-front : (t : Tables) (d N : ℕ) → shortLoan t (take 8 ws) d N ≡ shortLoan t ws d N
   unfolding shortLoan
@@ -50,8 +50,8 @@ module _ (ws : List ℕ) where
   watchful-front h t more = rw (short-front t (h .dimensions) (h .capacity), torn-front (h .capacity))
 
   quote-front : (h : Head) (x : List ℕ) (t : Tables) (room : ℕ) → quoteAnswer h x t (take 8 ws) room ≡ quoteAnswer h x t ws room
-  unfolding quoteAnswer quoteBytes quoteHead quoteRows
-  quote-front h x t room = rw (standing-front, watchful-front h t)
+  unfolding quoteAnswer
+  quote-front h x t room = watchful-front h t _
 
   bytes-front : (h : Head) (x : List ℕ) (t : Tables) → quoteBytes h x t (take 8 ws) ≡ quoteBytes h x t ws
   unfolding quoteBytes quoteHead quoteRows
@@ -64,7 +64,7 @@ module _ (ys : List Watch) where
 
   pub front : {ns : List ℕ} → ns ≡ firstEight ws → take (length ys) ns ≡ take 8 ws
   unfolding watched
-  front e = rw (e, ← length-map ys Watch.n) (lent-front (map Watch.n ys))
+  front e = rw (e, ← length-map ys recordNumber) (lent-front (map recordNumber ys))
 
   -- a quote on as many numbers as records are lent is one on the records
   pub quote-records : (h : Head) (x : List ℕ) (t : Tables) {ns : List ℕ} → ns ≡ firstEight ws → {before : List ℕ} {r : Reply} {t' : Tables} {after : List ℕ} → Quoted h x t (take (length ys) ns) before r t' after → Quoted h x t ws before r t' after

@@ -20,13 +20,14 @@ use Rattle.asking.specs.declared.Wanted.the-variants.{Quote, Look, Past, Watch,
 use Rattle.asking.specs.Asking.{asked}
 use Rattle.asking.specs.Placing.{wants}
 use Rattle.asking.proofs.Wanted.{the-type}
-use Rattle.asking.proofs.Places.{ends, asked-ends, wanted-asked}
+use Rattle.asking.proofs.Places.{ends, asked-ends, wanted-asked, quote-few}
 use Rattle.tape_model.specs.Play.{Played, playAsked, playAt, Player, bookMake, begun, bookPlay}
 use Rattle.turn_lines.specs.declared.Turn.{Turn}
 use Rattle.turn_lines.specs.Turns.{player, Effect, made, refusedWith, Turned}
-use Rattle.turns.specs.Wishes.{looked, observed, unquoted}
+use Rattle.turn_reads.specs.Reads.{refused, looked}
+use Rattle.turns.specs.Wishes.{pairObserved, observed, unquoted}
 use Rattle.tape.specs.declared.Step.{Step}
-use Rattle.tape.specs.Steps.{Stepped, taken}
+use Rattle.tape.specs.Steps.{WishAt, Stepped, taken}
 
 -- what is read has six columns, with zeros behind those of its quote
 read-six : (tape : List ℕ) (place : ℕ) {r : Reading} → Found tape place r → length (r .columns) ≡ 6
@@ -37,8 +38,18 @@ read-six tape place unknown = refl
 read-six tape place cut = refl
 read-six tape place (whole k h) = refl
 
-pub columns-six : (tape : List ℕ) (place : ℕ) (r : Read) → reading r ≡ readAt tape place → length (r .columns) ≡ 6
-columns-six tape place r e = rw (read-columns r e) (read-six tape place (found tape place))
+-- what was read at a place, judged by whether an opening was accepted
+pub wish-there : (tape : List ℕ) (place : ℕ) (h : Head) (r : Read) {held : Bool} (w : Wanted) → reading r ≡ readAt tape place
+    → held ≡ settingsHold (h .dimensions) (h .capacity) (h .directions) → ((columns : List ℕ) → wants w columns ≡ asked held (saying (r .message)) columns)
+    → WishAt tape place h w (r .columns) (r .next)
+wish-there tape place h r {held} w e f g =
+    record {
+      asks = λ columns. wanted-asked tape place held r w e g columns ∙ ap (λ (b : Bool). asked b (readAt tape place .says) columns) f;
+      columns = read-columns r e;
+      next = read-next r e;
+      six = rw (read-columns r e) (read-six tape place (found tape place));
+      few = λ n q. quote-few tape place held r w e g q;
+    }
 
 -- what is no quote is taken without columns
 taken-unquoted : (w : Wanted) (columns : List ℕ) (k : Player) → OneOf (1 ∷ 2 ∷ 3 ∷ 4 ∷ 5 ∷ 6 ∷ 7 ∷ 8 ∷ 9 ∷ 10 ∷ []) (tagOf the-type w) → taken w columns k ≡ unquoted w k
@@ -46,8 +57,8 @@ unfolding taken
 taken-unquoted (Quote n) columns k one = absurd (miss (1 ∷ 2 ∷ 3 ∷ 4 ∷ 5 ∷ 6 ∷ 7 ∷ 8 ∷ 9 ∷ 10 ∷ []) 0 tt one)
 taken-unquoted (Look n) columns k one = refl
 taken-unquoted (Past n1 n2) columns k one = refl
-taken-unquoted (Watch n) columns k one = refl
-taken-unquoted (End n) columns k one = refl
+taken-unquoted (Watch desk n) columns k one = refl
+taken-unquoted (End desk n) columns k one = refl
 taken-unquoted (Pair n1 n2) columns k one = refl
 taken-unquoted Unpair columns k one = refl
 taken-unquoted (Open d N directions) columns k one = refl
@@ -62,12 +73,12 @@ playedAs one next over = record { number = one .number; text = one .text; state 
 -- what is wanted is played as it is taken
 wanted-played : (w : Wanted) (columns : List ℕ) (next : ℕ) (k : Player)
     → playAsked begun bookMake (wants w columns) next k ≡ playedAs (taken w columns k) next (ends (wants w columns))
-unfolding playAsked wants ends taken unquoted observed looked made refusedWith
+unfolding playAsked wants ends taken unquoted observed pairObserved looked refused made refusedWith
 wanted-played (Quote n) columns next k = refl
 wanted-played (Look n) columns next k = refl
 wanted-played (Past n1 n2) columns next k = refl
-wanted-played (Watch n) columns next k = refl
-wanted-played (End n) columns next k = refl
+wanted-played (Watch desk n) columns next k = refl
+wanted-played (End desk n) columns next k = refl
 wanted-played (Pair n1 n2) columns next k = refl
 wanted-played Unpair columns next k = refl
 wanted-played (Open d N directions) columns next k = refl
@@ -76,34 +87,30 @@ wanted-played (Refused refusal) columns next k = refl
 wanted-played Misplaced columns next k = refl
 
 -- ---- the step
-module _ (tape : List ℕ) (place : ℕ) (h : Head) (t : Tables) (ws bytes before : List ℕ) (r : Read) {held : Bool} (w : Wanted) (e : reading r ≡ readAt tape place)
-    (f : held ≡ settingsHold (h .dimensions) (h .capacity) (h .directions)) (g : (columns : List ℕ) → wants w columns ≡ asked held (saying (r .message)) columns) where
+module _ (tape : List ℕ) (place : ℕ) (h : Head) (t : Tables) (ws bytes before : List ℕ) {w : Wanted} {x : List ℕ} {next : ℕ} (v : WishAt tape place h w x next) where
   -- the player before the frame
   abbrev k : Player
   k = player h t ws bytes
 
   -- what is wanted is what is asked for
-  wanted-there : wants w (r .columns) ≡ asked (begun k) (readAt tape place .says) (readAt tape place .columns)
+  wanted-there : wants w x ≡ asked (begun k) (readAt tape place .says) (readAt tape place .columns)
   unfolding begun
-  wanted-there =
-      wanted-asked tape place held r w e g (r .columns)
-      ∙ ap (λ (b : Bool). asked b (readAt tape place .says) (r .columns)) f
-      ∙ ap (asked (begun k) (readAt tape place .says)) (read-columns r e)
+  wanted-there = v .asks x ∙ ap (asked (begun k) (readAt tape place .says)) (v .columns)
 
   -- what is played
-  played : bookPlay tape place k ≡ playedAs (taken w (r .columns) k) (r .next) (eqb (r .next) place)
+  played : bookPlay tape place k ≡ playedAs (taken w x k) next (eqb next place)
   unfolding playAt
   played =
-      let over : eqb (r .next) place ≡ ends (wants w (r .columns)) =
-      ap (λ (n : ℕ). eqb n place) (read-next r e)
+      let over : eqb next place ≡ ends (wants w x) =
+      ap (λ (n : ℕ). eqb n place) (v .next)
       ∙ asked-ends (begun k) tape place (readAt tape place .columns)
       ∙ ap ends (sym wanted-there) in
-      rw (over, ← wanted-there, ← (read-next r e)) (wanted-played w (r .columns) (r .next) k)
+      rw (over, ← wanted-there, ← (v .next)) (wanted-played w x next k)
 
   module _ {turn : Turn} {step : Step} {t' : Tables} {bytes' after : List ℕ}
-      (z : step ≡ record { answer = turn .answer; over = eqb (r .next) place; next = r .next; count = turn .count; head = turn .head; watches = turn .watches }) where
+      (z : step ≡ record { answer = turn .answer; over = eqb next place; next = next; count = turn .count; head = turn .head; watches = turn .watches }) where
     -- the step of a turn
-    step-played : Turned (taken w (r .columns) k) before turn t' bytes' after → Stepped tape place k before step t' bytes' after
+    step-played : Turned (taken w x k) before turn t' bytes' after → Stepped tape place k before step t' bytes' after
     step-played u =
         rw z record {
           answer = rw played (u .answer);
@@ -118,10 +125,10 @@ module _ (tape : List ℕ) (place : ℕ) (h : Head) (t : Tables) (ws bytes befor
         }
 
     -- that of a quote
-    pub quote-played : {n : ℕ} → w ≡ Quote n → Turned (made (Call.Quote (take n (r .columns))) k) before turn t' bytes' after → Stepped tape place k before step t' bytes' after
+    pub quote-played : {n : ℕ} → w ≡ Quote n → Turned (made (Call.Quote (take n x)) k) before turn t' bytes' after → Stepped tape place k before step t' bytes' after
     unfolding taken
     quote-played q u = step-played (rw q u)
 
     -- and that of anything else
     pub other-played : OneOf (1 ∷ 2 ∷ 3 ∷ 4 ∷ 5 ∷ 6 ∷ 7 ∷ 8 ∷ 9 ∷ 10 ∷ []) (tagOf the-type w) → Turned (unquoted w k) before turn t' bytes' after → Stepped tape place k before step t' bytes' after
-    other-played one u = step-played (rw (taken-unquoted w (r .columns) k one) u)
+    other-played one u = step-played (rw (taken-unquoted w x k one) u)

@@ -1,18 +1,31 @@
 -- One frame played on lent tables, bytes and text: what the player hands back and what it leaves.
 use mathlib.Core.Path.{_≡_}
-use Prim.Native.Nat.{ℕ}
+use Prim.Native.Nat.{ℕ, _≤_}
 use mathlib.Core.List.{List}
 use lib.ListN.{length, take}
 use Rattle.lists.specs.Lists.{laid}
+use Rattle.head.specs.declared.Head.{Head}
 use Rattle.head.specs.Refusals.{numberOf}
+use Rattle.head.specs.Heads.{settingsHold}
+use Rattle.frames.specs.Frames.{readAt}
 use Rattle.model.specs.Rows.{Tables}
 use Rattle.model.specs.Calls.{Call}
 use Rattle.asking.specs.declared.Wanted.{Wanted}
 use Rattle.asking.specs.declared.Wanted.the-variants.{Quote, Look, Past, Watch, End, Pair, Unpair, Open, Nothing, Refused, Misplaced}
+use Rattle.asking.specs.Asking.{asked}
+use Rattle.asking.specs.Placing.{wants}
 use Rattle.tape_model.specs.Play.{Player, bookPlay}
 use Rattle.turn_lines.specs.Turns.{Effect, made}
 use Rattle.turns.specs.Wishes.{unquoted}
 use Rattle.tape.specs.declared.Step.{Step}
+
+-- what stands at a place of a tape is wanted of a player with this head, with at most six columns, and ends before next
+pub record WishAt (tape : List ℕ) (place : ℕ) (h : Head) (w : Wanted) (x : List ℕ) (after : ℕ) : Type 0 where
+  pub asks : (columns : List ℕ) → wants w columns ≡ asked (settingsHold (h .dimensions) (h .capacity) (h .directions)) (readAt tape place .says) columns
+  pub columns : x ≡ readAt tape place .columns
+  pub next : after ≡ readAt tape place .next
+  pub six : length x ≡ 6
+  pub few : (n : ℕ) → w ≡ Quote n → n ≤ 6
 
 -- what playing the frame at a place hands back, and leaves of tables, bytes and text
 pub record Stepped (tape : List ℕ) (place : ℕ) (k : Player) (before : List ℕ) (r : Step) (t' : Tables) (bytes' after : List ℕ) : Type 0 where
@@ -31,8 +44,8 @@ unfoldable pub taken : Wanted → List ℕ → Player → Effect
 taken (Quote n) columns k = made (Call.Quote (take n columns)) k
 taken (Look n) columns k = unquoted (Look n) k
 taken (Past n1 n2) columns k = unquoted (Past n1 n2) k
-taken (Watch n) columns k = unquoted (Watch n) k
-taken (End n) columns k = unquoted (End n) k
+taken (Watch desk n) columns k = unquoted (Watch desk n) k
+taken (End desk n) columns k = unquoted (End desk n) k
 taken (Pair n1 n2) columns k = unquoted (Pair n1 n2) k
 taken Unpair columns k = unquoted Unpair k
 taken (Open d N directions) columns k = unquoted (Open d N directions) k

@@ -11,11 +11,11 @@ use sizes::CHANGE_FRAME;
 use sizes::PLACES;
 pub use waiting::ready;
 
-// How many bytes the line of a change has at most: its letter and newline, and a space and ten digits for n and the position.
-pub const CHANGE_LINE: usize = 2 + 11 * 2;
+// How many bytes the line of a change has at most: its letter, desk two's 2 and newline, and a space and ten digits for n and the position.
+pub const CHANGE_LINE: usize = 3 + 11 * 2;
 
 // How many bytes the line of the longest list has at most: as that of a change, with n1, n2 and all positions.
-pub const LIST_LINE: usize = 2 + 11 * (2 + PLACES);
+pub const LIST_LINE: usize = 3 + 11 * (2 + PLACES);
 
 // How many bytes the lines of any frame have room in: the longest list, and for every seven bytes of changes a line.
 pub const TEXT_BYTES: usize = LIST_LINE + CHANGE_LINE * (CHANGE_BYTES / CHANGE_FRAME);
@@ -28,5 +28,5 @@ pub struct Step {
     pub next: usize,
     pub count: usize,
     pub head: Head,
-    pub watches: [u32; 8],
+    pub watches: [u64; 8],
 }

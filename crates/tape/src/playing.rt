@@ -6,7 +6,7 @@ ghost use lib.ListN.{length};
 ghost use Rattle.model.specs.Calls.{Reached};
 ghost use Rattle.model.specs.Promises.{tables, world};
 ghost use Rattle.turn_lines.specs.Turns.{textBytes, player};
-ghost use Rattle.tape.specs.Steps.{Stepped};
+ghost use Rattle.tape.specs.Steps.{WishAt, Stepped};
 use crate::CHANGE_BYTES;
 use crate::Step;
 use crate::TEXT_BYTES;
@@ -15,6 +15,27 @@ use asking::placed;
 use frames::read_at;
 use head::Head;
 use turn_lines::Turn;
+
+// What stands at a place of a tape: what it wants of the player, the columns of its quote, and the place behind it.
+struct Wish {
+    wanted: Wanted,
+    columns: [u32; 6],
+    next: usize,
+}
+
+// Reads the frame at a place of a tape, and judges its place on the tape.
+fn wish_at(tape: &[u8], place: usize, head: Head) -> Wish
+    ensures { λ r. ⌜ WishAt (now (tape .entry)) place head (r .wanted) (r .columns) (r .next) ⌝ }
+{
+    let read = read_at(tape, place);
+    let quote = read.columns;
+    let found = read.message;
+    Wish {
+        wanted: placed(head.settings_hold(), found),
+        columns: quote,
+        next: read.next,
+    }
+}
 
 // The step that a turn makes: the tape is over where nothing could be read, and the place stayed.
 fn step(place: usize, next: usize, turn: Turn) -> Step
@@ -42,17 +63,16 @@ pub fn play(
     positions: &mut [u32],
     lower_ends: &mut [u32],
     upper_ends: &mut [u32],
-    watches: [u32; 8],
+    watches: [u64; 8],
     bytes: &mut [u8; CHANGE_BYTES],
     text: &mut [u8; TEXT_BYTES],
 ) -> Step
     ensures { λ r. ⌜ Stepped (now (tape .entry)) place (player head (tables (now (columns .entry)) (now (positions .entry)) (now («lower_ends» .entry)) (now («upper_ends» .entry))) watches (now (bytes .entry))) (now (text .entry)) r (tables (now (columns .exit)) (now (positions .exit)) (now («lower_ends» .exit)) (now («upper_ends» .exit))) (now (bytes .exit)) (now (text .exit)) ⌝ }
 {
-    let read = read_at(tape, place);
-    let next = read.next;
-    let quote = read.columns;
-    let found = read.message;
-    let wanted = placed(head.settings_hold(), found);
+    let wish = wish_at(tape, place, head);
+    let next = wish.next;
+    let quote = wish.columns;
+    let wanted = wish.wanted;
     match wanted {
         Wanted::Quote(k) => {
             let reply = quoting::quote(
@@ -65,11 +85,8 @@ pub fn play(
                 watches,
                 bytes,
             );
-            step(
-                place,
-                next,
-                turn_lines::put_quote(reply, watches, bytes, text),
-            )
+            let turn = turn_lines::put_quote(reply, watches, bytes, text);
+            step(place, next, turn)
         }
         _ => step(
             place,
@@ -98,7 +115,7 @@ pub fn play_reached(
     positions: &mut [u32],
     lower_ends: &mut [u32],
     upper_ends: &mut [u32],
-    watches: [u32; 8],
+    watches: [u64; 8],
     bytes: &mut [u8; CHANGE_BYTES],
     text: &mut [u8],
 ) -> Step
@@ -106,11 +123,10 @@ pub fn play_reached(
     requires { ⌜ Reached (world head (tables (now columns) (now positions) (now «lower_ends») (now «upper_ends»)) watches) ⌝ }
     ensures { λ r. ⌜ Stepped (now (tape .entry)) place (player head (tables (now (columns .entry)) (now (positions .entry)) (now («lower_ends» .entry)) (now («upper_ends» .entry))) watches (now (bytes .entry))) (now (text .entry)) r (tables (now (columns .exit)) (now (positions .exit)) (now («lower_ends» .exit)) (now («upper_ends» .exit))) (now (bytes .exit)) (now (text .exit)) ⌝ }
 {
-    let read = read_at(tape, place);
-    let next = read.next;
-    let quote = read.columns;
-    let found = read.message;
-    let wanted = placed(head.settings_hold(), found);
+    let wish = wish_at(tape, place, head);
+    let next = wish.next;
+    let quote = wish.columns;
+    let wanted = wish.wanted;
     match wanted {
         Wanted::Quote(k) => {
             let reply = quoting::quote_reached(
@@ -123,11 +139,8 @@ pub fn play_reached(
                 watches,
                 bytes,
             );
-            step(
-                place,
-                next,
-                turn_lines::put_quote(reply, watches, bytes, text),
-            )
+            let turn = turn_lines::put_quote(reply, watches, bytes, text);
+            step(place, next, turn)
         }
         _ => step(
             place,

@@ -1,29 +1,28 @@
 -- The print of every tape by the book model is the print by the reference model, which is lent nothing but lengths.
 use mathlib.Core.Path.{_≡_, refl, sym, ap, ap₂, _∙_}
-use mathlib.Core.Logic.{_⊎_, inl, inr}
-use Prim.Native.Nat.{ℕ, zero, suc, _*_, _≤_, zero-le}
-use native.Mathlib.Nat.{mul-le-mul-right, le-refl}
-use mathlib.Core.Bool.{Bool, true, false, _||_, cond}
-use mathlib.Core.List.{List, [], _++_, map}
-use lib.Dec.{ltb}
-use lib.ListN.{length, take, drop, replicate, length-map, length-replicate}
+use Prim.Native.Nat.{ℕ, zero, suc, _≤_, zero-le}
+use native.Mathlib.Nat.{le-refl, le-trans}
+use native.Mathlib.Omega.{arith}
+use mathlib.Core.Bool.{Bool, cond}
+use mathlib.Core.List.{List, [], _++_}
+use lib.ListN.{length, take, drop, replicate, length-replicate}
 use lib.Seq.{take-append-seam, take-all}
-use borrow.Author.Tests.{ltb-false}
-use Rattle.lists.specs.Lists.{flat, laid}
-use Rattle.lists.proofs.Booleans.{none-left, none-right, clash}
-use Rattle.lists.proofs.Writing.{length-laid, length-padded}
+use borrow.Author.Tests.{leb-false, ltb-false, not-false}
+use Rattle.lists.specs.Lists.{laid}
+use Rattle.lists.proofs.Writing.{length-laid}
+use Rattle.head.specs.declared.Desk.{Desk}
+use Rattle.head.specs.Desks.{watchOf}
 use Rattle.head.specs.Refusals.{granted}
-use Rattle.head.specs.Heads.{settingsHold}
+use Rattle.head.specs.Heads.{lastPosition}
 use Rattle.head.proofs.Numbers.{zero-passed}
 use Rattle.frames.specs.Frames.{readAt}
-use Rattle.model.specs.Rows.{Row, Tables, filled}
-use Rattle.model.specs.Reference.{Reference, Lengths, unopened, opened, rowsOf, headOf, withQuote, withWatched, withPairOf, opening, tooShort, tells, foretells, referenceStep}
-use Rattle.model.specs.Book.{shortTables, shortLoan}
+use Rattle.model.specs.Changes.{changeRoom}
+use Rattle.model.specs.Reference.{Reference, Lengths, unopened, newest, opened, headOf, tells, foretells, referenceStep}
 use Rattle.model.specs.Calls.{Call, Open, Quote, Look, Watch, End, Past, Pair, Unpair, Due, Preview, Outputs, Lent, bookStep, lengthsOf, shown, expectedStep, runs, worldFirst}
-use Rattle.model.proofs.Tables.{cells-counted}
-use Rattle.model.proofs.Sound.{rows-few, rows-wide}
-use Rattle.model.proofs.Simulation.{Invariant, Simulation, Agree, referenceWith, some-capacity, shown-opened, long-tables, long-records}
+use Rattle.model.proofs.Simulation.{Simulation, Agree, referenceWith, Bounded, bounded, in-range, in-pair-range}
+use Rattle.model.proofs.Written.{written-fits, watch-written, pair-written}
 use Rattle.model.proofs.Replay.{call-agrees, replay-ends}
+use Rattle.model.proofs.Lengths.{either-way, long-after, lengths-kept, since-long}
 use Rattle.asking.specs.Asking.{Asked, finished, unread, misplaced, request, asked}
 use Rattle.tape_model.specs.Print.{Answered, linesOf, textOf}
 use Rattle.tape_model.specs.Play.{Played, playAsked, playAt, printFrom, print, referenceMake, Player, bookMake, begun}
@@ -31,104 +30,51 @@ use Rattle.tape_model.specs.Ample.{Reaches, start, onward}
 
 -- ---- lengths
 
--- what holds where a call is accepted, and where it is refused, holds of what is granted
-either-way : {A : Type 0} (P : A → Type 0) (n : ℕ) (x y : A) → (n ≡ 0 → P x) → P y → P (granted n x y)
-unfolding granted
-either-way P zero x y f g = f refl
-either-way P (suc k) x y f g = g
-
--- what is lent is long enough for the settings that were taken
-abbrev Long : Lent → Reference → Type 0
-Long l s = opened s ≡ true → shortLoan (l .tables) (l .watches) (s .dimensions) (s .capacity) ≡ false
-
--- it still is after a call: only an accepted opening takes settings, and it is refused where something is too short
-long-after : (l : Lent) (o : Outputs) (c : Call) (s : Reference) → Long l s → Long l (referenceStep c (lengthsOf l o) s .next)
-unfolding referenceStep tells foretells lengthsOf opening opened withQuote withWatched withPairOf tooShort shortLoan shortTables
-long-after l o (Open d N directions) s h =
-    either-way (Long l) _ (opening d N directions) s (λ e _. zero-passed _ _ _ (zero-passed _ _ _ e .1) .0) h
-long-after l o (Quote x) s h = either-way (Long l) _ (withQuote s x) s (λ _. h) h
-long-after l o (Look n) s h = either-way (Long l) _ s s (λ _. h) h
-long-after l o (Watch n) s h = either-way (Long l) _ (withWatched s _) s (λ _. h) h
-long-after l o (End n) s h = either-way (Long l) _ (withWatched s _) s (λ _. h) h
-long-after l o (Past n1 n2) s h = either-way (Long l) _ s s (λ _. h) h
-long-after l o (Pair n1 n2) s h = either-way (Long l) _ (withPairOf s n1 n2) s (λ _. h) h
-long-after l o Unpair s h = either-way (Long l) _ (withPairOf s 0 0) s (λ _. h) h
-long-after l o Due s h = either-way (Long l) _ s s (λ _. h) h
-long-after l o (Preview x) s h = h
-
-module _ (s : Reference) (l kept : Lent) (o : Outputs) (f : Invariant s kept) (enough : shortLoan (l .tables) (l .watches) (s .dimensions) (s .capacity) ≡ false) where
-  -- the rows are at most N
-  few : length (rowsOf s) ≤ s .capacity
-  few = rows-few s (some-capacity s kept f)
-
-  -- tables that are long enough keep their lengths when they are filled with the rows of a reference model
-  filled-lengths : lengthsOf (shown s l) o ≡ lengthsOf l o
-  unfolding filled shortTables lengthsOf
-  filled-lengths =
-      let long = long-tables t (l .watches) d N enough in
-      let one = ltb (length (t .columns)) (N * d) in
-      let two = ltb (length (t .positions)) N in
-      let three = ltb (length (t .lowerEnds)) N in
-      let four = ltb (length (t .upperEnds)) N in
-      let first-three = none-left ((one || two) || three) four long in
-      let first-two = none-left (one || two) three first-three in
-      rw (
-        shown-opened s l (f .settings),
-        length-padded (N * d) (flat (map Row.columns rs)) (t .columns) (rw (cells-counted d rs (rows-wide s (f .wide))) (mul-le-mul-right d few))
-            (ltb-false (length (t .columns)) (N * d) (none-left one two first-two)),
-        length-padded N (map Row.position rs) (t .positions) (rw length-map few) (ltb-false (length (t .positions)) N (none-right one two first-two)),
-        length-padded N (map Row.lowerEnd rs) (t .lowerEnds) (rw length-map few) (ltb-false (length (t .lowerEnds)) N (none-right (one || two) three first-three)),
-        length-padded N (map Row.upperEnd rs) (t .upperEnds) (rw length-map few) (ltb-false (length (t .upperEnds)) N (none-right ((one || two) || three) four long)),
-        length-padded 8 (s .watched) (l .watches) (f .eight) (long-records t (l .watches) d N enough),
-      )
-    where
-      t : Tables
-      t = l .tables
-
-      d : ℕ
-      d = s .dimensions
-
-      N : ℕ
-      N = s .capacity
-
-      rs : List Row
-      rs = rowsOf s
-
--- what is lent keeps its lengths
-lengths-kept : (s : Reference) (l kept : Lent) (o : Outputs) → Long l s → (s ≡ unopened) ⊎ Invariant s kept → lengthsOf (shown s l) o ≡ lengthsOf l o
-unfolding shown opened settingsHold
-lengths-kept s l kept o h (inl e) = rw e
-lengths-kept s l kept o h (inr f) = filled-lengths s l kept o f (h (f .settings))
-
--- what a quote writes is no longer than the output for bytes
-quote-fits : (x : List ℕ) (lengths : Lengths) (s : Reference) → length (referenceStep (Quote x) lengths s .bytes) ≤ lengths .bytes
+-- what a quote writes is no longer than the output for bytes, which has the room that is asked for
+quote-fits : (x : List ℕ) (lengths : Lengths) (s : Reference) → Bounded s → length (referenceStep (Quote x) lengths s .bytes) ≤ lengths .bytes
 unfolding referenceStep tells
-quote-fits x lengths s =
+quote-fits x lengths s ok =
     either-way (λ (w : List ℕ). length w ≤ lengths .bytes) _ _ []
-    (λ e. ltb-false (lengths .bytes) _ (zero-passed _ _ _ (zero-passed _ _ _ (zero-passed _ _ _ (zero-passed _ _ _ e .1) .1) .1) .0)) zero-le
+    (λ e.
+    let a = zero-passed _ _ _ e in
+    let c = zero-passed _ _ _ (zero-passed _ _ _ (a .1) .1) in
+    let wide = ltb-false (lengths .bytes) changeRoom (zero-passed _ _ _ (c .1) .0) in
+    le-trans (written-fits s x (not-false (opened s) (a .0)) ok (leb-false lastPosition (newest s) (c .0))) wide) zero-le
 
 -- nor is what any call writes
-bytes-fit : (c : Call) (lengths : Lengths) (s : Reference) → length (referenceStep c lengths s .bytes) ≤ lengths .bytes
+bytes-fit : (c : Call) (lengths : Lengths) (s : Reference) → Bounded s → length (referenceStep c lengths s .bytes) ≤ lengths .bytes
 unfolding referenceStep tells foretells
-bytes-fit (Open d N directions) lengths s = either-way (λ (w : List ℕ). length w ≤ lengths .bytes) _ [] [] (λ _. zero-le) zero-le
-bytes-fit (Quote x) lengths s = quote-fits x lengths s
-bytes-fit (Look n) lengths s = either-way (λ (w : List ℕ). length w ≤ lengths .bytes) _ [] [] (λ _. zero-le) zero-le
-bytes-fit (Watch n) lengths s =
+bytes-fit (Open d N directions) lengths s ok = either-way (λ (w : List ℕ). length w ≤ lengths .bytes) _ [] [] (λ _. zero-le) zero-le
+bytes-fit (Quote x) lengths s ok = quote-fits x lengths s ok
+bytes-fit (Look n) lengths s ok = either-way (λ (w : List ℕ). length w ≤ lengths .bytes) _ [] [] (λ _. zero-le) zero-le
+bytes-fit (Watch desk n) lengths s ok =
     either-way (λ (w : List ℕ). length w ≤ lengths .bytes) _ _ []
-    (λ e. ltb-false (lengths .bytes) _ (zero-passed _ _ _ (zero-passed _ _ _ (zero-passed _ _ _ (zero-passed _ _ _ (zero-passed _ _ _ e .1) .1) .1) .1) .0)) zero-le
-bytes-fit (End n) lengths s = either-way (λ (w : List ℕ). length w ≤ lengths .bytes) _ [] [] (λ _. zero-le) zero-le
-bytes-fit (Past n1 n2) lengths s = either-way (λ (w : List ℕ). length w ≤ lengths .bytes) _ [] [] (λ _. zero-le) zero-le
-bytes-fit (Pair n1 n2) lengths s =
+    (λ e.
+    let a = zero-passed _ _ _ e in
+    let b = zero-passed _ _ _ (a .1) in
+    let r = in-range s n (b .0) in
+    let wide = ltb-false (lengths .bytes) changeRoom (zero-passed _ _ _ (zero-passed _ _ _ (zero-passed _ _ _ (b .1) .1) .1) .0) in
+    le-trans (watch-written s (not-false (opened s) (a .0)) ok (watchOf desk n) n (r .0) (r .1)) wide) zero-le
+bytes-fit (End desk n) lengths s ok = either-way (λ (w : List ℕ). length w ≤ lengths .bytes) _ [] [] (λ _. zero-le) zero-le
+bytes-fit (Past n1 n2) lengths s ok = either-way (λ (w : List ℕ). length w ≤ lengths .bytes) _ [] [] (λ _. zero-le) zero-le
+bytes-fit (Pair n1 n2) lengths s ok =
     either-way (λ (w : List ℕ). length w ≤ lengths .bytes) _ _ []
-    (λ e. ltb-false (lengths .bytes) _ (zero-passed _ _ _ (zero-passed _ _ _ (zero-passed _ _ _ (zero-passed _ _ _ (zero-passed _ _ _ e .1) .1) .1) .1) .0)) zero-le
-bytes-fit Unpair lengths s = either-way (λ (w : List ℕ). length w ≤ lengths .bytes) _ [] [] (λ _. zero-le) zero-le
-bytes-fit Due lengths s = either-way (λ (w : List ℕ). length w ≤ lengths .bytes) _ [] [] (λ _. zero-le) zero-le
-bytes-fit (Preview x) lengths s = quote-fits x lengths s
+    (λ e.
+    let a = zero-passed _ _ _ e in
+    let b = zero-passed _ _ _ (a .1) in
+    let c = zero-passed _ _ _ (b .1) in
+    let r = in-pair-range s n1 n2 (b .0) (c .0) in
+    let two = r .two in
+    let wide = ltb-false (lengths .bytes) changeRoom (zero-passed _ _ _ (zero-passed _ _ _ (c .1) .1) .0) in
+    le-trans (pair-written s (not-false (opened s) (a .0)) ok n1 n2 (omega arith) (r .order) (r .most)) wide) zero-le
+bytes-fit Unpair lengths s ok = either-way (λ (w : List ℕ). length w ≤ lengths .bytes) _ [] [] (λ _. zero-le) zero-le
+bytes-fit Due lengths s ok = either-way (λ (w : List ℕ). length w ≤ lengths .bytes) _ [] [] (λ _. zero-le) zero-le
+bytes-fit (Preview x) lengths s ok = quote-fits x lengths s ok
 
 -- and so no longer than the bytes that are lent
-bytes-room : (l : Lent) (o : Outputs) (c : Call) (s : Reference) → length (referenceStep c (lengthsOf l o) s .bytes) ≤ length (o .bytes)
+bytes-room : (l : Lent) (o : Outputs) (c : Call) (s : Reference) → Bounded s → length (referenceStep c (lengthsOf l o) s .bytes) ≤ length (o .bytes)
 unfolding lengthsOf
-bytes-room l o c s = bytes-fit c (lengthsOf l o) s
+bytes-room l o c s ok = bytes-fit c (lengthsOf l o) s ok
 
 -- outputs with bytes of the same length, and the same cells
 outputs-alike : (l : Lent) (o : Outputs) (bytes : List ℕ) → length bytes ≡ length (o .bytes) → lengthsOf l (record { bytes = bytes; cells = o .cells }) ≡ lengthsOf l o
@@ -155,9 +101,9 @@ module _ (lengths : Lengths) (s : Reference) where
   unfolding referenceStep tells
   quote-count x = granted-length _ _
 
-  watch-count : (n : ℕ) → referenceStep (Watch n) lengths s .count ≡ length (referenceStep (Watch n) lengths s .bytes)
+  watch-count : (desk : Desk) (n : ℕ) → referenceStep (Watch desk n) lengths s .count ≡ length (referenceStep (Watch desk n) lengths s .bytes)
   unfolding referenceStep tells
-  watch-count n = granted-length _ _
+  watch-count desk n = granted-length _ _
 
   look-count : (n : ℕ) → referenceStep (Look n) lengths s .count ≡ length (referenceStep (Look n) lengths s .cells)
   unfolding referenceStep tells
@@ -185,8 +131,8 @@ module _ (lengths : Lengths) (s : Reference) where
   laid-text (Open d N directions) o = refl
   laid-text (Quote x) o = rw (read-laid (referenceStep (Quote x) lengths s .bytes) (o .bytes) (quote-count x))
   laid-text (Look n) o = rw (read-laid (referenceStep (Look n) lengths s .cells) (o .cells) (look-count n))
-  laid-text (Watch n) o = rw (read-laid (referenceStep (Watch n) lengths s .bytes) (o .bytes) (watch-count n))
-  laid-text (End n) o = refl
+  laid-text (Watch desk n) o = rw (read-laid (referenceStep (Watch desk n) lengths s .bytes) (o .bytes) (watch-count desk n))
+  laid-text (End desk n) o = refl
   laid-text (Past n1 n2) o = rw (read-laid (referenceStep (Past n1 n2) lengths s .cells) (o .cells) (past-count n1 n2))
   laid-text (Pair n1 n2) o = rw (read-laid (referenceStep (Pair n1 n2) lengths s .bytes) (o .bytes) (pair-count n1 n2))
   laid-text Unpair o = refl
@@ -197,12 +143,6 @@ module _ (lengths : Lengths) (s : Reference) where
 pub record Alike (lengths : Lengths) (s : Reference) (k : Player) : Type 0 where
   pub simulation : Simulation (referenceWith s (k .world .lent)) (k .world)
   pub lent : lengthsOf (k .world .lent) (k .outputs) ≡ lengths
-
--- what is lent is then long enough
-alike-long : (s : Reference) (l : Lent) → (s ≡ unopened) ⊎ Invariant s l → Long l s
-unfolding opened settingsHold
-alike-long s l (inl e) t = absurd (clash false (rw e at t) refl)
-alike-long s l (inr f) t = f .long
 
 module _ (lengths : Lengths) (c : Call) (s : Reference) (k : Player) (v : Alike lengths s k) where
   -- what is lent
@@ -238,8 +178,8 @@ module _ (lengths : Lengths) (c : Call) (s : Reference) (k : Player) (v : Alike 
     simulation = record { head = j .head; lent = refl; since = rw (j .lent) (j .since) };
     lent =
         rw (j .lent, agree .0)
-        (outputs-alike (shown next l) (k .outputs) _ (length-laid (referenceStep c (lengthsOf l (k .outputs)) s .bytes) (k .outputs .bytes) (bytes-room l (k .outputs) c s))
-        ∙ lengths-kept next l (shown next l) (k .outputs) (long-after l (k .outputs) c s (alike-long s l (v .simulation .since))) (j .since))
+        (outputs-alike (shown next l) (k .outputs) _ (length-laid (referenceStep c (lengthsOf l (k .outputs)) s .bytes) (k .outputs .bytes) (bytes-room l (k .outputs) c s (bounded s l (v .simulation .since))))
+        ∙ lengths-kept next l (shown next l) (k .outputs) (long-after l (k .outputs) c s (since-long s l (v .simulation .since))) (j .since))
         ∙ v .lent;
   }
     where

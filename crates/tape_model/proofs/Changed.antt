@@ -9,6 +9,8 @@ use lib.ListN.{length, take}
 use lib.Seq.{take-all}
 use native.Mathlib.Nat.{le-refl}
 use borrow.Author.Tests.{leb-false}
+use Rattle.head.specs.declared.Desk.{Desk}
+use Rattle.head.specs.Desks.{watchOf}
 use Rattle.head.specs.Refusals.{granted}
 use Rattle.head.specs.Heads.{lastPosition}
 use Rattle.head.proofs.Numbers.{zero-passed}
@@ -22,7 +24,7 @@ use Rattle.model.proofs.Following.{sent-watch, sent-pairing, sent-quote}
 use Rattle.text.specs.Text.{line}
 use Rattle.printed.specs.Printed.{changeLines, changesText}
 use Rattle.printed.proofs.Printing.{changes-printed}
-use Rattle.tape_model.specs.Print.{linesOf, textOf}
+use Rattle.tape_model.specs.Print.{deskLine, linesOf, textOf}
 use Rattle.tape_model.specs.Play.{referenceMake}
 use Rattle.tape_model.specs.Ample.{Reaches}
 use Rattle.tape_model.proofs.Agrees.{reached-alike}
@@ -41,9 +43,9 @@ module _ (s : Reference) (ok : Bounded s) where
       → let ms = quoteChanges s x in changesText (frames ms) ≡ changeLines ms
   quote-printed x room = changes-printed (quoteChanges s x) (sent-quote s ok x room)
 
-  -- those of a watch of an n in range
-  pub watch-printed : (n : ℕ) → outside s n ≡ false → let ms = map (join n) (skylineOf s n) in changesText (frames ms) ≡ changeLines ms
-  watch-printed n e = changes-printed (map (join n) (skylineOf s n)) (sent-watch s ok n e)
+  -- those of a desk's watch of an n in range
+  pub watch-printed : (desk : Desk) (n : ℕ) → outside s n ≡ false → let ms = map (join (watchOf desk n)) (skylineOf s n) in changesText (frames ms) ≡ changeLines ms
+  watch-printed desk n e = changes-printed (map (join (watchOf desk n)) (skylineOf s n)) (sent-watch s ok desk n e)
 
   -- those of a pair in range
   pub pair-printed : (n1 n2 : ℕ) → outsidePair s n1 n2 ≡ false → ltb n2 n1 ≡ false
@@ -69,11 +71,11 @@ module _ (lengths : Lengths) (tape : List ℕ) (place : ℕ) (s : Reference) (h 
       let full = zero-passed _ _ _ (zero-passed _ _ _ (zero-passed _ _ _ e .1) .1) .0 in
       rw (e, written-all, quote-printed s reached-bounded x (leb-false lastPosition (newest s) full))
 
-  -- an accepted watch prints its n and the lines of its joins
-  pub watch-text : (n : ℕ) → referenceMake lengths (Call.Watch n) s .0 .outcome .number ≡ 0
-      → textOf (Call.Watch n) (referenceMake lengths (Call.Watch n) s .0) ≡ line 87 (n ∷ []) ++ changeLines (map (join n) (skylineOf s n))
+  -- an accepted watch prints its n and the lines of its joins, as its desk's
+  pub watch-text : (desk : Desk) (n : ℕ) → referenceMake lengths (Call.Watch desk n) s .0 .outcome .number ≡ 0
+      → textOf (Call.Watch desk n) (referenceMake lengths (Call.Watch desk n) s .0) ≡ deskLine desk 87 (n ∷ []) ++ changeLines (map (join (watchOf desk n)) (skylineOf s n))
   unfolding referenceMake referenceStep tells textOf linesOf granted
-  watch-text n e = rw (e, written-all, watch-printed s reached-bounded n (zero-passed _ _ _ (zero-passed _ _ _ e .1) .0))
+  watch-text desk n e = rw (e, written-all, watch-printed s reached-bounded desk n (zero-passed _ _ _ (zero-passed _ _ _ e .1) .0))
 
   -- an accepted pair prints its n1 and n2 and the lines of its joins
   pub pair-text : (n1 n2 : ℕ) → referenceMake lengths (Call.Pair n1 n2) s .0 .outcome .number ≡ 0

@@ -1,38 +1,36 @@
 -- With ample lengths no call of a tape is refused with 11 or 13, and the print does not depend on the lengths.
 use mathlib.Core.Path.{_≡_, refl, sym, ap, _∙_}
 use Prim.Native.Nat.{ℕ, zero, suc, _+_, _-_, _*_, _≤_}
-use native.Mathlib.Nat.{mul-le-mul-right, zero-mul, suc-mul}
+use native.Mathlib.Nat.{mul-le-mul-right}
 use native.Mathlib.Omega.{arith}
 use mathlib.Core.Bool.{Bool, true, false, not, cond}
-use mathlib.Core.List.{List, [], _∷_, _++_, map}
+use mathlib.Core.List.{List, [], _∷_, _++_}
 use lib.Dec.{ltb, leb, eqb}
-use lib.ListN.{length, replicate, length-append, length-replicate}
+use lib.ListN.{length}
 use borrow.Author.Tests.{le-ltb, eq-eqb, not-false}
-use Rattle.lists.specs.Lists.{any, flat, contains, between}
+use Rattle.lists.specs.Lists.{any, contains, between}
 use Rattle.lists.proofs.Booleans.{clash, none-left, none-right}
 use Rattle.lists.proofs.Filters.{length-filter}
 use Rattle.lists.proofs.Runs.{length-run}
 use Rattle.skyline.specs.Skyline.{windowStart, dominatedIn, skyline}
+use Rattle.head.specs.declared.Desk.{Desk}
+use Rattle.head.specs.Desks.{watchOf}
 use Rattle.head.specs.declared.Refusal.the-variants.{Settings, ColumnCount, WindowSize, TapeFull, AlreadyWatched, NoFreeRecord, ShortLoan, ShortOutput, WindowOrder}
 use Rattle.head.specs.Refusals.{number, firstOf}
 use Rattle.head.specs.Heads.{settingsHold, lastPosition}
 use Rattle.head.proofs.Numbers.{firstOf-alike, firstOf-fails}
 use Rattle.head.proofs.Settings.{settings-within}
-use Rattle.octets.specs.Bytes.{bytes2, bytes4}
-use Rattle.frames.specs.declared.Message.{Message}
-use Rattle.frames.specs.Frames.{frame, readAt}
-use Rattle.model.specs.Changes.{join, pairJoin, frames}
+use Rattle.frames.specs.Frames.{readAt}
+use Rattle.model.specs.Changes.{changeRoom}
+use Rattle.model.specs.Shares.{deskFull}
 use Rattle.model.specs.Reference.{Reference, Lengths, unopened, newest, over, skylineOf, pastOf, paired, opened, outside, outsidePast, outsidePair, tooShort, tells, referenceStep}
-use Rattle.model.specs.Book.{watchfulAnswer, quoteAnswer, quoteReply, replyOf}
-use Rattle.model.specs.Calls.{Call, Open, Quote, Look, Watch, End, Past, Pair, Unpair, Due, Preview, Outputs, Lent, Seen, World, bookSeen, bookStep, lengthsOf, worldFirst, expectedStep}
-use Rattle.model.proofs.Simulation.{Simulation, referenceWith, in-range, in-past-range, in-pair-range}
-use Rattle.model.proofs.Replay.{call-agrees}
-use Rattle.model.proofs.ChangesFit.{room-suffices}
+use Rattle.model.specs.Calls.{Call, Open, Quote, Look, Watch, End, Past, Pair, Unpair, Due, Preview, Outputs, Lent, lengthsOf, worldFirst}
+use Rattle.model.proofs.Simulation.{in-range, in-past-range}
 use Rattle.asking.specs.Asking.{Asked, finished, unread, misplaced, request, asked, playable}
 use Rattle.asking.proofs.Places.{asksPlayable, asked-playable}
-use Rattle.tape_model.specs.Play.{playAsked, playAt, printFrom, print, referenceMake, Player, bookMake, begun}
-use Rattle.tape_model.specs.Ample.{Reaches, Ample, Unshort}
-use Rattle.tape_model.proofs.Agrees.{print-agrees, Alike, frame-agrees, begins-alike, reached-alike}
+use Rattle.tape_model.specs.Play.{playAsked, playAt, printFrom, print, referenceMake, bookMake, begun}
+use Rattle.tape_model.specs.Ample.{Ample, Unshort}
+use Rattle.tape_model.proofs.Agrees.{print-agrees}
 
 -- ---- an opening
 
@@ -51,7 +49,7 @@ roomy lengths d N directions a e =
       le-ltb (lengths .watches) 8 (a .watches),
     )
 
--- ---- a look, a watch and a pair
+-- ---- the two looks
 
 -- a skyline of positions from a to b has at most as many
 skyline-few : (dom : ℕ → ℕ → Bool) (a b : ℕ) → length (skyline dom a b) ≤ suc b - a
@@ -85,36 +83,6 @@ past-list-short s n1 n2 o some order most =
     let small = settings-within (s .dimensions) (s .capacity) (s .directions) o .small-capacity in
     omega (arith, past-short s n1 n2 some order)
 
--- the frames of a join for each position have as many bytes as the frame of one, so many times
-joins-bytes : (joins : ℕ → Message) (each : ℕ) → ((p : ℕ) → length (frame (joins p) []) ≡ each) → (l : List ℕ) → length (frames (map joins l)) ≡ length l * each
-unfolding frames flat
-joins-bytes joins each one [] = sym (zero-mul each)
-joins-bytes joins each one (p ∷ l) =
-    length-append (frame (joins p) []) (frames (map joins l)) ∙ omega (arith, one p, joins-bytes joins each one l, suc-mul (length l) each)
-
--- a join has seven bytes, so those of a watch are 7,168 bytes at most
-joins-short : (s : Reference) (n : ℕ) → opened s ≡ true → outside s n ≡ false → length (frames (map (join n) (skylineOf s n))) ≤ 7168
-unfolding frame bytes2 bytes4
-joins-short s n o e = omega (arith, joins-bytes (join n) 7 (λ p. refl) (skylineOf s n), list-short s n o e)
-
--- one of the pair has five, so those of a pair are 5,120 bytes at most
-pair-joins-short : (s : Reference) (n1 n2 : ℕ) → opened s ≡ true → outsidePair s n1 n2 ≡ false → ltb n2 n1 ≡ false → length (frames (map pairJoin (pastOf s n1 n2))) ≤ 5120
-unfolding frame bytes4
-pair-joins-short s n1 n2 o e f =
-    let r = in-pair-range s n1 n2 e f in
-    let two = r .two in
-    omega (arith, joins-bytes pairJoin 5 (λ p. refl) (pastOf s n1 n2), past-list-short s n1 n2 o (omega arith) (r .order) (r .most))
-
--- ---- a quote
-
--- the reference model's answer to a quote is the book's
-quote-answered : (s : Reference) (w : World) → Simulation (referenceWith s (w .lent)) w → (x : List ℕ) (lengths : Lengths)
-    → referenceStep (Quote x) lengths s .number ≡ quoteAnswer (w .head) x (w .lent .tables) (w .lent .watches) (lengths .bytes)
-unfolding bookSeen bookStep expectedStep referenceStep tells lengthsOf quoteReply replyOf
-quote-answered s w j x lengths =
-    let e = length-replicate {A = ℕ} (lengths .bytes) 0 in
-    rw e at (sym (ap (λ (seen : Seen). seen .outcome .number) (call-agrees (Quote x) (record { bytes = replicate (lengths .bytes) 0; cells = [] }) (referenceWith s (w .lent)) w j .0)))
-
 -- ---- the answers with ample lengths
 
 module _ (lengths : Lengths) (a : Ample lengths) (s : Reference) where
@@ -146,36 +114,26 @@ module _ (lengths : Lengths) (a : Ample lengths) (s : Reference) where
       firstOf-fails (ltb (lengths .cells) (length (pastOf s n1 n2))) (number ShortOutput) []
       (le-ltb (lengths .cells) (length (pastOf s n1 n2)) (omega (arith, a .cells, past-list-short s n1 n2 (not-false (opened s) o) (r .0) (r .1) (r .2)))))))
 
-  -- a watch by its n and the watches
-  watch-plain : (n : ℕ)
-      → referenceStep (Watch n) lengths s .number
-      ≡ firstOf ((not (opened s), number Settings) ∷ (outside s n, number WindowSize) ∷ (contains n (s .watched), number AlreadyWatched) ∷ (leb 8 (length (s .watched)), number NoFreeRecord) ∷ [])
-  unfolding referenceStep tells
-  watch-plain n =
-      firstOf-alike (not (opened s)) (number Settings) _ _
-      (λ o. firstOf-alike (outside s n) (number WindowSize) _ _
-      (λ e. firstOf-alike (contains n (s .watched)) (number AlreadyWatched) _ _
-      (λ _. firstOf-alike (leb 8 (length (s .watched))) (number NoFreeRecord) _ []
-      (λ _. firstOf-fails (ltb (lengths .bytes) (length (frames (map (join n) (skylineOf s n))))) (number ShortOutput) [] (le-ltb (lengths .bytes) (length (frames (map (join n) (skylineOf s n)))) (omega (arith, a .bytes, joins-short s n (not-false (opened s) o) e)))))))
+  -- a watch by its desk, its n and the watches
+  watch-plain : (desk : Desk) (n : ℕ)
+      → referenceStep (Watch desk n) lengths s .number
+      ≡ firstOf ((not (opened s), number Settings) ∷ (outside s n, number WindowSize) ∷ (contains (watchOf desk n) (s .watched), number AlreadyWatched) ∷ (deskFull desk (s .watched), number NoFreeRecord) ∷ [])
+  unfolding referenceStep tells firstOf
+  watch-plain desk n = rw (le-ltb (lengths .bytes) changeRoom (a .bytes))
 
   -- a pair by its n1 and n2 and whether one stands
   pair-plain : (n1 n2 : ℕ)
       → referenceStep (Pair n1 n2) lengths s .number
       ≡ firstOf ((not (opened s), number Settings) ∷ (outsidePair s n1 n2, number WindowSize) ∷ (ltb n2 n1, number WindowOrder) ∷ (paired s, number NoFreeRecord) ∷ [])
-  unfolding referenceStep tells
-  pair-plain n1 n2 =
-      firstOf-alike (not (opened s)) (number Settings) _ _
-      (λ o. firstOf-alike (outsidePair s n1 n2) (number WindowSize) _ _
-      (λ e. firstOf-alike (ltb n2 n1) (number WindowOrder) _ _
-      (λ f. firstOf-alike (paired s) (number NoFreeRecord) _ []
-      (λ _. firstOf-fails (ltb (lengths .bytes) (length (frames (map pairJoin (pastOf s n1 n2))))) (number ShortOutput) []
-      (le-ltb (lengths .bytes) (length (frames (map pairJoin (pastOf s n1 n2)))) (omega (arith, a .bytes, pair-joins-short s n1 n2 (not-false (opened s) o) e f)))))))
+  unfolding referenceStep tells firstOf
+  pair-plain n1 n2 = rw (le-ltb (lengths .bytes) changeRoom (a .bytes))
 
-  -- a quote as the book judges it, by all but the length of the output
-  quote-plain : (w : World) → Simulation (referenceWith s (w .lent)) w → (x : List ℕ)
+  -- a quote by its columns and the newest position
+  quote-plain : (x : List ℕ)
       → referenceStep (Quote x) lengths s .number
-      ≡ watchfulAnswer (w .head) (w .lent .tables) (w .lent .watches) ((not (eqb (length x) (w .head .dimensions)), number ColumnCount) ∷ (leb lastPosition (w .head .newest), number TapeFull) ∷ [])
-  quote-plain w j x = quote-answered s w j x lengths ∙ room-suffices (w .head) x (w .lent .tables) (w .lent .watches) (lengths .bytes) (a .bytes)
+      ≡ firstOf ((not (opened s), number Settings) ∷ (not (eqb (length x) (s .dimensions)), number ColumnCount) ∷ (leb lastPosition (newest s), number TapeFull) ∷ [])
+  unfolding referenceStep tells firstOf
+  quote-plain x = rw (le-ltb (lengths .bytes) changeRoom (a .bytes))
 
 -- ---- never 11, never 13
 
@@ -198,73 +156,61 @@ plainly : (cs : List (Bool × ℕ)) {answer : ℕ} → answer ≡ firstOf cs →
 plainly cs e u v = (λ f. unnamed cs (number ShortLoan) (omega arith) u (sym e ∙ f), λ f. unnamed cs (number ShortOutput) (omega arith) v (sym e ∙ f))
 
 module _ (lengths : Lengths) (a : Ample lengths) where
-  -- no call that a frame asks for is answered with 11 or 13
-  unshort : (c : Call) → playable c ≡ true → (s : Reference) (k : Player) → Alike lengths s k → Unshort (referenceMake lengths c s .0 .outcome .number)
-  unfolding referenceMake referenceStep tells watchfulAnswer any playable
-  unshort (Open d N directions) p s k v = plainly _ (open-plain lengths a s d N directions) refl refl
-  unshort (Quote x) p s k v =
-      let w = k .world in
-      (λ f. unnamed _ (number ShortLoan) (omega arith) refl f, λ f. unnamed _ (number ShortOutput) (omega arith) refl (sym (quote-plain lengths a s w (v .simulation) x) ∙ f))
-  unshort (Look n) p s k v = plainly _ (look-plain lengths a s n) refl refl
-  unshort (Watch n) p s k v = plainly _ (watch-plain lengths a s n) refl refl
-  unshort (End n) p s k v = plainly _ refl refl refl
-  unshort (Past n1 n2) p s k v = plainly _ (past-plain lengths a s n1 n2) refl refl
-  unshort (Pair n1 n2) p s k v = plainly _ (pair-plain lengths a s n1 n2) refl refl
-  unshort Unpair p s k v = plainly _ refl refl refl
-  unshort Due p s k v = absurd (clash false p refl)
-  unshort (Preview x) p s k v = absurd (clash false p refl)
-
-  -- wherever a tape comes to, no call that a frame asks for is answered with 11 or 13
-  pub never-short : (tape : List ℕ) (place : ℕ) (s : Reference) → Reaches opened (referenceMake lengths) tape unopened place s
-      → (c : Call) → playable c ≡ true → Unshort (referenceMake lengths c s .0 .outcome .number)
-  never-short tape place s h c p = let t = reached-alike lengths tape h in unshort c p s (t .0) (t .1)
+  -- no call that a frame asks for is answered with 11 or 13, wherever a tape has come to
+  pub never-short : (c : Call) → playable c ≡ true → (s : Reference) → Unshort (referenceMake lengths c s .0 .outcome .number)
+  unfolding referenceMake referenceStep tells any playable
+  never-short (Open d N directions) p s = plainly _ (open-plain lengths a s d N directions) refl refl
+  never-short (Quote x) p s = plainly _ (quote-plain lengths a s x) refl refl
+  never-short (Look n) p s = plainly _ (look-plain lengths a s n) refl refl
+  never-short (Watch desk n) p s = plainly _ (watch-plain lengths a s desk n) refl refl
+  never-short (End desk n) p s = plainly _ refl refl refl
+  never-short (Past n1 n2) p s = plainly _ (past-plain lengths a s n1 n2) refl refl
+  never-short (Pair n1 n2) p s = plainly _ (pair-plain lengths a s n1 n2) refl refl
+  never-short Unpair p s = plainly _ refl refl refl
+  never-short Due p s = absurd (clash false p refl)
+  never-short (Preview x) p s = absurd (clash false p refl)
 
 -- ---- the print does not depend on ample lengths
 
 module _ (lengths lengths' : Lengths) (a : Ample lengths) (a' : Ample lengths') where
   -- a call that a frame asks for is answered alike with other ample lengths
-  made-same : (c : Call) → playable c ≡ true → (s : Reference) (k : Player) → Alike lengths s k → referenceMake lengths c s ≡ referenceMake lengths' c s
+  made-same : (c : Call) → playable c ≡ true → (s : Reference) → referenceMake lengths c s ≡ referenceMake lengths' c s
   unfolding referenceMake referenceStep tells playable
-  made-same (Open d N directions) p s k v = rw (open-plain lengths a s d N directions, open-plain lengths' a' s d N directions)
-  made-same (Quote x) p s k v =
-      let w = k .world in
-      rw (quote-plain lengths a s w (v .simulation) x, quote-plain lengths' a' s w (v .simulation) x)
-  made-same (Look n) p s k v = rw (look-plain lengths a s n, look-plain lengths' a' s n)
-  made-same (Watch n) p s k v = rw (watch-plain lengths a s n, watch-plain lengths' a' s n)
-  made-same (End n) p s k v = refl
-  made-same (Past n1 n2) p s k v = rw (past-plain lengths a s n1 n2, past-plain lengths' a' s n1 n2)
-  made-same (Pair n1 n2) p s k v = rw (pair-plain lengths a s n1 n2, pair-plain lengths' a' s n1 n2)
-  made-same Unpair p s k v = refl
-  made-same Due p s k v = absurd (clash false p refl)
-  made-same (Preview x) p s k v = absurd (clash false p refl)
+  made-same (Open d N directions) p s = rw (open-plain lengths a s d N directions, open-plain lengths' a' s d N directions)
+  made-same (Quote x) p s = rw (quote-plain lengths a s x, quote-plain lengths' a' s x)
+  made-same (Look n) p s = rw (look-plain lengths a s n, look-plain lengths' a' s n)
+  made-same (Watch desk n) p s = rw (watch-plain lengths a s desk n, watch-plain lengths' a' s desk n)
+  made-same (End desk n) p s = refl
+  made-same (Past n1 n2) p s = rw (past-plain lengths a s n1 n2, past-plain lengths' a' s n1 n2)
+  made-same (Pair n1 n2) p s = rw (pair-plain lengths a s n1 n2, pair-plain lengths' a' s n1 n2)
+  made-same Unpair p s = refl
+  made-same Due p s = absurd (clash false p refl)
+  made-same (Preview x) p s = absurd (clash false p refl)
 
   -- what is asked at a place is played alike
-  asked-same : (q : Asked) → asksPlayable q ≡ true → (next : ℕ) (s : Reference) (k : Player) → Alike lengths s k
-      → playAsked opened (referenceMake lengths) q next s ≡ playAsked opened (referenceMake lengths') q next s
+  asked-same : (q : Asked) → asksPlayable q ≡ true → (next : ℕ) (s : Reference) → playAsked opened (referenceMake lengths) q next s ≡ playAsked opened (referenceMake lengths') q next s
   unfolding playAsked asksPlayable
-  asked-same finished p next s k v = refl
-  asked-same (unread e) p next s k v = refl
-  asked-same misplaced p next s k v = refl
-  asked-same (request c) p next s k v = rw (made-same c p s k v)
+  asked-same finished p next s = refl
+  asked-same (unread e) p next s = refl
+  asked-same misplaced p next s = refl
+  asked-same (request c) p next s = rw (made-same c p s)
 
   -- and so is any number of frames
-  frames-same : (frames : ℕ) (tape : List ℕ) (place : ℕ) (s : Reference) (k : Player) → Alike lengths s k
+  frames-same : (frames : ℕ) (tape : List ℕ) (place : ℕ) (s : Reference)
       → printFrom opened (referenceMake lengths) frames tape place s ≡ printFrom opened (referenceMake lengths') frames tape place s
   unfolding printFrom playAt
-  frames-same zero tape place s k v = refl
-  frames-same (suc frames) tape place s k v =
+  frames-same zero tape place s = refl
+  frames-same (suc frames) tape place s =
       let one = playAt opened (referenceMake lengths) tape place s in
       let read = readAt tape place in
-      let rest = frames-same frames tape (one .next) (one .state) _ (frame-agrees lengths tape place s k v .state) in
-      rw (← (asked-same (asked (opened s) (read .says) (read .columns)) (asked-playable (opened s) tape place (read .columns)) (read .next) s k v)) (ap (λ (l : List ℕ). one .text ++ cond (one .over) [] l) rest)
+      let rest = frames-same frames tape (one .next) (one .state) in
+      rw (← (asked-same (asked (opened s) (read .says) (read .columns)) (asked-playable (opened s) tape place (read .columns)) (read .next) s)) (ap (λ (l : List ℕ). one .text ++ cond (one .over) [] l) rest)
 
 -- the print by the reference model is the same for all ample lengths
 pub ample-alike : (lengths lengths' : Lengths) → Ample lengths → Ample lengths' → (tape : List ℕ)
     → print opened (referenceMake lengths) tape unopened ≡ print opened (referenceMake lengths') tape unopened
 unfolding print
-ample-alike lengths lengths' a a' tape =
-    let first = begins-alike lengths in
-    frames-same lengths lengths' a a' (suc (length tape)) tape 0 unopened (first .0) (first .1)
+ample-alike lengths lengths' a a' tape = frames-same lengths lengths' a a' (suc (length tape)) tape 0 unopened
 
 -- so a book that is lent ample lengths prints of every tape what the reference model prints with any ample lengths
 pub ample-agrees : (tape : List ℕ) (l : Lent) (o : Outputs) (lengths : Lengths) → Ample (lengthsOf l o) → Ample lengths

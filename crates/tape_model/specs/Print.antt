@@ -2,10 +2,12 @@
 use Prim.Native.Nat.{ℕ}
 use mathlib.Core.List.{List, [], _∷_, _++_}
 use lib.ListN.{take}
+use Rattle.head.specs.declared.Desk.{Desk}
+use Rattle.head.specs.declared.Desk.the-variants.{One, Two}
 use Rattle.head.specs.Refusals.{granted}
 use Rattle.head.specs.Replies.{Outcome}
 use Rattle.model.specs.Calls.{Call, Open, Quote, Look, Watch, End, Past, Pair, Unpair, Due, Preview, Outputs}
-use Rattle.text.specs.Text.{line}
+use Rattle.text.specs.Text.{line, line2}
 use Rattle.printed.specs.Printed.{changesText}
 
 -- what a call answered: what it handed back, and what its outputs hold from their start on
@@ -13,15 +15,21 @@ pub record Answered : Type 0 where
   pub outcome : Outcome
   pub outputs : Outputs
 
+-- a line of a desk: desk two's has a 2 behind its letter
+unfoldable pub deskLine : Desk → ℕ → List ℕ → List ℕ
+deskLine One letter numbers = line letter numbers
+deskLine Two letter numbers = line2 letter 50 numbers
+
 -- the lines of an accepted call: O d N directions; Q position rows, the live ones, and its changes; L n positions; W n and its joins; U n;
--- P n1 n2 positions; B n1 n2 and its joins; E; no frame asks for what is due or for a preview, and they have no line
+-- P n1 n2 positions; B n1 n2 and its joins; E; of desk two W2 n and U2 n; no frame asks for what is due or for a preview, and they have
+-- no line
 unfoldable pub linesOf : Call → Answered → List ℕ
 linesOf (Open d N directions) a = line 79 (d ∷ N ∷ directions ∷ [])
 linesOf (Quote x) a =
     line 81 (a .outcome .head .newest ∷ a .outcome .head .live ∷ []) ++ changesText (take (a .outcome .count) (a .outputs .bytes))
 linesOf (Look n) a = line 76 (n ∷ take (a .outcome .count) (a .outputs .cells))
-linesOf (Watch n) a = line 87 (n ∷ []) ++ changesText (take (a .outcome .count) (a .outputs .bytes))
-linesOf (End n) a = line 85 (n ∷ [])
+linesOf (Watch desk n) a = deskLine desk 87 (n ∷ []) ++ changesText (take (a .outcome .count) (a .outputs .bytes))
+linesOf (End desk n) a = deskLine desk 85 (n ∷ [])
 linesOf (Past n1 n2) a = line 80 (n1 ∷ n2 ∷ take (a .outcome .count) (a .outputs .cells))
 linesOf (Pair n1 n2) a = line 66 (n1 ∷ n2 ∷ []) ++ changesText (take (a .outcome .count) (a .outputs .bytes))
 linesOf Unpair a = line 69 []

@@ -1,9 +1,10 @@
--- 01's tape and its print as 02 has it (5/13), and those of a tape with past looks (02, 1/13) and of one with a pair (02, 2/13).
+-- 01's tape and its print as 02 has it (5/13), and those of a tape with past looks (02, 1/13), of one with a pair (02, 2/13) and of one with
+-- two desks (02, 6/13).
 use Prim.Native.Nat.{ℕ, _+_}
 use mathlib.Core.List.{List, [], _∷_, _++_, map}
 use Rattle.lists.specs.Lists.{flat}
 use Rattle.frames.specs.declared.Message.the-variants.{Open, Quote, Sized, Pair, Bare}
-use Rattle.frames.specs.Kinds.{lookKind, watchKind, pairKind, unpairKind, pastKind}
+use Rattle.frames.specs.Kinds.{lookKind, watchKind, unwatchKind, watchTwoKind, unwatchTwoKind, pairKind, unpairKind, pastKind}
 use Rattle.frames.specs.Frames.{frame}
 
 -- the frame of a quote of two columns
@@ -103,4 +104,74 @@ pairText = flat (
     ∷ doubled 43 (4 ∷ [])
     ∷ plain 81 (7 ∷ 2 ∷ [])
     ∷ plain 69 []
+    ∷ [])
+
+-- the frame of a quote of one column
+abbrev one : ℕ → List ℕ
+one a = frame (Quote 1) (a ∷ [])
+
+-- the frame of a desk's watch, or of its end
+abbrev sized : ℕ → ℕ → List ℕ
+sized kind n = frame (Sized kind n) []
+
+-- a tape with two desks: watches until no record is free for either, some given back and taken by the other desk, then a pair and two quotes
+abbrev pub desksTape : List ℕ
+desksTape =
+    flat (frame (Open 1 8 0) [] ∷ sized watchKind 1 ∷ sized watchKind 2 ∷ sized watchKind 3 ∷ sized watchKind 4 ∷ sized watchKind 5 ∷ sized watchKind 6
+    ∷ sized watchTwoKind 1 ∷ sized watchTwoKind 2 ∷ sized watchTwoKind 3 ∷ sized watchTwoKind 4 ∷ sized unwatchKind 5 ∷ sized watchTwoKind 4 ∷ sized watchKind 5
+    ∷ sized watchTwoKind 5 ∷ sized unwatchTwoKind 1 ∷ sized watchKind 5 ∷ sized watchTwoKind 1 ∷ frame (Pair pairKind 2 2) [] ∷ one 5 ∷ one 3 ∷ [])
+
+-- a line of desk two
+abbrev second : ℕ → List ℕ → List ℕ
+second letter numbers = letter ∷ plain 50 numbers
+
+-- and its print: the changes of desk one, those of desk two, and that of the pair
+abbrev pub desksText : List ℕ
+desksText = flat (
+    plain 79 (1 ∷ 8 ∷ 0 ∷ [])
+    ∷ plain 87 (1 ∷ [])
+    ∷ plain 87 (2 ∷ [])
+    ∷ plain 87 (3 ∷ [])
+    ∷ plain 87 (4 ∷ [])
+    ∷ plain 87 (5 ∷ [])
+    ∷ plain 82 (9 ∷ [])
+    ∷ second 87 (1 ∷ [])
+    ∷ second 87 (2 ∷ [])
+    ∷ second 87 (3 ∷ [])
+    ∷ plain 82 (9 ∷ [])
+    ∷ plain 85 (5 ∷ [])
+    ∷ second 87 (4 ∷ [])
+    ∷ plain 82 (9 ∷ [])
+    ∷ plain 82 (9 ∷ [])
+    ∷ second 85 (1 ∷ [])
+    ∷ plain 87 (5 ∷ [])
+    ∷ plain 82 (9 ∷ [])
+    ∷ plain 66 (2 ∷ 2 ∷ [])
+    ∷ plain 81 (1 ∷ 1 ∷ [])
+    ∷ plain 43 (1 ∷ 1 ∷ [])
+    ∷ plain 43 (2 ∷ 1 ∷ [])
+    ∷ plain 43 (3 ∷ 1 ∷ [])
+    ∷ plain 43 (4 ∷ 1 ∷ [])
+    ∷ plain 43 (5 ∷ 1 ∷ [])
+    ∷ second 43 (2 ∷ 1 ∷ [])
+    ∷ second 43 (3 ∷ 1 ∷ [])
+    ∷ second 43 (4 ∷ 1 ∷ [])
+    ∷ plain 81 (2 ∷ 1 ∷ [])
+    ∷ plain 45 (1 ∷ 1 ∷ [])
+    ∷ plain 43 (1 ∷ 2 ∷ [])
+    ∷ plain 45 (2 ∷ 1 ∷ [])
+    ∷ plain 43 (2 ∷ 2 ∷ [])
+    ∷ plain 45 (3 ∷ 1 ∷ [])
+    ∷ plain 43 (3 ∷ 2 ∷ [])
+    ∷ plain 45 (4 ∷ 1 ∷ [])
+    ∷ plain 43 (4 ∷ 2 ∷ [])
+    ∷ plain 45 (5 ∷ 1 ∷ [])
+    ∷ plain 43 (5 ∷ 2 ∷ [])
+    ∷ second 45 (2 ∷ 1 ∷ [])
+    ∷ second 43 (2 ∷ 2 ∷ [])
+    ∷ second 45 (3 ∷ 1 ∷ [])
+    ∷ second 43 (3 ∷ 2 ∷ [])
+    ∷ second 45 (4 ∷ 1 ∷ [])
+    ∷ second 43 (4 ∷ 2 ∷ [])
+    ∷ doubled 43 (1 ∷ [])
     ∷ [])

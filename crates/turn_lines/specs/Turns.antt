@@ -7,26 +7,22 @@ use Rattle.lists.specs.Lists.{laid}
 use Rattle.head.specs.declared.Head.{Head}
 use Rattle.head.specs.Refusals.{numberOf, granted}
 use Rattle.model.specs.Rows.{Tables}
+use Rattle.model.specs.Changes.{changeRoom}
 use Rattle.model.specs.Calls.{Call}
 use Rattle.model.specs.Promises.{world}
-use Rattle.text.specs.Text.{line}
 use Rattle.tape_model.specs.Print.{refusalLine, textOf}
 use Rattle.tape_model.specs.Play.{Player, bookMake}
 use Rattle.turn_lines.specs.declared.Turn.{Turn}
 
 -- ---- lengths
 
--- how many bytes the line of so many numbers has at most: its letter and newline, and a space and ten digits for each
+-- how many bytes the line of so many numbers has at most: its letter, desk two's 2 and newline, and a space and ten digits for each
 abbrev pub lineBytes : ℕ → ℕ
-lineBytes numbers = 2 + 11 * numbers
-
--- how many bytes the changes of any call have: for each of eight watches up to 1,025 frames of 7 bytes, for the pair up to 1,024 of 5
-abbrev pub changeBytes : ℕ
-changeBytes = 8 * 1025 * 7 + 1024 * 5
+lineBytes numbers = 3 + 11 * numbers
 
 -- how many bytes the lines of any frame have room in: the longest list, n1, n2 and 1,024 positions, and for every 7 bytes of changes a line
 abbrev pub textBytes : ℕ
-textBytes = lineBytes 1026 + lineBytes 2 * (changeBytes / 7)
+textBytes = lineBytes 1026 + lineBytes 2 * (changeRoom / 7)
 
 -- ---- the player
 
@@ -37,8 +33,8 @@ player h t ws bytes = record { world = world h t ws; outputs = record { bytes = 
 -- ---- lines
 
 -- the line of an accepted call, or that of a refusal with this number
-unfoldable pub answerLine : ℕ → ℕ → List ℕ → List ℕ
-answerLine number letter numbers = granted number (line letter numbers) (refusalLine number)
+unfoldable pub answerLine : ℕ → List ℕ → List ℕ
+answerLine number accepted = granted number accepted (refusalLine number)
 
 -- what a frame comes to: its number (0: accepted), its lines, and the player after it
 pub record Effect : Type 0 where

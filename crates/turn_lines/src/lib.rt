@@ -6,12 +6,15 @@ ghost use lib.ListN.{length, take};
 ghost use Rattle.head.specs.declared.Head.{Head};
 ghost use Rattle.head.specs.Refusals.{number, numberOf, granted};
 ghost use Rattle.model.specs.Rows.{Tables};
+ghost use Rattle.model.specs.Changes.{changeRoom};
 ghost use Rattle.model.specs.Calls.{Call};
 ghost use Rattle.model.specs.Promises.{Opened, Quoted};
 ghost use Rattle.text.specs.Text.{Laid};
 ghost use Rattle.printed.specs.Printed.{changesText};
-ghost use Rattle.turn_lines.specs.Turns.{changeBytes, textBytes, player, answerLine, made, refusedWith, Turned};
+ghost use Rattle.tape_model.specs.Print.{deskLine};
+ghost use Rattle.turn_lines.specs.Turns.{lineBytes, textBytes, player, answerLine, made, refusedWith, Turned};
 use head::Answer;
+use head::Desk;
 use head::Head;
 use head::Refusal;
 use head::Reply;
@@ -22,16 +25,27 @@ pub struct Turn {
     pub answer: Answer,
     pub count: usize,
     pub head: Head,
-    pub watches: [u32; 8],
+    pub watches: [u64; 8],
+}
+
+// Lays the line of a desk, and returns how many bytes: desk two's has a 2 behind its letter. The line of what is no desk's is as desk one's.
+fn put_desk_line(desk: Desk, letter: u8, numbers: &[u32], text: &mut [u8]) -> usize
+    requires { ⌜ lineBytes (length (now numbers)) ≤ length (now text) ⌝ }
+    ensures { λ r. ⌜ Laid (deskLine desk letter (now (numbers .entry))) (now (text .entry)) r (now (text .exit)) ⌝ }
+{
+    match desk {
+        Desk::One => text::put_line(letter, numbers, text),
+        Desk::Two => text::put_line2(letter, b'2', numbers, text),
+    }
 }
 
 // Lays the line of an accepted call, or that of its refusal, and returns how many bytes.
-pub fn put_answer(answer: Answer, letter: u8, numbers: &[u32], text: &mut [u8]) -> usize
-    requires { ⌜ (13 ≤ length (now text)) × (2 + 11 * length (now numbers) ≤ length (now text)) ⌝ }
-    ensures { λ r. ⌜ Laid (answerLine (numberOf answer) letter (now (numbers .entry))) (now (text .entry)) r (now (text .exit)) ⌝ }
+pub fn put_answer(answer: Answer, desk: Desk, letter: u8, numbers: &[u32], text: &mut [u8]) -> usize
+    requires { ⌜ (lineBytes 1 ≤ length (now text)) × (lineBytes (length (now numbers)) ≤ length (now text)) ⌝ }
+    ensures { λ r. ⌜ Laid (answerLine (numberOf answer) (deskLine desk letter (now (numbers .entry)))) (now (text .entry)) r (now (text .exit)) ⌝ }
 {
     match answer {
-        Answer::Accepted => text::put_line(letter, numbers, text),
+        Answer::Accepted => put_desk_line(desk, letter, numbers, text),
         Answer::Refused(refusal) => {
             let number = [refusal.number()];
             text::put_line(b'R', &number, text)
@@ -42,6 +56,7 @@ pub fn put_answer(answer: Answer, letter: u8, numbers: &[u32], text: &mut [u8]) 
 // Lays the line of a call's answer, then the lines of the changes in the first count bytes, and returns how many bytes.
 pub fn put_changed(
     answer: Answer,
+    desk: Desk,
     letter: u8,
     numbers: &[u32],
     bytes: &[u8],
@@ -49,10 +64,10 @@ pub fn put_changed(
     text: &mut [u8],
 ) -> usize
     requires { ⌜ (length (now numbers) ≤ 2) × (count ≤ length (now bytes)) ⌝ }
-    requires { ⌜ (length (now bytes) ≤ changeBytes) × (textBytes ≤ length (now text)) ⌝ }
-    ensures { λ r. ⌜ Laid (answerLine (numberOf answer) letter (now (numbers .entry)) ++ changesText (take count (now (bytes .entry)))) (now (text .entry)) r (now (text .exit)) ⌝ }
+    requires { ⌜ (length (now bytes) ≤ changeRoom) × (textBytes ≤ length (now text)) ⌝ }
+    ensures { λ r. ⌜ Laid (answerLine (numberOf answer) (deskLine desk letter (now (numbers .entry))) ++ changesText (take count (now (bytes .entry)))) (now (text .entry)) r (now (text .exit)) ⌝ }
 {
-    let line = put_answer(answer, letter, numbers, text);
+    let line = put_answer(answer, desk, letter, numbers, text);
     let lines = printed::put_changes(bytes, count, &mut text[line..]);
     line + lines
 }
@@ -86,15 +101,15 @@ pub fn put_opening(
     let numbers = [dimensions, capacity, directions];
     Turn {
         answer,
-        count: put_answer(answer, b'O', &numbers, text),
+        count: put_answer(answer, Desk::One, b'O', &numbers, text),
         head: opened_head(answer, fresh, head),
         watches: kept,
     }
 }
 
 // Lays the line of a quote that was made, and those of its changes.
-pub fn put_quote(reply: Reply, watches: [u32; 8], bytes: &[u8], text: &mut [u8]) -> Turn
-    requires { ⌜ (reply .count ≤ length (now bytes)) × ((length (now bytes) ≤ changeBytes) × (textBytes ≤ length (now text))) ⌝ }
+pub fn put_quote(reply: Reply, watches: [u64; 8], bytes: &[u8], text: &mut [u8]) -> Turn
+    requires { ⌜ (reply .count ≤ length (now bytes)) × ((length (now bytes) ≤ changeRoom) × (textBytes ≤ length (now text))) ⌝ }
     ensures { λ r. ⌜ ((h : Head) (x : List ℕ) (t t' : Tables) (before : List ℕ) → Quoted h x t watches before reply t' (now (bytes .entry)) → Turned (made (Call.Quote x) (player h t watches before)) (now (text .entry)) r t' (now (bytes .entry)) (now (text .exit))) ⌝ }
 {
     let answer = reply.answer;
@@ -102,14 +117,14 @@ pub fn put_quote(reply: Reply, watches: [u32; 8], bytes: &[u8], text: &mut [u8])
     let numbers = [head.newest, head.live];
     Turn {
         answer,
-        count: put_changed(answer, b'Q', &numbers, bytes, reply.count, text),
+        count: put_changed(answer, Desk::One, b'Q', &numbers, bytes, reply.count, text),
         head,
         watches,
     }
 }
 
 // Lays the line of what was refused before any call.
-pub fn put_refusal(refusal: Refusal, head: Head, watches: [u32; 8], text: &mut [u8]) -> Turn
+pub fn put_refusal(refusal: Refusal, head: Head, watches: [u64; 8], text: &mut [u8]) -> Turn
     requires { ⌜ textBytes ≤ length (now text) ⌝ }
     ensures { λ r. ⌜ ((t : Tables) (bytes : List ℕ) → Turned (refusedWith (number refusal) (player head t watches bytes)) (now (text .entry)) r t bytes (now (text .exit))) ⌝ }
 {

@@ -2,110 +2,39 @@
 ghost use mathlib.Core.List.{List};
 ghost use Prim.Native.Nat.{ℕ, _≤_};
 ghost use lib.ListN.{length};
+ghost use Rattle.model.specs.Changes.{changeRoom};
 ghost use Rattle.model.specs.Calls.{Call};
 ghost use Rattle.model.specs.Promises.{tables};
-ghost use Rattle.turn_lines.specs.Turns.{changeBytes, textBytes, player, made, Turned};
-ghost use Rattle.turns.specs.Wishes.{looked, observed, unquoted};
+ghost use Rattle.turn_lines.specs.Turns.{textBytes, player, made, Turned};
+ghost use Rattle.turns.specs.Wishes.{pairObserved, observed, unquoted};
 use asking::Wanted;
-use head::Answer;
+use head::Desk;
 use head::Head;
-use head::Refusal;
 use turn_lines::Turn;
 use turn_lines::put_answer;
 use turn_lines::put_changed;
 use turn_lines::put_opening;
-use turn_lines::put_refusal;
+use turn_reads::tell;
 
-// Makes a look, and lays its line.
-fn look(
-    head: Head,
-    n: u32,
-    columns: &[u32],
-    positions: &[u32],
-    lower_ends: &[u32],
-    upper_ends: &[u32],
-    watches: [u32; 8],
-    text: &mut [u8],
-) -> Turn
-    requires { ⌜ textBytes ≤ length (now text) ⌝ }
-    ensures { λ r. ⌜ ((bytes : List ℕ) → Turned (made (Call.Look n) (player head (tables (now (columns .entry)) (now (positions .entry)) (now («lower_ends» .entry)) (now («upper_ends» .entry))) watches bytes)) (now (text .entry)) r (tables (now (columns .entry)) (now (positions .entry)) (now («lower_ends» .entry)) (now («upper_ends» .entry))) bytes (now (text .exit))) ⌝ }
-{
-    let mut cells = [0u32; 1025];
-    let reply = looking::look(
-        head,
-        n,
-        columns,
-        positions,
-        lower_ends,
-        upper_ends,
-        &mut cells[1..],
-    );
-    let answer = reply.answer;
-    cells[0] = n;
-    let end = reply.count + 1;
-    Turn {
-        answer,
-        count: put_answer(answer, b'L', &cells[..end], text),
-        head,
-        watches,
-    }
-}
-
-// Makes a past look, and lays its line.
-fn past(
-    head: Head,
-    n1: u32,
-    n2: u32,
-    columns: &[u32],
-    positions: &[u32],
-    lower_ends: &[u32],
-    upper_ends: &[u32],
-    watches: [u32; 8],
-    text: &mut [u8],
-) -> Turn
-    requires { ⌜ textBytes ≤ length (now text) ⌝ }
-    ensures { λ r. ⌜ ((bytes : List ℕ) → Turned (made (Call.Past n1 n2) (player head (tables (now (columns .entry)) (now (positions .entry)) (now («lower_ends» .entry)) (now («upper_ends» .entry))) watches bytes)) (now (text .entry)) r (tables (now (columns .entry)) (now (positions .entry)) (now («lower_ends» .entry)) (now («upper_ends» .entry))) bytes (now (text .exit))) ⌝ }
-{
-    let mut cells = [0u32; 1026];
-    let reply = looking::past(
-        head,
-        n1,
-        n2,
-        columns,
-        positions,
-        lower_ends,
-        upper_ends,
-        &mut cells[2..],
-    );
-    let answer = reply.answer;
-    cells[0] = n1;
-    cells[1] = n2;
-    let end = reply.count + 2;
-    Turn {
-        answer,
-        count: put_answer(answer, b'P', &cells[..end], text),
-        head,
-        watches,
-    }
-}
-
-// Sets a watch, and lays its line and its joins.
+// Sets a desk's watch, and lays its line and its joins.
 fn watch(
     head: Head,
+    desk: Desk,
     n: u32,
     columns: &[u32],
     positions: &[u32],
     lower_ends: &[u32],
     upper_ends: &[u32],
-    watches: [u32; 8],
+    watches: [u64; 8],
     bytes: &mut [u8],
     text: &mut [u8],
 ) -> Turn
-    requires { ⌜ (length (now bytes) ≤ changeBytes) × (textBytes ≤ length (now text)) ⌝ }
-    ensures { λ r. ⌜ Turned (made (Call.Watch n) (player head (tables (now (columns .entry)) (now (positions .entry)) (now («lower_ends» .entry)) (now («upper_ends» .entry))) watches (now (bytes .entry)))) (now (text .entry)) r (tables (now (columns .entry)) (now (positions .entry)) (now («lower_ends» .entry)) (now («upper_ends» .entry))) (now (bytes .exit)) (now (text .exit)) ⌝ }
+    requires { ⌜ (length (now bytes) ≤ changeRoom) × (textBytes ≤ length (now text)) ⌝ }
+    ensures { λ r. ⌜ Turned (made (Call.Watch desk n) (player head (tables (now (columns .entry)) (now (positions .entry)) (now («lower_ends» .entry)) (now («upper_ends» .entry))) watches (now (bytes .entry)))) (now (text .entry)) r (tables (now (columns .entry)) (now (positions .entry)) (now («lower_ends» .entry)) (now («upper_ends» .entry))) (now (bytes .exit)) (now (text .exit)) ⌝ }
 {
     let watched = watching::watch(
         head,
+        desk,
         n,
         columns,
         positions,
@@ -121,27 +50,37 @@ fn watch(
     let numbers = [n];
     Turn {
         answer,
-        count: put_changed(answer, b'W', &numbers, bytes, reply.count, text),
+        count: put_changed(answer, desk, b'W', &numbers, bytes, reply.count, text),
         head: next,
         watches: kept,
     }
 }
 
-// Ends a watch, and lays its line.
+// Ends a desk's watch, and lays its line.
 fn end(
     head: Head,
+    desk: Desk,
     n: u32,
     columns: &[u32],
     positions: &[u32],
     lower_ends: &[u32],
     upper_ends: &[u32],
-    watches: [u32; 8],
+    watches: [u64; 8],
     text: &mut [u8],
 ) -> Turn
     requires { ⌜ textBytes ≤ length (now text) ⌝ }
-    ensures { λ r. ⌜ ((bytes : List ℕ) → Turned (made (Call.End n) (player head (tables (now (columns .entry)) (now (positions .entry)) (now («lower_ends» .entry)) (now («upper_ends» .entry))) watches bytes)) (now (text .entry)) r (tables (now (columns .entry)) (now (positions .entry)) (now («lower_ends» .entry)) (now («upper_ends» .entry))) bytes (now (text .exit))) ⌝ }
+    ensures { λ r. ⌜ ((bytes : List ℕ) → Turned (made (Call.End desk n) (player head (tables (now (columns .entry)) (now (positions .entry)) (now («lower_ends» .entry)) (now («upper_ends» .entry))) watches bytes)) (now (text .entry)) r (tables (now (columns .entry)) (now (positions .entry)) (now («lower_ends» .entry)) (now («upper_ends» .entry))) bytes (now (text .exit))) ⌝ }
 {
-    let ended = watching::end(head, n, columns, positions, lower_ends, upper_ends, watches);
+    let ended = watching::end(
+        head,
+        desk,
+        n,
+        columns,
+        positions,
+        lower_ends,
+        upper_ends,
+        watches,
+    );
     let reply = ended.reply;
     let answer = reply.answer;
     let next = reply.head;
@@ -149,7 +88,7 @@ fn end(
     let numbers = [n];
     Turn {
         answer,
-        count: put_answer(answer, b'U', &numbers, text),
+        count: put_answer(answer, desk, b'U', &numbers, text),
         head: next,
         watches: kept,
     }
@@ -164,11 +103,11 @@ fn pair(
     positions: &[u32],
     lower_ends: &[u32],
     upper_ends: &[u32],
-    watches: [u32; 8],
+    watches: [u64; 8],
     bytes: &mut [u8],
     text: &mut [u8],
 ) -> Turn
-    requires { ⌜ (length (now bytes) ≤ changeBytes) × (textBytes ≤ length (now text)) ⌝ }
+    requires { ⌜ (length (now bytes) ≤ changeRoom) × (textBytes ≤ length (now text)) ⌝ }
     ensures { λ r. ⌜ Turned (made (Call.Pair n1 n2) (player head (tables (now (columns .entry)) (now (positions .entry)) (now («lower_ends» .entry)) (now («upper_ends» .entry))) watches (now (bytes .entry)))) (now (text .entry)) r (tables (now (columns .entry)) (now (positions .entry)) (now («lower_ends» .entry)) (now («upper_ends» .entry))) (now (bytes .exit)) (now (text .exit)) ⌝ }
 {
     let reply = watching::pair(
@@ -187,7 +126,7 @@ fn pair(
     let numbers = [n1, n2];
     Turn {
         answer,
-        count: put_changed(answer, b'B', &numbers, bytes, reply.count, text),
+        count: put_changed(answer, Desk::One, b'B', &numbers, bytes, reply.count, text),
         head: next,
         watches,
     }
@@ -200,7 +139,7 @@ fn unpair(
     positions: &[u32],
     lower_ends: &[u32],
     upper_ends: &[u32],
-    watches: [u32; 8],
+    watches: [u64; 8],
     text: &mut [u8],
 ) -> Turn
     requires { ⌜ textBytes ≤ length (now text) ⌝ }
@@ -212,96 +151,28 @@ fn unpair(
     let numbers: [u32; 0] = [];
     Turn {
         answer,
-        count: put_answer(answer, b'E', &numbers, text),
+        count: put_answer(answer, Desk::One, b'E', &numbers, text),
         head: next,
         watches,
     }
 }
 
-// Makes the look, now or back, or the refusal, and lays its line; all else lays none.
-fn tell(
+// Sets or ends the pair, or makes what leaves the book as it is, and lays the lines.
+fn observe_pair(
     wanted: Wanted,
     head: Head,
     columns: &[u32],
     positions: &[u32],
     lower_ends: &[u32],
     upper_ends: &[u32],
-    watches: [u32; 8],
-    text: &mut [u8],
-) -> Turn
-    requires { ⌜ textBytes ≤ length (now text) ⌝ }
-    ensures { λ r. ⌜ ((bytes : List ℕ) → Turned (looked wanted (player head (tables (now (columns .entry)) (now (positions .entry)) (now («lower_ends» .entry)) (now («upper_ends» .entry))) watches bytes)) (now (text .entry)) r (tables (now (columns .entry)) (now (positions .entry)) (now («lower_ends» .entry)) (now («upper_ends» .entry))) bytes (now (text .exit))) ⌝ }
-{
-    match wanted {
-        Wanted::Look(n) => look(
-            head,
-            n as u32,
-            columns,
-            positions,
-            lower_ends,
-            upper_ends,
-            watches,
-            text,
-        ),
-        Wanted::Past(n1, n2) => past(
-            head,
-            n1 as u32,
-            n2 as u32,
-            columns,
-            positions,
-            lower_ends,
-            upper_ends,
-            watches,
-            text,
-        ),
-        Wanted::Refused(refusal) => put_refusal(refusal, head, watches, text),
-        Wanted::Misplaced => put_refusal(Refusal::OutOfPlace, head, watches, text),
-        _ => Turn {
-            answer: Answer::Accepted,
-            count: 0,
-            head,
-            watches,
-        },
-    }
-}
-
-// Makes the call that leaves the tables as they are, or the refusal, and lays its lines; all else lays none.
-fn observe(
-    wanted: Wanted,
-    head: Head,
-    columns: &[u32],
-    positions: &[u32],
-    lower_ends: &[u32],
-    upper_ends: &[u32],
-    watches: [u32; 8],
+    watches: [u64; 8],
     bytes: &mut [u8],
     text: &mut [u8],
 ) -> Turn
-    requires { ⌜ (length (now bytes) ≤ changeBytes) × (textBytes ≤ length (now text)) ⌝ }
-    ensures { λ r. ⌜ Turned (observed wanted (player head (tables (now (columns .entry)) (now (positions .entry)) (now («lower_ends» .entry)) (now («upper_ends» .entry))) watches (now (bytes .entry)))) (now (text .entry)) r (tables (now (columns .entry)) (now (positions .entry)) (now («lower_ends» .entry)) (now («upper_ends» .entry))) (now (bytes .exit)) (now (text .exit)) ⌝ }
+    requires { ⌜ (length (now bytes) ≤ changeRoom) × (textBytes ≤ length (now text)) ⌝ }
+    ensures { λ r. ⌜ Turned (pairObserved wanted (player head (tables (now (columns .entry)) (now (positions .entry)) (now («lower_ends» .entry)) (now («upper_ends» .entry))) watches (now (bytes .entry)))) (now (text .entry)) r (tables (now (columns .entry)) (now (positions .entry)) (now («lower_ends» .entry)) (now («upper_ends» .entry))) (now (bytes .exit)) (now (text .exit)) ⌝ }
 {
     match wanted {
-        Wanted::Watch(n) => watch(
-            head,
-            n as u32,
-            columns,
-            positions,
-            lower_ends,
-            upper_ends,
-            watches,
-            bytes,
-            text,
-        ),
-        Wanted::End(n) => end(
-            head,
-            n as u32,
-            columns,
-            positions,
-            lower_ends,
-            upper_ends,
-            watches,
-            text,
-        ),
         Wanted::Pair(n1, n2) => pair(
             head,
             n1 as u32,
@@ -336,6 +207,59 @@ fn observe(
     }
 }
 
+// Sets or ends a desk's watch, or makes what leaves tables and watches as they are, and lays the lines.
+fn observe(
+    wanted: Wanted,
+    head: Head,
+    columns: &[u32],
+    positions: &[u32],
+    lower_ends: &[u32],
+    upper_ends: &[u32],
+    watches: [u64; 8],
+    bytes: &mut [u8],
+    text: &mut [u8],
+) -> Turn
+    requires { ⌜ (length (now bytes) ≤ changeRoom) × (textBytes ≤ length (now text)) ⌝ }
+    ensures { λ r. ⌜ Turned (observed wanted (player head (tables (now (columns .entry)) (now (positions .entry)) (now («lower_ends» .entry)) (now («upper_ends» .entry))) watches (now (bytes .entry)))) (now (text .entry)) r (tables (now (columns .entry)) (now (positions .entry)) (now («lower_ends» .entry)) (now («upper_ends» .entry))) (now (bytes .exit)) (now (text .exit)) ⌝ }
+{
+    match wanted {
+        Wanted::Watch(desk, n) => watch(
+            head,
+            desk,
+            n as u32,
+            columns,
+            positions,
+            lower_ends,
+            upper_ends,
+            watches,
+            bytes,
+            text,
+        ),
+        Wanted::End(desk, n) => end(
+            head,
+            desk,
+            n as u32,
+            columns,
+            positions,
+            lower_ends,
+            upper_ends,
+            watches,
+            text,
+        ),
+        _ => observe_pair(
+            wanted,
+            head,
+            columns,
+            positions,
+            lower_ends,
+            upper_ends,
+            watches,
+            bytes,
+            text,
+        ),
+    }
+}
+
 // Makes what a frame wants, if it is no quote, and lays its lines.
 pub fn make_other(
     wanted: Wanted,
@@ -344,11 +268,11 @@ pub fn make_other(
     positions: &mut [u32],
     lower_ends: &mut [u32],
     upper_ends: &mut [u32],
-    watches: [u32; 8],
+    watches: [u64; 8],
     bytes: &mut [u8],
     text: &mut [u8],
 ) -> Turn
-    requires { ⌜ (length (now bytes) ≤ changeBytes) × (textBytes ≤ length (now text)) ⌝ }
+    requires { ⌜ (length (now bytes) ≤ changeRoom) × (textBytes ≤ length (now text)) ⌝ }
     ensures { λ r. ⌜ Turned (unquoted wanted (player head (tables (now (columns .entry)) (now (positions .entry)) (now («lower_ends» .entry)) (now («upper_ends» .entry))) watches (now (bytes .entry)))) (now (text .entry)) r (tables (now (columns .exit)) (now (positions .exit)) (now («lower_ends» .exit)) (now («upper_ends» .exit))) (now (bytes .exit)) (now (text .exit)) ⌝ }
 {
     match wanted {

@@ -1,6 +1,6 @@
 -- What eight steps over the records leave: the numbers that are read, and the records that numbers are stored in.
 use mathlib.Core.Path.{_≡_, refl, sym, ap, _∙_}
-use Prim.Native.Nat.{ℕ, zero, suc, _+_, _-_, _≤_, min}
+use Prim.Native.Nat.{ℕ, zero, suc, _+_, _-_, _*_, _/_, _%_, _≤_, min}
 use native.Mathlib.Decide.{decLe}
 use native.Mathlib.Omega.{arith}
 use mathlib.Core.List.{List, [], _∷_, _++_, map, append-nil}
@@ -9,7 +9,9 @@ use lib.Seq.{take-suc, take-all, take-length, drop-length, take-append-le, lengt
 use Rattle.lists.specs.Lists.{laid, padded}
 use Rattle.lists.proofs.Growing.{padded-more, laid-more}
 use Rattle.head.specs.declared.Watch.{Watch}
-use Rattle.watches.specs.Records.{watched, firstEight, stored}
+use Rattle.head.specs.Desks.{deskUnit, recordOf}
+use Rattle.watches.specs.Records.{recordNumber, watched, firstEight, stored}
+use Rattle.watches.proofs.RecordNumbers.{made-up}
 use Rattle.watches.proofs.Records.{front-is}
 
 -- the numbers after i steps of reading
@@ -17,10 +19,18 @@ unfoldable pub copied : List ℕ → ℕ → List ℕ
 copied ws zero = replicate 8 0
 copied ws (suc i) = set (copied ws i) i (getD ws i 0)
 
+-- the record that is empty
+abbrev pub empty : Watch
+empty = record { n = 0; desk = 0 }
+
+-- the record that a number stands for
+abbrev pub recordAt : ℕ → Watch
+recordAt w = record { n = w % deskUnit; desk = w / deskUnit }
+
 -- the records after i steps of storing
 unfoldable pub putIn : List Watch → List ℕ → ℕ → List Watch
 putIn records watches zero = records
-putIn records watches (suc i) = set (putIn records watches i) i (record { n = getD watches i 0 })
+putIn records watches (suc i) = set (putIn records watches i) i (recordAt (getD watches i 0))
 
 pub length-putIn : (records : List Watch) (watches : List ℕ) (i : ℕ) → length (putIn records watches i) ≡ length records
 unfolding putIn
@@ -54,16 +64,17 @@ take-least n l = go (decLe n (length l))
     go (no h) = let e : min n (length l) ≡ length l = omega arith in rw (e, take-length l, take-all n l (omega arith))
 
 -- one more is read
-pub read-on : (records : List Watch) (i : ℕ) → set (copied (watched records) i) i (getD records i (record { n = 0 }) .n) ≡ copied (watched records) (suc i)
-unfolding copied watched
-read-on records i = ap (set (copied (map Watch.n records) i) i) (sym (List·getD-map Watch.n records i (record { n = 0 })))
+pub read-on : (records : List Watch) (i : ℕ)
+    → set (copied (watched records) i) i (getD records i empty .desk * deskUnit + getD records i empty .n) ≡ copied (watched records) (suc i)
+unfolding copied watched recordOf
+read-on records i = ap (set (copied (map recordNumber records) i) i) (sym (List·getD-map recordNumber records i empty))
 
 -- what reading comes to
 pub all-read : (records : List Watch) → copied (watched records) (min 8 (length records)) ≡ firstEight (watched records)
 unfolding firstEight padded watched
 all-read records =
-    let ws = map Watch.n records in
-    let many : length ws ≡ length records = length-map records Watch.n in
+    let ws = map recordNumber records in
+    let many : length ws ≡ length records = length-map records recordNumber in
     let e : 8 - min 8 (length ws) ≡ 8 - length ws = omega arith in
     ap (λ (k : ℕ). copied ws (min 8 k)) (sym many)
     ∙ copied-is ws (min 8 (length ws)) (omega arith) (omega arith)
@@ -86,9 +97,9 @@ unfolding watched putIn
 put-is records watches zero h k = sym (nothing-laid (watched records))
 put-is records watches (suc i) h k =
     let len : length (take i watches) ≡ i = length-take-le i watches (omega arith) in
-    let many : length (map Watch.n records) ≡ length records = length-map records Watch.n in
-    let more = laid-more (take i watches) (map Watch.n records) (getD watches i 0) (omega arith) in
-    rw (map-set Watch.n (putIn records watches i) i (record { n = getD watches i 0 }), put-is records watches i (omega arith) (omega arith), take-suc watches i 0 h) (rw len at more)
+    let many : length (map recordNumber records) ≡ length records = length-map records recordNumber in
+    let more = laid-more (take i watches) (map recordNumber records) (getD watches i 0) (omega arith) in
+    rw (map-set recordNumber (putIn records watches i) i (recordAt (getD watches i 0)), made-up (getD watches i 0), put-is records watches i (omega arith) (omega arith), take-suc watches i 0 h) (rw len at more)
 
 -- as much of a list as there is room for, laid over another
 laid-least : (l before : List ℕ) → laid (take (min (length l) (length before)) l) before ≡ take (length before) (laid l before)
@@ -111,5 +122,5 @@ pub all-put : (records : List Watch) (watches : List ℕ) → length watches ≡
 unfolding watched stored
 all-put records watches e =
     put-is records watches (min 8 (length records)) (omega arith) (omega arith)
-    ∙ ap (λ (k : ℕ). laid (take (min 8 k) watches) (map Watch.n records)) (sym (length-map records Watch.n))
-    ∙ rw e at (laid-least watches (map Watch.n records))
+    ∙ ap (λ (k : ℕ). laid (take (min 8 k) watches) (map recordNumber records)) (sym (length-map records recordNumber))
+    ∙ rw e at (laid-least watches (map recordNumber records))

@@ -1,79 +1,119 @@
--- The passes that count the standing watches and seek one: their invariants, and what they come to.
-use mathlib.Core.Path.{_≡_, refl, ap}
+-- The passes that count a desk's watches and seek one: their invariants, and what they come to.
+use mathlib.Core.Path.{_≡_, refl, sym, ap, _∙_}
+use mathlib.Core.Logic.{_⊎_, inl, inr}
 use Prim.Native.Nat.{ℕ, _+_, _<_, _≤_}
 use native.Mathlib.Numerals.{add-one}
 use native.Mathlib.Omega.{arith}
-use mathlib.Core.Bool.{Bool, false, _&&_, _||_}
+use mathlib.Core.Bool.{Bool, true, false, _&&_, _||_}
 use mathlib.Core.List.{List, append-nil}
 use lib.Dec.{ltb, eqb}
 use lib.ListN.{length, getD, take, length-append}
-use borrow.Author.Tests.{lt-ltb, le-ltb}
+use borrow.Author.Tests.{lt-ltb, eqb-true, eq-eqb, ne-eqb}
 use Rattle.lists.specs.Lists.{filter, any, contains}
-use Rattle.lists.proofs.Members.{contains-filter}
+use Rattle.lists.proofs.Booleans.{either, and-false}
+use Rattle.lists.proofs.Filters.{filter-filter}
+use Rattle.lists.proofs.Members.{contains-filter, filter-same-mem}
 use Rattle.lists.proofs.Growing.{length-prefix, filter-more, any-more}
+use Rattle.head.specs.declared.Desk.{Desk}
+use Rattle.head.specs.Desks.{deskNumber, deskIn, watchOf}
+use Rattle.model.specs.Shares.{ofDesk, countOf}
 use Rattle.model.specs.Book.{standing}
+use Rattle.watches.proofs.RecordNumbers.{watch-stands, desk-stands}
 
--- of the eight watches the first i are passed, and count of them stand
-pub record Counting (watches : List ℕ) (count i : ℕ) : Type 0 where
+-- a watch is that of the desk with this number
+unfoldable pub ofNumber : ℕ → ℕ → Bool
+ofNumber number w = eqb (deskIn w) number
+
+-- of the eight watches the first i are passed, and count of them are those of the desk with this number
+pub record Counting (watches : List ℕ) (number count i : ℕ) : Type 0 where
   pub eight : length watches ≡ 8
   pub within : i ≤ 8
-  pub counted : count ≡ length (filter (ltb 0) (take i watches))
+  pub counted : count ≡ length (filter (ofNumber number) (take i watches))
 
--- of the eight watches the first i are passed, and found says whether n is among them
-pub record Finding (watches : List ℕ) (n : ℕ) (found : Bool) (i : ℕ) : Type 0 where
+-- of the eight watches the first i are passed, and found says whether this one is among them
+pub record Finding (watches : List ℕ) (watch : ℕ) (found : Bool) (i : ℕ) : Type 0 where
   pub eight : length watches ≡ 8
   pub within : i ≤ 8
-  pub sought : found ≡ contains n (take i watches)
+  pub sought : found ≡ contains watch (take i watches)
 
-module _ (watches : List ℕ) where
-  pub start-count : length watches ≡ 8 → Counting watches 0 0
+-- an empty record is no desk's: a desk's watches stand
+desk-of-standing : (desk : Desk) (w : ℕ) → ltb 0 w && ofDesk desk w ≡ ofNumber (deskNumber desk) w
+unfolding ofDesk ofNumber
+desk-of-standing desk w = go (either (eqb (deskIn w) (deskNumber desk)))
+  where
+    go : (eqb (deskIn w) (deskNumber desk) ≡ true) ⊎ (eqb (deskIn w) (deskNumber desk) ≡ false) → ltb 0 w && eqb (deskIn w) (deskNumber desk) ≡ eqb (deskIn w) (deskNumber desk)
+    go (inl t) = rw (t, lt-ltb 0 w (desk-stands desk w (eqb-true (deskIn w) (deskNumber desk) t)))
+    go (inr t) = rw t (and-false (ltb 0 w))
+
+-- a desk's watches among the first eight records
+desk-counted : (desk : Desk) (watches : List ℕ) → countOf desk (standing watches) ≡ length (filter (ofNumber (deskNumber desk)) (take 8 watches))
+unfolding countOf standing
+desk-counted desk watches =
+    ap length (filter-filter (ofDesk desk) (ltb 0) (take 8 watches))
+    ∙ ap length (filter-same-mem (λ w. ltb 0 w && ofDesk desk w) (ofNumber (deskNumber desk)) (take 8 watches) (λ w m. desk-of-standing desk w))
+
+-- a desk has eight at most
+pub few-of-desk : (desk : Desk) (watches : List ℕ) → countOf desk (standing watches) ≤ 8
+few-of-desk desk watches = omega (arith, desk-counted desk watches, length-prefix (ofNumber (deskNumber desk)) watches 8)
+
+module _ (watches : List ℕ) (number : ℕ) where
+  pub start-count : length watches ≡ 8 → Counting watches number 0 0
   unfolding filter
   start-count e = record { eight = e; within = omega arith; counted = refl }
 
-  module _ (count i : ℕ) (s : Counting watches count i) (h : i < 8) where
-    pub few-standing : count < 8
-    few-standing = omega (arith, s .counted, length-prefix (ltb 0) watches i)
+  module _ (count i : ℕ) (s : Counting watches number count i) (h : i < 8) where
+    pub few-counted : count < 8
+    few-counted = omega (arith, s .counted, length-prefix (ofNumber number) watches i)
 
-    pub more-standing : 0 < getD watches i 0 → Counting watches (count + 1) (i + 1)
-    more-standing p =
+    pub more-owned : deskIn (getD watches i 0) ≡ number → Counting watches number (count + 1) (i + 1)
+    unfolding ofNumber
+    more-owned p =
         let l : i < length watches = omega (arith, s .eight) in
         record {
           eight = s .eight;
           within = omega arith;
-          counted = rw (add-one i, filter-more (ltb 0) watches i 0 l, lt-ltb 0 (getD watches i 0) p, length-append) (ap (λ (k : ℕ). k + 1) (s .counted));
+          counted = rw (add-one i, filter-more (ofNumber number) watches i 0 l, eq-eqb (deskIn (getD watches i 0)) number p, length-append) (ap (λ (k : ℕ). k + 1) (s .counted));
         }
 
-    pub more-empty : getD watches i 0 ≤ 0 → Counting watches count (i + 1)
-    more-empty p =
+    pub more-other : (deskIn (getD watches i 0) ≡ number → ⊥) → Counting watches number count (i + 1)
+    unfolding ofNumber
+    more-other p =
         let l : i < length watches = omega (arith, s .eight) in
         record {
           eight = s .eight;
           within = omega arith;
-          counted = rw (add-one i, filter-more (ltb 0) watches i 0 l, le-ltb 0 (getD watches i 0) p, append-nil) (s .counted);
+          counted = rw (add-one i, filter-more (ofNumber number) watches i 0 l, ne-eqb (deskIn (getD watches i 0)) number p, append-nil) (s .counted);
         }
 
-  pub finish-count : (count i : ℕ) → Counting watches count i → 8 ≤ i → count ≡ length (standing watches)
-  unfolding standing
-  finish-count count i s h = let e : i ≡ 8 = omega (arith, s .within) in rw e at (s .counted)
+  pub finish-count : (desk : Desk) (count i : ℕ) → number ≡ deskNumber desk → Counting watches number count i → 8 ≤ i → count ≡ countOf desk (standing watches)
+  finish-count desk count i n s h =
+      let e : i ≡ 8 = omega (arith, s .within) in
+      let f : count ≡ length (filter (ofNumber (deskNumber desk)) (take 8 watches)) = rw (e, n) at (s .counted) in
+      f ∙ sym (desk-counted desk watches)
 
-module _ (watches : List ℕ) (n : ℕ) where
-  pub start-find : length watches ≡ 8 → Finding watches n false 0
+module _ (watches : List ℕ) (watch : ℕ) where
+  pub start-find : length watches ≡ 8 → Finding watches watch false 0
   unfolding contains any
   start-find e = record { eight = e; within = omega arith; sought = refl }
 
-  pub more-find : (found : Bool) (i : ℕ) → Finding watches n found i → i < 8 → Finding watches n (found || eqb n (getD watches i 0)) (i + 1)
+  pub more-find : (found : Bool) (i : ℕ) → Finding watches watch found i → i < 8 → Finding watches watch (found || eqb watch (getD watches i 0)) (i + 1)
   unfolding contains
   more-find found i s h =
       let l : i < length watches = omega (arith, s .eight) in
       record {
         eight = s .eight;
         within = omega arith;
-        sought = rw (add-one i, any-more (eqb n) watches i 0 l) (ap (λ (b : Bool). b || eqb n (getD watches i 0)) (s .sought));
+        sought = rw (add-one i, any-more (eqb watch) watches i 0 l) (ap (λ (b : Bool). b || eqb watch (getD watches i 0)) (s .sought));
       }
 
-  pub finish-find : (found : Bool) (i : ℕ) → Finding watches n found i → 8 ≤ i → found && ltb 0 n ≡ contains n (standing watches)
-  unfolding standing
-  finish-find found i s h =
-      let e : i ≡ 8 = omega (arith, s .within) in
-      let f : found ≡ contains n (take 8 watches) = rw e at (s .sought) in
-      rw (contains-filter (ltb 0) n (take 8 watches), f)
+and-true : (b : Bool) → b && true ≡ b
+and-true true = refl
+and-true false = refl
+
+-- a desk's watch that is found is one that stands
+pub finish-find : (watches : List ℕ) (desk : Desk) (n watch : ℕ) (found : Bool) (i : ℕ) → watch ≡ watchOf desk n → Finding watches watch found i → 8 ≤ i → found ≡ contains (watchOf desk n) (standing watches)
+unfolding standing
+finish-find watches desk n watch found i w s h =
+    let e : i ≡ 8 = omega (arith, s .within) in
+    let f : found ≡ contains (watchOf desk n) (take 8 watches) = rw (e, w) at (s .sought) in
+    rw (contains-filter (ltb 0) (watchOf desk n) (take 8 watches), lt-ltb 0 (watchOf desk n) (watch-stands desk n), and-true) f

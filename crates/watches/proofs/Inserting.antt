@@ -4,7 +4,7 @@ use mathlib.Core.Logic.{_⊎_, inl, inr}
 use Prim.Native.Nat.{ℕ, zero, suc, _+_, _-_, _<_, _≤_}
 use native.Mathlib.Numerals.{add-one}
 use native.Mathlib.Omega.{arith}
-use mathlib.Core.Bool.{Bool, true, false, _&&_, _||_, cond}
+use mathlib.Core.Bool.{Bool, true, false, _&&_, _||_, not, cond}
 use mathlib.Core.List.{List, [], _∷_, _++_, append-nil, append-assoc}
 use lib.Dec.{ltb, leb, eqb}
 use lib.ListN.{length, getD, take, drop, set, replicate, length-set, length-replicate, drop-of-length-le}
@@ -13,7 +13,8 @@ use borrow.Author.Tests.{leb-true, lt-ltb, ne-eqb, not-true, not-false}
 use Rattle.lists.specs.Lists.{filter, any, insert, padded}
 use Rattle.lists.proofs.Booleans.{either, clash, and-left, and-right, none-left}
 use Rattle.lists.proofs.Rising.{length-insert}
-use Rattle.model.specs.Book.{ordered, standing, tornWatches}
+use Rattle.model.specs.Shares.{aboveShares}
+use Rattle.model.specs.Book.{isWatch, ordered, standing, tornWatches}
 
 -- where the watch carried goes before the watch in hand
 unfoldable pub goesHere : ℕ → ℕ → Bool
@@ -53,10 +54,10 @@ ordered-standing : (lo capacity watch : ℕ) (rest : List ℕ) → 0 < watch →
 unfolding ordered
 ordered-standing lo capacity watch rest h e =
     let f = rw (ne-eqb watch 0 (λ z. omega arith)) at e in
-    let g = and-left (leb lo watch && leb watch capacity) (ordered (suc watch) capacity rest) f in
+    let g = and-left (leb lo watch && isWatch capacity watch) (ordered (suc watch) capacity rest) f in
     record {
-      low = leb-true lo watch (and-left (leb lo watch) (leb watch capacity) g);
-      after = and-right (leb lo watch && leb watch capacity) (ordered (suc watch) capacity rest) f;
+      low = leb-true lo watch (and-left (leb lo watch) (isWatch capacity watch) g);
+      after = and-right (leb lo watch && isWatch capacity watch) (ordered (suc watch) capacity rest) f;
     }
 
 ordered-empty : (lo capacity : ℕ) (rest : List ℕ) → ordered lo capacity (0 ∷ rest) ≡ true → rest ≡ replicate (length rest) 0
@@ -122,7 +123,7 @@ unfolding tornWatches standing padded behind
 inserted capacity n watches e t h =
     let whole : take 8 watches ≡ watches = take-all 8 watches (omega arith) in
     let beyond : drop 8 watches ≡ [] = drop-of-length-le watches {i = 8} (omega arith) in
-    let o : ordered 1 capacity watches ≡ true = rw whole at (not-false (ordered 1 capacity (take 8 watches)) t) in
+    let o : ordered 1 capacity watches ≡ true = rw whole at (not-false (ordered 1 capacity (take 8 watches)) (none-left (not (ordered 1 capacity (take 8 watches))) (ltb 2 (aboveShares (standing watches))) t)) in
     let free : length (filter (ltb 0) watches) < length watches = (let f = rw whole at h in omega arith) in
     rw (whole, beyond, append-nil, length-insert, pushed-inserts 1 capacity n watches o free, e)
 

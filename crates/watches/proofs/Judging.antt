@@ -1,4 +1,4 @@
--- The pass that judges the watches: its invariant, and what it comes to.
+-- The pass that judges the order of the watches: its invariant, and what it comes to.
 use mathlib.Core.Path.{_≡_, refl}
 use mathlib.Core.Logic.{_⊎_, inl, inr}
 use Prim.Native.Nat.{ℕ, zero, suc, _+_, _<_, _≤_}
@@ -7,12 +7,12 @@ use native.Mathlib.Omega.{arith}
 use mathlib.Core.Bool.{Bool, true, false, _&&_, _||_, not, cond}
 use mathlib.Core.List.{List, [], _∷_}
 use lib.Dec.{ltb, leb, eqb}
-use lib.ListN.{length, getD, drop, drop-of-length-le}
+use lib.ListN.{length, getD, take, drop, drop-of-length-le}
 use lib.Seq.{take-all, drop-cons}
 use borrow.Author.Tests.{leb-true, leb-false, lt-ltb, le-ltb, ne-eqb}
 use Rattle.lists.specs.Lists.{any}
 use Rattle.lists.proofs.Booleans.{either}
-use Rattle.model.specs.Book.{ordered, tornWatches}
+use Rattle.model.specs.Book.{isWatch, ordered}
 
 -- what is torn of the watches still to come, after an empty one or after one that stands
 unfoldable pub tornRest : ℕ → Bool → ℕ → List ℕ → Bool
@@ -32,15 +32,15 @@ de-morgan false false c = refl
 
 -- a watch that stands is judged by the last one before it
 judge-standing : (capacity last watch : ℕ) (rest : List ℕ) → 0 < watch
-    → (ltb 0 watch && (leb watch last || ltb capacity watch)) || tornRest capacity (eqb watch 0) watch rest ≡ tornRest capacity false last (watch ∷ rest)
+    → (ltb 0 watch && (leb watch last || not (isWatch capacity watch))) || tornRest capacity (eqb watch 0) watch rest ≡ tornRest capacity false last (watch ∷ rest)
 unfolding tornRest ordered
 judge-standing capacity last watch rest h =
-    rw (lt-ltb 0 watch h, ne-eqb watch 0 (λ e. omega arith), flip capacity watch, flip last watch)
-    (de-morgan (leb watch last) (leb watch capacity) (ordered (suc watch) capacity rest))
+    rw (lt-ltb 0 watch h, ne-eqb watch 0 (λ e. omega arith), flip last watch)
+    (de-morgan (leb watch last) (isWatch capacity watch) (ordered (suc watch) capacity rest))
 
 -- one watch more is judged
 judge-one : (capacity : ℕ) (torn ended : Bool) (last watch : ℕ) (rest : List ℕ)
-    → (torn || (ltb 0 watch && ((ended || leb watch last) || ltb capacity watch))) || tornRest capacity (ended || eqb watch 0) watch rest
+    → (torn || (ltb 0 watch && ((ended || leb watch last) || not (isWatch capacity watch)))) || tornRest capacity (ended || eqb watch 0) watch rest
     ≡ torn || tornRest capacity ended last (watch ∷ rest)
 unfolding tornRest ordered any
 judge-one capacity true ended last watch rest = refl
@@ -67,18 +67,18 @@ judge-none capacity false false last = refl
 pub record Judging (capacity : ℕ) (watches : List ℕ) (torn ended : Bool) (last i : ℕ) : Type 0 where
   pub eight : length watches ≡ 8
   pub within : i ≤ 8
-  pub judged : torn || tornRest capacity ended last (drop i watches) ≡ tornWatches capacity watches
+  pub judged : torn || tornRest capacity ended last (drop i watches) ≡ not (ordered 1 capacity (take 8 watches))
 
 module _ (capacity : ℕ) (watches : List ℕ) where
   pub start : length watches ≡ 8 → Judging capacity watches false false 0 0
-  unfolding tornRest tornWatches
+  unfolding tornRest
   start e = record { eight = e; within = omega arith; judged = rw (take-all 8 watches (omega arith)) }
 
   module _ (torn ended : Bool) (last i : ℕ) (s : Judging capacity watches torn ended last i) where
     abbrev watch : ℕ
     watch = getD watches i 0
 
-    pub more : i < 8 → Judging capacity watches (torn || (ltb 0 watch && ((ended || leb watch last) || ltb capacity watch))) (ended || eqb watch 0) watch (i + 1)
+    pub more : i < 8 → Judging capacity watches (torn || (ltb 0 watch && ((ended || leb watch last) || not (isWatch capacity watch)))) (ended || eqb watch 0) watch (i + 1)
     more h =
         let l : i < length watches = omega (arith, s .eight) in
         record {
@@ -87,5 +87,5 @@ module _ (capacity : ℕ) (watches : List ℕ) where
           judged = rw (add-one i, judge-one capacity torn ended last watch (drop (suc i) watches)) (rw (drop-cons watches i 0 l) at (s .judged));
         }
 
-    pub finish : 8 ≤ i → torn ≡ tornWatches capacity watches
+    pub finish : 8 ≤ i → torn ≡ not (ordered 1 capacity (take 8 watches))
     finish h = rw (drop-of-length-le watches {i = i} (omega (arith, s .eight)), judge-none) at (s .judged)

@@ -14,7 +14,7 @@ use Rattle.lists.proofs.Growing.{length-prefix}
 use Rattle.lists.proofs.Rising.{length-insert}
 use Rattle.head.specs.declared.Watch.{Watch}
 use Rattle.model.specs.Book.{standing, tornWatches}
-use Rattle.watches.specs.Records.{watched, firstEight, stored, Vacant}
+use Rattle.watches.specs.Records.{recordNumber, watched, firstEight, stored, Vacant}
 use Rattle.watches.proofs.Inserting.{none-stand}
 
 -- zeros behind a list, as far as it is too short
@@ -39,7 +39,7 @@ standing-first ws = rw (take-take 8 8 (ws ++ replicate 8 0) (omega arith), front
 -- so is what is torn of eight records
 pub torn-first : (capacity : ℕ) (ws : List ℕ) → 8 ≤ length ws → tornWatches capacity (firstEight ws) ≡ tornWatches capacity ws
 unfolding tornWatches
-torn-first capacity ws h = rw (firstEight-whole ws h, take-take 8 8 ws (omega arith))
+torn-first capacity ws h = rw (standing-first ws, firstEight-whole ws h, take-take 8 8 ws (omega arith))
 
 -- watches written with empties behind them, as numbers and stored, are the same written over the records
 stored-padded : (l ws : List ℕ) → length l ≤ 8 → 8 ≤ length ws → stored (padded 8 l (firstEight ws)) ws ≡ padded 8 l ws
@@ -68,4 +68,4 @@ few-left n ws =
 
 pub many : (records : List Watch) → 8 ≤ length records → 8 ≤ length (watched records)
 unfolding watched
-many records h = rw (length-map records Watch.n) h
+many records h = rw (length-map records recordNumber) h

@@ -14,7 +14,7 @@ pub record Turn (count t i : ℕ) : Type 0 where
   pub of-records : i < count
   pub falls : t - 1 < t
   pub next : t - 1 + suc i ≡ min 8 count
-  pub place-fits : i * 4 < 2 ^ 64
+  pub place-fits : i * 8 < 2 ^ 64
   pub next-fits : i + 1 < 2 ^ 64
 
 true-of : (b : Bool) → T b → b ≡ true

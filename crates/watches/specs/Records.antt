@@ -6,11 +6,16 @@ use mathlib.Core.List.{List, _++_, map}
 use lib.ListN.{length, take, replicate}
 use Rattle.lists.specs.Lists.{laid}
 use Rattle.head.specs.declared.Watch.{Watch}
+use Rattle.head.specs.Desks.{recordOf}
 use Rattle.model.specs.Book.{standing, tornWatches}
 
--- the n of each record
+-- a record as one number
+abbrev pub recordNumber : Watch → ℕ
+recordNumber r = recordOf (r .desk) (r .n)
+
+-- the number of each record
 unfoldable pub watched : List Watch → List ℕ
-watched records = map Watch.n records
+watched records = map recordNumber records
 
 -- the first eight numbers, with 0 where there is none
 unfoldable pub firstEight : List ℕ → List ℕ

@@ -1,60 +1,66 @@
-// The watches of a book: eight numbers that are counted, sought, judged, inserted and removed, and the lent list of records that holds them.
+// The watches of a book: eight records, each as one number, that are counted, sought, judged, inserted and removed, and the lent list of
+// records that holds them.
+mod desks;
+mod shares;
+
 ghost use mathlib.Core.Path.{_≡_};
-ghost use mathlib.Core.Bool.{cond};
+ghost use mathlib.Core.Bool.{not, cond};
 ghost use Prim.Native.Nat.{_≤_};
-ghost use lib.ListN.{length};
+ghost use lib.ListN.{length, take};
 ghost use Rattle.lists.specs.Lists.{contains, insert, without, padded};
-ghost use Rattle.model.specs.Book.{standing, tornWatches};
+ghost use Rattle.head.specs.Desks.{watchOf};
+ghost use Rattle.model.specs.Book.{isWatch, ordered, standing, tornWatches};
 ghost use Rattle.watches.specs.Records.{watched, firstEight, stored, Vacant};
+use desks::DESK_UNIT;
+pub use desks::desk_of;
+pub use desks::size_of;
+pub use desks::watch_of;
+use head::Desk;
 use head::Reply;
 use head::Watch;
+use shares::above_shares;
+pub use shares::full;
 
 // What a call that may change the watches hands back: its reply, and the watches after it.
 pub struct WatchReply {
     pub reply: Reply,
-    pub watches: [u32; 8],
+    pub watches: [u64; 8],
 }
 
-// How many watches stand.
-pub fn standing_count(watches: [u32; 8]) -> usize
-    ensures { λ r. ⌜ r ≡ length (standing watches) ⌝ }
+// Whether a desk watches n.
+pub fn find(watches: [u64; 8], desk: Desk, n: u32) -> bool
+    ensures { λ r. ⌜ r ≡ contains (watchOf desk n) (standing watches) ⌝ }
 {
-    let mut count: usize = 0;
-    let mut seen: usize = 0;
-    while seen < 8 {
-        let watch = watches[seen];
-        seen += 1;
-        if 0 < watch {
-            count += 1;
-        }
-    }
-    count
-}
-
-// Whether n is watched.
-pub fn find(watches: [u32; 8], n: u32) -> bool
-    ensures { λ r. ⌜ r ≡ contains n (standing watches) ⌝ }
-{
+    let watch = watch_of(desk, n);
     let mut found = false;
     let mut i: usize = 0;
     while i < 8 {
-        found = found | (n == watches[i]);
+        found = found | (watch == watches[i]);
         i += 1;
     }
-    found & (0 < n)
+    found
 }
 
-// Whether the watches do not rise, do not end in empties, or go above the capacity.
-pub fn torn(capacity: u32, watches: [u32; 8]) -> bool
-    ensures { λ r. ⌜ r ≡ tornWatches capacity watches ⌝ }
+// Whether a record is that of desk one or two, its n from 1 to the capacity.
+fn is_watch(capacity: u32, watch: u64) -> bool
+    ensures { λ r. ⌜ r ≡ isWatch capacity watch ⌝ }
+{
+    let desk = desk_of(watch);
+    let n = size_of(watch);
+    (1 <= desk) & (desk <= 2) & (1 <= n) & (n <= capacity)
+}
+
+// Whether the records are not watches that rise, and then empties.
+fn disordered(capacity: u32, watches: [u64; 8]) -> bool
+    ensures { λ r. ⌜ r ≡ not (ordered 1 capacity (take 8 watches)) ⌝ }
 {
     let mut torn = false;
     let mut ended = false;
-    let mut last: u32 = 0;
+    let mut last: u64 = 0;
     let mut i: usize = 0;
     while i < 8 {
         let watch = watches[i];
-        torn = torn | ((0 < watch) & (ended | (watch <= last) | (capacity < watch)));
+        torn = torn | ((0 < watch) & (ended | (watch <= last) | !is_watch(capacity, watch)));
         ended = ended | (watch == 0);
         last = watch;
         i += 1;
@@ -62,20 +68,27 @@ pub fn torn(capacity: u32, watches: [u32; 8]) -> bool
     torn
 }
 
+// Whether the records are out of order, or over the desks' shares.
+pub fn torn(capacity: u32, watches: [u64; 8]) -> bool
+    ensures { λ r. ⌜ r ≡ tornWatches capacity watches ⌝ }
+{
+    disordered(capacity, watches) | (2 < above_shares(watches))
+}
+
 // The first number where the test passed, else the second.
-fn choose(test: bool, first: u32, second: u32) -> u32
+fn choose(test: bool, first: u64, second: u64) -> u64
     ensures { λ r. ⌜ r ≡ cond test first second ⌝ }
 {
     if test { first } else { second }
 }
 
-// The watches with n put into its place: from there on each moves up by one.
-pub fn insert(watches: [u32; 8], n: u32) -> [u32; 8]
+// The watches with a desk's watch of n put into its place: from there on each moves up by one.
+pub fn insert(watches: [u64; 8], desk: Desk, n: u32) -> [u64; 8]
     requires { ⌜ Vacant watches ⌝ }
-    ensures { λ r. ⌜ r ≡ padded 8 (insert n (standing watches)) watches ⌝ }
+    ensures { λ r. ⌜ r ≡ padded 8 (insert (watchOf desk n) (standing watches)) watches ⌝ }
 {
-    let mut after = [0u32; 8];
-    let mut carried = n;
+    let mut after = [0u64; 8];
+    let mut carried = watch_of(desk, n);
     let mut i: usize = 0;
     while i < 8 {
         let watch = watches[i];
@@ -87,17 +100,18 @@ pub fn insert(watches: [u32; 8], n: u32) -> [u32; 8]
     after
 }
 
-// The watches without n, with no gap, and empties behind them.
-pub fn remove(watches: [u32; 8], n: u32) -> [u32; 8]
-    ensures { λ r. ⌜ r ≡ padded 8 (without n (standing watches)) watches ⌝ }
+// The watches without a desk's watch of n, with no gap, and empties behind them.
+pub fn remove(watches: [u64; 8], desk: Desk, n: u32) -> [u64; 8]
+    ensures { λ r. ⌜ r ≡ padded 8 (without (watchOf desk n) (standing watches)) watches ⌝ }
 {
-    let mut kept = [0u32; 8];
+    let ended = watch_of(desk, n);
+    let mut kept = [0u64; 8];
     let mut count: usize = 0;
     let mut i: usize = 0;
     while i < 8 {
         let watch = watches[i];
         i += 1;
-        if (0 < watch) & (n != watch) {
+        if (0 < watch) & (ended != watch) {
             kept[count] = watch;
             count += 1;
         }
@@ -105,54 +119,59 @@ pub fn remove(watches: [u32; 8], n: u32) -> [u32; 8]
     kept
 }
 
-// The numbers of the first eight records; 0 where there is no record.
-pub fn numbers(records: &[Watch]) -> [u32; 8]
+// The first eight records as numbers; 0 where there is no record.
+pub fn numbers(records: &[Watch]) -> [u64; 8]
     ensures { λ r. ⌜ r ≡ firstEight (watched (now (records .entry))) ⌝ }
 {
-    let mut watches = [0u32; 8];
+    let mut watches = [0u64; 8];
     let mut i: usize = 0;
     while (i < 8) & (i < records.len()) {
-        watches[i] = records[i].n;
+        let record = records[i];
+        watches[i] = (record.desk as u64) * DESK_UNIT + (record.n as u64);
         i += 1;
     }
     watches
 }
 
 // The first eight records, as far as there are any, get the numbers; those beyond stay.
-pub fn store(records: &mut [Watch], watches: [u32; 8])
+pub fn store(records: &mut [Watch], watches: [u64; 8])
     ensures { λ _. ⌜ watched (now (records .exit)) ≡ stored watches (watched (now (records .entry))) ⌝ }
 {
     let mut i: usize = 0;
     while (i < 8) & (i < records.len()) {
-        records[i].n = watches[i];
+        let watch = watches[i];
+        records[i] = Watch {
+            n: (watch % DESK_UNIT) as u32,
+            desk: (watch / DESK_UNIT) as u32,
+        };
         i += 1;
     }
 }
 
-// Whether n is watched.
-pub fn find_record(records: &[Watch], n: u32) -> bool
-    ensures { λ r. ⌜ r ≡ contains n (standing (watched (now (records .entry)))) ⌝ }
+// Whether a desk watches n.
+pub fn find_record(records: &[Watch], desk: Desk, n: u32) -> bool
+    ensures { λ r. ⌜ r ≡ contains (watchOf desk n) (standing (watched (now (records .entry)))) ⌝ }
 {
     let watches = numbers(records);
-    find(watches, n)
+    find(watches, desk, n)
 }
 
-// The records with n put into its place.
-pub fn insert_record(records: &mut [Watch], n: u32)
+// The records with a desk's watch of n put into its place.
+pub fn insert_record(records: &mut [Watch], desk: Desk, n: u32)
     requires { ⌜ (8 ≤ length (now records)) × Vacant (watched (now records)) ⌝ }
-    ensures { λ _. ⌜ watched (now (records .exit)) ≡ padded 8 (insert n (standing (watched (now (records .entry))))) (watched (now (records .entry))) ⌝ }
+    ensures { λ _. ⌜ watched (now (records .exit)) ≡ padded 8 (insert (watchOf desk n) (standing (watched (now (records .entry))))) (watched (now (records .entry))) ⌝ }
 {
     let watches = numbers(&*records);
-    let after = insert(watches, n);
+    let after = insert(watches, desk, n);
     store(&mut *records, after);
 }
 
-// The records without n, with no gap, and empties behind them.
-pub fn remove_record(records: &mut [Watch], n: u32)
+// The records without a desk's watch of n, with no gap, and empties behind them.
+pub fn remove_record(records: &mut [Watch], desk: Desk, n: u32)
     requires { ⌜ 8 ≤ length (now records) ⌝ }
-    ensures { λ _. ⌜ watched (now (records .exit)) ≡ padded 8 (without n (standing (watched (now (records .entry))))) (watched (now (records .entry))) ⌝ }
+    ensures { λ _. ⌜ watched (now (records .exit)) ≡ padded 8 (without (watchOf desk n) (standing (watched (now (records .entry))))) (watched (now (records .entry))) ⌝ }
 {
     let watches = numbers(&*records);
-    let after = remove(watches, n);
+    let after = remove(watches, desk, n);
     store(&mut *records, after);
 }

@@ -1,4 +1,3 @@
 -- The laws of the crate.
-pub mod Replies
 pub mod Watches
 pub mod Pairs

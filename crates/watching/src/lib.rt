@@ -1,36 +1,29 @@
 // The watch and its end, and those of the pair: a list followed, its joins written, and a list no longer followed.
 ghost use mathlib.Core.Path.{_≡_};
-ghost use Prim.Native.Nat.{_≤_};
-ghost use mathlib.Core.List.{[], _∷_, map};
-ghost use Rattle.skyline.specs.Skyline.{windowStart};
+ghost use mathlib.Core.List.{[], _∷_};
 ghost use Rattle.head.specs.declared.Refusal.the-variants.{WindowSize};
-ghost use Rattle.head.specs.Heads.{lastPosition};
 ghost use Rattle.head.specs.Refusals.{number, numberOf};
-ghost use Rattle.model.specs.Changes.{frames};
-ghost use Rattle.model.specs.Book.{watchfulAnswer, outOfRange, endAnswer, unpairAnswer};
+ghost use Rattle.model.specs.Book.{watchfulAnswer, outOfRange, watchAnswer, endAnswer, pairAnswer, unpairAnswer};
 ghost use Rattle.model.specs.Promises.{tables, Watched, Ended, Paired, Unpaired};
-ghost use Rattle.listing.specs.Picked.{listedIn, Window};
-ghost use Rattle.listing.specs.Joins.{joinOf};
-ghost use Rattle.looking.specs.Shown.{Shown};
-ghost use Rattle.watching.specs.Answers.{recordAnswer, freeAnswer};
 use head::Answer;
+use head::Desk;
 use head::Head;
 use head::Refusal;
 use head::Reply;
 use judging::judge_watchful;
 use judging::out_of_range;
+use judging::short_output;
 use judging::with_test;
 use listing::Follower;
-use listing::count_joins;
 use listing::start_of;
 use listing::write_joins;
 use looking::end_of;
 use looking::out_of_sizes;
 use watches::WatchReply;
 use watches::find;
+use watches::full;
 use watches::insert;
 use watches::remove;
-use watches::standing_count;
 
 // The answer of a watch or its end before the watches are searched: 3, 11, 12, 5.
 fn judge_watch_size(
@@ -40,7 +33,7 @@ fn judge_watch_size(
     positions: &[u32],
     lower_ends: &[u32],
     upper_ends: &[u32],
-    watches: [u32; 8],
+    watches: [u64; 8],
 ) -> Answer
     ensures { λ r. ⌜ numberOf r ≡ watchfulAnswer head (tables (now (columns .entry)) (now (positions .entry)) (now («lower_ends» .entry)) (now («upper_ends» .entry))) watches ((outOfRange head n, number WindowSize) ∷ []) ⌝ }
 {
@@ -51,40 +44,44 @@ fn judge_watch_size(
     )
 }
 
-// The answer of the end of a watch.
+// The answer of the end of a desk's watch of n.
 fn judge_end(
     head: Head,
+    desk: Desk,
     n: u32,
     columns: &[u32],
     positions: &[u32],
     lower_ends: &[u32],
     upper_ends: &[u32],
-    watches: [u32; 8],
+    watches: [u64; 8],
 ) -> Answer
-    ensures { λ r. ⌜ numberOf r ≡ endAnswer head n (tables (now (columns .entry)) (now (positions .entry)) (now («lower_ends» .entry)) (now («upper_ends» .entry))) watches ⌝ }
+    ensures { λ r. ⌜ numberOf r ≡ endAnswer head desk n (tables (now (columns .entry)) (now (positions .entry)) (now («lower_ends» .entry)) (now («upper_ends» .entry))) watches ⌝ }
 {
     let answer = judge_watch_size(head, n, columns, positions, lower_ends, upper_ends, watches);
-    with_test(answer, !find(watches, n), Refusal::NotWatched)
+    with_test(answer, !find(watches, desk, n), Refusal::NotWatched)
 }
 
-// The answer of a watch but for the output: 3, 11, 12, 5, 8, 9.
-fn judge_record(
+// The answer of a desk's watch of n with an output of this length.
+fn judge_watch(
     head: Head,
+    desk: Desk,
     n: u32,
     columns: &[u32],
     positions: &[u32],
     lower_ends: &[u32],
     upper_ends: &[u32],
-    watches: [u32; 8],
+    watches: [u64; 8],
+    room: usize,
 ) -> Answer
-    ensures { λ r. ⌜ numberOf r ≡ recordAnswer head n (tables (now (columns .entry)) (now (positions .entry)) (now («lower_ends» .entry)) (now («upper_ends» .entry))) watches ⌝ }
+    ensures { λ r. ⌜ numberOf r ≡ watchAnswer head desk n (tables (now (columns .entry)) (now (positions .entry)) (now («lower_ends» .entry)) (now («upper_ends» .entry))) watches room ⌝ }
 {
     let sized = judge_watch_size(head, n, columns, positions, lower_ends, upper_ends, watches);
-    let answer = with_test(sized, find(watches, n), Refusal::AlreadyWatched);
-    with_test(answer, 8 <= standing_count(watches), Refusal::NoFreeRecord)
+    let new = with_test(sized, find(watches, desk, n), Refusal::AlreadyWatched);
+    let free = with_test(new, full(desk, watches), Refusal::NoFreeRecord);
+    with_test(free, short_output(room), Refusal::ShortOutput)
 }
 
-// The answer of a watch of the pair but for the output: 3, 11, 12, 5, 14, 9.
+// The answer of a watch of the pair with an output of this length.
 fn judge_pair(
     head: Head,
     n1: u32,
@@ -93,16 +90,18 @@ fn judge_pair(
     positions: &[u32],
     lower_ends: &[u32],
     upper_ends: &[u32],
-    watches: [u32; 8],
+    watches: [u64; 8],
+    room: usize,
 ) -> Answer
-    ensures { λ r. ⌜ numberOf r ≡ freeAnswer head n1 n2 (tables (now (columns .entry)) (now (positions .entry)) (now («lower_ends» .entry)) (now («upper_ends» .entry))) watches ⌝ }
+    ensures { λ r. ⌜ numberOf r ≡ pairAnswer head n1 n2 (tables (now (columns .entry)) (now (positions .entry)) (now («lower_ends» .entry)) (now («upper_ends» .entry))) watches room ⌝ }
 {
     let judged = judge_watchful(head, columns, positions, lower_ends, upper_ends, watches);
     let beyond = out_of_sizes(head, 2, n1, n2);
     let sized = with_test(judged, beyond, Refusal::WindowSize);
     let stands = head.n1 != 0;
     let ordered = with_test(sized, n2 < n1, Refusal::WindowOrder);
-    with_test(ordered, stands, Refusal::NoFreeRecord)
+    let free = with_test(ordered, stands, Refusal::NoFreeRecord);
+    with_test(free, short_output(room), Refusal::ShortOutput)
 }
 
 // The answer of the end of the pair.
@@ -112,7 +111,7 @@ fn judge_unpair(
     positions: &[u32],
     lower_ends: &[u32],
     upper_ends: &[u32],
-    watches: [u32; 8],
+    watches: [u64; 8],
 ) -> Answer
     ensures { λ r. ⌜ numberOf r ≡ unpairAnswer head (tables (now (columns .entry)) (now (positions .entry)) (now («lower_ends» .entry)) (now («upper_ends» .entry))) watches ⌝ }
 {
@@ -121,51 +120,32 @@ fn judge_unpair(
     with_test(judged, !stands, Refusal::NotWatched)
 }
 
-// Writes the follower's join of each position of the list of the window from a to b, if there is room, and hands back how many bytes.
-fn join_list(
-    head: Head,
-    follower: Follower,
-    a: u32,
-    b: u32,
-    lower_ends: &[u32],
-    upper_ends: &[u32],
-    out: &mut [u8],
-) -> Reply
-    requires { ⌜ head .newest ≤ lastPosition ⌝ }
-    requires { ⌜ Window (windowStart (head .newest) (head .capacity)) a b (now «lower_ends») (now «upper_ends») ⌝ }
-    ensures { λ r. ⌜ Shown head (frames (map (joinOf follower) (listedIn a b (windowStart (head .newest) (head .capacity)) (now («lower_ends» .entry)) (now («upper_ends» .entry))))) (now (out .entry)) r (now (out .exit)) ⌝ }
-{
-    let first = start_of(head, head.capacity);
-    let count = count_joins(follower, lower_ends, upper_ends, first, a, b);
-    if out.len() < count {
-        return Reply {
-            answer: Answer::Refused(Refusal::ShortOutput),
-            head,
-            count: 0,
-        };
-    }
-    let written = write_joins(follower, lower_ends, upper_ends, first, a, b, out);
-    Reply {
-        answer: Answer::Accepted,
-        head,
-        count: written,
-    }
-}
-
-// Sets a watch of n and writes a join for each position of its list; hands back how many bytes.
+// Sets a desk's watch of n and writes a join for each position of its list; hands back how many bytes.
 pub fn watch(
     head: Head,
+    desk: Desk,
     n: u32,
     columns: &[u32],
     positions: &[u32],
     lower_ends: &[u32],
     upper_ends: &[u32],
-    watches: [u32; 8],
+    watches: [u64; 8],
     out: &mut [u8],
 ) -> WatchReply
-    ensures { λ r. ⌜ Watched head n (tables (now (columns .entry)) (now (positions .entry)) (now («lower_ends» .entry)) (now («upper_ends» .entry))) watches (now (out .entry)) (r .reply) (r .watches) (now (out .exit)) ⌝ }
+    ensures { λ r. ⌜ Watched head desk n (tables (now (columns .entry)) (now (positions .entry)) (now («lower_ends» .entry)) (now («upper_ends» .entry))) watches (now (out .entry)) (r .reply) (r .watches) (now (out .exit)) ⌝ }
 {
-    let answer = judge_record(head, n, columns, positions, lower_ends, upper_ends, watches);
+    let room = out.len();
+    let answer = judge_watch(
+        head,
+        desk,
+        n,
+        columns,
+        positions,
+        lower_ends,
+        upper_ends,
+        watches,
+        room,
+    );
     match answer {
         Answer::Accepted => {}
         Answer::Refused(_) => {
@@ -179,35 +159,43 @@ pub fn watch(
             };
         }
     }
+    let first = start_of(head, head.capacity);
     let a = start_of(head, n);
-    let follower = Follower::Watch(n as u16);
-    let reply = join_list(head, follower, a, head.newest, lower_ends, upper_ends, out);
-    let written = reply.answer;
-    match written {
-        Answer::Accepted => {}
-        Answer::Refused(_) => {
-            return WatchReply { reply, watches };
-        }
-    }
+    let follower = Follower::Watch(desk, n as u16);
+    let count = write_joins(follower, lower_ends, upper_ends, first, a, head.newest, out);
     WatchReply {
-        reply,
-        watches: insert(watches, n),
+        reply: Reply {
+            answer,
+            head,
+            count,
+        },
+        watches: insert(watches, desk, n),
     }
 }
 
-// Ends the watch of n.
+// Ends a desk's watch of n.
 pub fn end(
     head: Head,
+    desk: Desk,
     n: u32,
     columns: &[u32],
     positions: &[u32],
     lower_ends: &[u32],
     upper_ends: &[u32],
-    watches: [u32; 8],
+    watches: [u64; 8],
 ) -> WatchReply
-    ensures { λ r. ⌜ Ended head n (tables (now (columns .entry)) (now (positions .entry)) (now («lower_ends» .entry)) (now («upper_ends» .entry))) watches (r .reply) (r .watches) ⌝ }
+    ensures { λ r. ⌜ Ended head desk n (tables (now (columns .entry)) (now (positions .entry)) (now («lower_ends» .entry)) (now («upper_ends» .entry))) watches (r .reply) (r .watches) ⌝ }
 {
-    let answer = judge_end(head, n, columns, positions, lower_ends, upper_ends, watches);
+    let answer = judge_end(
+        head,
+        desk,
+        n,
+        columns,
+        positions,
+        lower_ends,
+        upper_ends,
+        watches,
+    );
     let reply = Reply {
         answer,
         head,
@@ -221,7 +209,7 @@ pub fn end(
     }
     WatchReply {
         reply,
-        watches: remove(watches, n),
+        watches: remove(watches, desk, n),
     }
 }
 
@@ -234,11 +222,12 @@ pub fn pair(
     positions: &[u32],
     lower_ends: &[u32],
     upper_ends: &[u32],
-    watches: [u32; 8],
+    watches: [u64; 8],
     out: &mut [u8],
 ) -> Reply
     ensures { λ r. ⌜ Paired head n1 n2 (tables (now (columns .entry)) (now (positions .entry)) (now («lower_ends» .entry)) (now («upper_ends» .entry))) watches (now (out .entry)) r (now (out .exit)) ⌝ }
 {
+    let room = out.len();
     let answer = judge_pair(
         head,
         n1,
@@ -248,6 +237,7 @@ pub fn pair(
         lower_ends,
         upper_ends,
         watches,
+        room,
     );
     match answer {
         Answer::Accepted => {}
@@ -259,20 +249,14 @@ pub fn pair(
             };
         }
     }
+    let first = start_of(head, head.capacity);
     let a = start_of(head, n2);
     let b = end_of(head, n1);
-    let reply = join_list(head, Follower::Pair, a, b, lower_ends, upper_ends, out);
-    let written = reply.answer;
-    match written {
-        Answer::Accepted => {}
-        Answer::Refused(_) => {
-            return reply;
-        }
-    }
+    let count = write_joins(Follower::Pair, lower_ends, upper_ends, first, a, b, out);
     Reply {
-        answer: written,
+        answer,
         head: head.after_watch(n1, n2),
-        count: reply.count,
+        count,
     }
 }
 
@@ -283,7 +267,7 @@ pub fn unpair(
     positions: &[u32],
     lower_ends: &[u32],
     upper_ends: &[u32],
-    watches: [u32; 8],
+    watches: [u64; 8],
 ) -> Reply
     ensures { λ r. ⌜ Unpaired head (tables (now (columns .entry)) (now (positions .entry)) (now («lower_ends» .entry)) (now («upper_ends» .entry))) watches r ⌝ }
 {

@@ -1,5 +1,5 @@
 -- `sized` meets its contract, by the tests it makes.
-use Rattle.asking.proofs.Wishes.{look-sized, watch-sized, end-sized, none-sized}
+use Rattle.asking.proofs.Wishes.{look-sized, watch-sized, end-sized, watch-two-sized, end-two-sized, none-sized}
 use Rattle.asking.proofs.sized.Statement.{statement}
 use Rattle.asking.proofs.sized.Tie as tie
 
@@ -13,7 +13,15 @@ returns-3 : tie.Need-returns-3
 returns-3 c = λ columns. end-sized _ _ columns (c .if3 .taken)
 
 returns-4 : tie.Need-returns-4
-returns-4 c = λ columns. none-sized _ _ columns (c .before .before .if1 .left) (c .before .if2 .left) (c .if3 .left)
+returns-4 c = λ columns. watch-two-sized _ _ columns (c .if4 .taken)
+
+returns-5 : tie.Need-returns-5
+returns-5 c = λ columns. end-two-sized _ _ columns (c .if5 .taken)
+
+returns-6 : tie.Need-returns-6
+returns-6 c =
+    λ columns. none-sized _ _ columns (c .before .before .before .before .if1 .left) (c .before .before .before .if2 .left) (c .before .before .if3 .left)
+    (c .before .if4 .left) (c .if5 .left)
 
 pub sized-spec : {M : Type 1} → statement M
-sized-spec = tie.close (tie.spec returns returns-2 returns-3 returns-4)
+sized-spec = tie.close (tie.spec returns returns-2 returns-3 returns-4 returns-5 returns-6)

@@ -23,7 +23,7 @@ use denote.RattleType.{owns}
 use denote.Laws.{Is, shows}
 use denote.Array.{Array, array-typed, array-makes}
 use denote.Plain.{uint-vals, uint-tells, uint-lawful, uint-makes, nothing-lawful}
-use denote.Builtin.{u32, usize}
+use denote.Builtin.{u32, u64, usize}
 use denote.Ref.{RefT}
 use denote.Slice.{MutSlice, Room, slice-vals, mut-slice-tells, finally}
 use denote.Signature.{plain}
@@ -59,7 +59,7 @@ use Rattle.lending.specs.Lent.{OpenJudged}
 use Rattle.book.proofs.Fronts.{open-left, open-emptied}
 use Rattle.shared_records.proofs.Machines.{machines, replied}
 use Rattle.book.proofs.Deciding.{decides, stays-last}
-use Rattle.book.proofs.Calling.{stores, changes-last}
+use Rattle.book.proofs.Calling.{One, one, stores, changes-last}
 use Rattle.lending.proofs.Judgement as J
 use Rattle.lending.proofs.Judgement.Laws as J′
 use Rattle.lending.proofs.open_lent as callee
@@ -123,7 +123,7 @@ module _ {M : Type 1} (𝓤 : URA M) (H : Heap 𝓤) (A : Atoms 𝓤) (W : Given
   to r u = ((lives, (q₀, (q₁, (q₂, (q₃, tt)))), tt, asked r, (vint w32 dimensions ∷ [], (vint w32 capacity ∷ [], (vint w32 directions ∷ [], (slice-vals columns, (slice-vals positions, (slice-vals lowerEnds, (slice-vals upperEnds, (u ∷ [], (vint w64 (length ys) ∷ [], tt)))))))))), tt)
 
   abbrev Passed : List ℕ → Val → Fml
-  Passed r u = owns (u32 ∷ u32 ∷ u32 ∷ MutSlice (named 0) κ₀ u32 ∷ MutSlice (named 1) κ₁ u32 ∷ MutSlice (named 2) κ₂ u32 ∷ MutSlice (named 3) κ₃ u32 ∷ Array u32 8 ∷ usize ∷ []) (asked r) (to r u .0 .4)
+  Passed r u = owns (u32 ∷ u32 ∷ u32 ∷ MutSlice (named 0) κ₀ u32 ∷ MutSlice (named 1) κ₁ u32 ∷ MutSlice (named 2) κ₂ u32 ∷ MutSlice (named 3) κ₃ u32 ∷ Array u64 8 ∷ usize ∷ []) (asked r) (to r u .0 .4)
 
   goes : (r : List ℕ) (u : Val) → ent 𝓤 (sep 𝓤 (mean 𝓤 H A Tokens) (sem 𝓤 H A (Passed r u))) (Callee 𝓤 H A mem run .pre (to r u))
   goes r u = qed W (Tokens ∷ ‵ (Passed r u) ∷ []) ∵ join ! $ frame ! $ nothing ! $ done !
@@ -156,7 +156,7 @@ module _ {M : Type 1} (𝓤 : URA M) (H : Heap 𝓤) (A : Atoms 𝓤) (W : Given
         move ! (55 ∷ []) $ fsplit ! $ move ! (1 ∷ []) $ fsplit ! $ move ! (1 ∷ []) $ fsplit ! $ move ! (1 ∷ []) $ fsplit ! $ move ! (1 ∷ []) $ fsplit ! $ move ! (1 ∷ []) $ fsplit ! $ move ! (1 ∷ []) $ fsplit ! $ move ! (1 ∷ []) $ fsplit ! $ move ! (1 ∷ []) $ move ! (63 ∷ []) $ split ! $ move ! (1 ∷ []) $ split ! $ move ! (1 ∷ []) $ split ! $ move ! (1 ∷ []) $ split ! $ move ! (1 ∷ []) $ split ! $ move ! (1 ∷ []) $
         -- [true; κ₄; κ₃; κ₂; κ₁; κ₀; true; watches; upperEnds; lowerEnds; positions; columns; directions; capacity; dimensions; the locals]
         move ! (7 ∷ 1 ∷ []) $ reads-records ! fm mem run known-numbers κ₄ q₄ b o ys γ room (λ ν δ. (and-then ! (load ! (from ! (stop !)) (look ! 41 refl)) (no-more !))) (λ u r is e.
-        land ! (from ! (stop !)) (init ! 49 refl (array-typed u32 (uint-lawful 𝓤 H A W w32 .typed) 8 r _ is .0)) $
+        land ! (from ! (stop !)) (init ! 49 refl (array-typed u64 (uint-lawful 𝓤 H A W w64 .typed) 8 r _ is .0)) $
         assigns ! (of-opd ! (load ! (from ! (fld ! refl (stop !))) (look-in ! 51 (sub ! 1 refl (whole !))))) (from ! (stop !)) (init ! 47 refl (tt, record { fits = room .0 })) $
         assigns ! (addr ! (from ! (fld ! refl (hop ! (look-in ! 59 (sub ! 0 refl (whole !))) (stop !))))) (from ! (stop !)) (init ! 39 refl (tt, tt)) $
         assigns ! (agg ! (and-then ! (load ! (from ! (stop !)) (look ! 39 refl)) (and-then ! (load ! (from ! (fld ! refl (stop !))) (look-in ! 59 (sub ! 1 refl (whole !)))) (no-more !)))) (from ! (stop !)) (init ! 37 refl (tt, (tt, (record { fits = columns-fits }, tt)))) $
@@ -167,7 +167,7 @@ module _ {M : Type 1} (𝓤 : URA M) (H : Heap 𝓤) (A : Atoms 𝓤) (W : Given
         assigns ! (addr ! (from ! (fld ! refl (hop ! (look-in ! 53 (sub ! 0 refl (whole !))) (stop !))))) (from ! (stop !)) (init ! 27 refl (tt, tt)) $
         assigns ! (agg ! (and-then ! (load ! (from ! (stop !)) (look ! 27 refl)) (and-then ! (load ! (from ! (fld ! refl (stop !))) (look-in ! 53 (sub ! 1 refl (whole !)))) (no-more !)))) (from ! (stop !)) (init ! 25 refl (tt, (tt, (record { fits = upperEnds-fits }, tt)))) $
         move ! (2 ∷ []) $ move ! (3 ∷ 0 ∷ []) $ join ! $ move ! (3 ∷ 0 ∷ []) $ join ! $ move ! (3 ∷ 0 ∷ []) $ join ! $ move ! (3 ∷ 0 ∷ []) $ join ! $
-        nothing ! $ owned ! usize (Is usize) (uint-makes 𝓤 H A W w64) (length ys) _ (refl, room .0) $ fjoin ! $ owned ! (Array u32 8) (Is (Array u32 8)) (array-makes 𝓤 H A W u32 (uint-makes 𝓤 H A W w32) 8) r (u ∷ []) is $ fjoin ! $ move ! (5 ∷ 0 ∷ []) $ fjoin ! $ move ! (5 ∷ 0 ∷ []) $ fjoin ! $ move ! (5 ∷ 0 ∷ []) $ fjoin ! $ move ! (5 ∷ 0 ∷ []) $ fjoin ! $ move ! (5 ∷ 0 ∷ []) $ fjoin ! $ move ! (5 ∷ 0 ∷ []) $ fjoin ! $ move ! (5 ∷ 0 ∷ []) $ fjoin ! $
+        nothing ! $ owned ! usize (Is usize) (uint-makes 𝓤 H A W w64) (length ys) _ (refl, room .0) $ fjoin ! $ owned ! (Array u64 8) (Is (Array u64 8)) (array-makes 𝓤 H A W u64 (uint-makes 𝓤 H A W w64) 8) r (u ∷ []) is $ fjoin ! $ move ! (5 ∷ 0 ∷ []) $ fjoin ! $ move ! (5 ∷ 0 ∷ []) $ fjoin ! $ move ! (5 ∷ 0 ∷ []) $ fjoin ! $ move ! (5 ∷ 0 ∷ []) $ fjoin ! $ move ! (5 ∷ 0 ∷ []) $ fjoin ! $ move ! (5 ∷ 0 ∷ []) $ fjoin ! $ move ! (5 ∷ 0 ∷ []) $ fjoin ! $
         move ! (1 ∷ 0 ∷ []) $ use2 W (raw (Callee 𝓤 H A mem run .pre (to r u))) (goes r u) $
         calls-at ! fm (Callee 𝓤 H A mem run) known-callee (to r u) (and-then ! (load ! (from ! (stop !)) (look ! 54 refl)) (and-then ! (load ! (from ! (stop !)) (look ! 52 refl)) (and-then ! (load ! (from ! (stop !)) (look ! 50 refl)) (and-then ! (load ! (from ! (stop !)) (look ! 26 refl)) (and-then ! (load ! (from ! (stop !)) (look ! 22 refl)) (and-then ! (load ! (from ! (stop !)) (look ! 18 refl)) (and-then ! (load ! (from ! (stop !)) (look ! 14 refl)) (and-then ! (load ! (from ! (stop !)) (look ! 38 refl)) (and-then ! (load ! (from ! (stop !)) (look ! 36 refl)) (no-more !)))))))))) (λ c.
         use1 W (later (some (λ (j : Judgement). (Tokens ⊛ ‵ (J.the-row .own j (c ∷ []))) ⊛ some (λ (zs : Ends). ‵ (lasts callee.ended lives (asked r) zs) ⊛ raw (fact 𝓤 (Said r j zs)))))) (id⊢ 𝓤 _) $ await ! tt $ pick ! (λ j. split ! $ move ! (1 ∷ []) $ pick ! (λ zs. split ! $ move ! (1 ∷ []) $ heard ! (Said r j zs) (λ said.
@@ -180,8 +180,8 @@ module _ {M : Type 1} (𝓤 : URA M) (H : Heap 𝓤) (A : Atoms 𝓤) (W : Given
         (λ on next.
         assigns ! (addr ! (from ! (fld ! refl (hop ! (look-in ! 44 (sub ! 0 refl (whole !))) (stop !))))) (from ! (stop !)) (init ! 12 refl (tt, tt)) $
         assigns ! (agg ! (and-then ! (load ! (from ! (stop !)) (look ! 12 refl)) (and-then ! (load ! (from ! (fld ! refl (stop !))) (look-in ! 44 (sub ! 1 refl (whole !)))) (no-more !)))) (from ! (stop !)) (init ! 10 refl (tt, (tt, (record { fits = room .0 }, tt)))) $
-        assigns ! (rep ! 8 (lit ! tt)) (from ! (stop !)) (init ! 8 refl (array-typed u32 (uint-lawful 𝓤 H A W w32 .typed) 8 (replicate 8 0) _ zeros .0)) $
-        move ! (6 ∷ 5 ∷ []) $ changes-last ! fm κ₄ q₄ b o ys γ (machine (replicate 8 0)) Last (stores 𝓤 H A κ₄ q₄ b o ys γ W mem run C (replicate 8 0) (machine (replicate 8 0)) zeros known-change) (and-then ! (load ! (from ! (stop !)) (look ! 9 refl)) (and-then ! (load ! (from ! (stop !)) (look ! 7 refl)) (no-more !))) (λ v ws isv m len. next _ _ _ $
+        assigns ! (rep ! 8 (lit ! tt)) (from ! (stop !)) (init ! 8 refl (array-typed u64 (uint-lawful 𝓤 H A W w64 .typed) 8 (replicate 8 0) _ zeros .0)) $
+        move ! (6 ∷ 5 ∷ []) $ changes-last ! fm κ₄ q₄ b o ys γ (machine (replicate 8 0) ∷ []) One one Last (stores 𝓤 H A κ₄ q₄ b o ys γ W mem run C (replicate 8 0) (machine (replicate 8 0)) zeros known-change) (and-then ! (load ! (from ! (stop !)) (look ! 9 refl)) (and-then ! (load ! (from ! (stop !)) (look ! 7 refl)) (no-more !))) (λ v ws isv m len. next _ _ _ $
         land ! (from ! (stop !)) (init ! 14 refl (nothing-lawful 𝓤 H A W .typed tt _ isv .0)) $
         assigns ! (of-opd ! (load ! (from ! (fld ! refl (stop !))) (look-in ! 38 (sub ! 0 refl (whole !))))) (from ! (stop !)) (init ! 60 refl (LL.lawful R.the-type R′.the-laws 𝓤 H A W .typed (j .reply) _ (replied j c has) .0)) $
         returns ! (look ! 60 refl) $ forget ! 8 refl $ forget ! 10 refl $ forget ! 12 refl $ forget ! 14 refl $ forget ! 16 refl $ forget ! 18 refl $ forget ! 20 refl $ forget ! 22 refl $ forget ! 24 refl $ forget ! 26 refl $ forget ! 28 refl $ forget ! 30 refl $ forget ! 32 refl $ forget ! 34 refl $ forget ! 36 refl $ forget ! 38 refl $ forget ! 40 refl $ forget ! 42 refl $ forget ! 44 refl $ forget ! 46 refl $ forget ! 48 refl $ forget ! 50 refl $ forget ! 52 refl $ forget ! 54 refl $ forget ! 56 refl $ forget ! 58 refl $ forget ! 60 refl $

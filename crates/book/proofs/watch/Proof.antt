@@ -23,12 +23,13 @@ use denote.RattleType.{owns}
 use denote.Laws.{Is, shows}
 use denote.Array.{Array, array-typed, array-makes}
 use denote.Plain.{uint-vals, uint-tells, uint-lawful, uint-makes, nothing-lawful}
-use denote.Builtin.{u8, u32, usize}
+use denote.Builtin.{u8, u32, u64, usize}
 use denote.Ref.{RefT}
 use denote.Slice.{ShrSlice, MutSlice, Room, slice-vals, shr-slice-tells, mut-slice-tells, finally}
 use denote.Signature.{plain, shrSliceOf}
 use denote.Steps.{only, owned, peeks, heard, nothing}
 use denote.Struct.Laws as LL
+use denote.Enum.Laws as EL
 use denote.Triple.Statement.{Contract, Triple}
 use denote.Triple.Call.{calls-at}
 use denote.Triple.Clauses.{lasts}
@@ -39,8 +40,12 @@ use denote.Triple.Walked.{says, Stays, stay-dropped, gave-slice, walkOf, goes-dr
 use denote.Exit.{yes}
 use Rattle.lists.specs.Lists.{insert, padded}
 use Rattle.head.specs.declared.Head.{Head}
+use Rattle.head.specs.declared.Desk.{Desk}
 use Rattle.head.specs.declared.Reply.{Reply}
 use Rattle.head.specs.declared.Watch.{Watch}
+use Rattle.head.specs.Desks.{watchOf}
+use Rattle.head.proofs.Desk as D
+use Rattle.head.proofs.Desk.Laws as D′
 use Rattle.head.proofs.Head as Hd
 use Rattle.head.proofs.Head.Laws as Hd′
 use Rattle.head.proofs.Reply as R
@@ -50,6 +55,7 @@ use Rattle.model.specs.Rows.{Tables as Lent}
 use Rattle.model.specs.Book.{standing}
 use Rattle.watches.specs.Records.{watched}
 use Rattle.watches.proofs.LocalArray.{machine}
+use Rattle.watches.proofs.DeskValues.{desk-value, desk-values, is-desk}
 use Rattle.watches.proofs.Lending.{at-name}
 use Rattle.watches.proofs.Calling.{Numbers, reads-records}
 use Rattle.watches.proofs.numbers.Symbol as numbers-def
@@ -64,7 +70,7 @@ use Rattle.lending.specs.Lent.{WatchJudged}
 use Rattle.book.proofs.Fronts.{watch-left, watch-asks, watch-inserted}
 use Rattle.shared_records.proofs.Machines.{headed, machines, replied}
 use Rattle.book.proofs.Deciding.{decides, stays-last}
-use Rattle.book.proofs.Calling.{Insert, inserts, changes-last}
+use Rattle.book.proofs.Calling.{Two, two, Insert, inserts, changes-last}
 use Rattle.lending.proofs.Judgement as J
 use Rattle.lending.proofs.Judgement.Laws as J′
 use Rattle.lending.proofs.watch_lent as callee
@@ -78,7 +84,7 @@ use Rattle.book.proofs.watch.Code as code
 
 -- what is had of each parameter at the end: of what is lent for good its last value, of the others nothing
 abbrev stayed : Stays (f.ended .signature .params) (f.ended .kept)
-stayed = (stay-dropped (plain (λ _. Hd.the-row)) yes, (stay-dropped (plain (λ _. u32)) yes, (stay-dropped (shrSliceOf (0 ∷ []) tt (plain (λ _. u32))) yes, (stay-dropped (shrSliceOf (1 ∷ []) tt (plain (λ _. u32))) yes, (stay-dropped (shrSliceOf (2 ∷ []) tt (plain (λ _. u32))) yes, (stay-dropped (shrSliceOf (3 ∷ []) tt (plain (λ _. u32))) yes, (gave-slice (4 ∷ []) tt (plain (λ _. T.the-row)), (gave-slice (5 ∷ []) tt (plain (λ _. u8)), tt))))))))
+stayed = (stay-dropped (plain (λ _. Hd.the-row)) yes, (stay-dropped (plain (λ _. D.the-row)) yes, (stay-dropped (plain (λ _. u32)) yes, (stay-dropped (shrSliceOf (0 ∷ []) tt (plain (λ _. u32))) yes, (stay-dropped (shrSliceOf (1 ∷ []) tt (plain (λ _. u32))) yes, (stay-dropped (shrSliceOf (2 ∷ []) tt (plain (λ _. u32))) yes, (stay-dropped (shrSliceOf (3 ∷ []) tt (plain (λ _. u32))) yes, (gave-slice (4 ∷ []) tt (plain (λ _. T.the-row)), (gave-slice (5 ∷ []) tt (plain (λ _. u8)), tt)))))))))
 
 module _ {M : Type 1} (𝓤 : URA M) (H : Heap 𝓤) (A : Atoms 𝓤) (mem : Memory → SProp 𝓤) (run : Routine → Fun 𝓤) where
   -- the contract of `watch_lent`
@@ -86,19 +92,19 @@ module _ {M : Type 1} (𝓤 : URA M) (H : Heap 𝓤) (A : Atoms 𝓤) (mem : Mem
   Callee = tripleOf 𝓤 H A callee.signature (callee.spec 𝓤 H A mem run)
 
 module _ {M : Type 1} (𝓤 : URA M) (H : Heap 𝓤) (A : Atoms 𝓤) (W : Given 𝓤 H A) (mem : Memory → SProp 𝓤) (run : Routine → Fun 𝓤) (κ₀ κ₁ κ₂ κ₃ κ₄ κ₅ : Lft) (q₀ q₁ q₂ q₃ q₄ q₅ : Share)
-    (head : Head) (n : ℕ) (columns : RefT (List ℕ)) (positions : RefT (List ℕ)) (lowerEnds : RefT (List ℕ)) (upperEnds : RefT (List ℕ)) (b o : ℕ) (γ : GName) (ys : List Watch) (out : RefT (List ℕ)) where
+    (head : Head) (desk : Desk) (n : ℕ) (columns : RefT (List ℕ)) (positions : RefT (List ℕ)) (lowerEnds : RefT (List ℕ)) (upperEnds : RefT (List ℕ)) (b o : ℕ) (γ : GName) (ys : List Watch) (out : RefT (List ℕ)) where
   -- what is given: denotations, machine values, tokens and what is owned
-  abbrev x : Head × (ℕ × (RefT (List ℕ) × (RefT (List ℕ) × (RefT (List ℕ) × (RefT (List ℕ) × (RefT (List Watch) × (RefT (List ℕ) × Unit {0})))))))
-  x = (head, (n, (columns, (positions, (lowerEnds, (upperEnds, (at-name b o ys γ, (out, tt))))))))
+  abbrev x : Head × (Desk × (ℕ × (RefT (List ℕ) × (RefT (List ℕ) × (RefT (List ℕ) × (RefT (List ℕ) × (RefT (List Watch) × (RefT (List ℕ) × Unit {0}))))))))
+  x = (head, (desk, (n, (columns, (positions, (lowerEnds, (upperEnds, (at-name b o ys γ, (out, tt)))))))))
 
-  abbrev at : List Val × (List Val × (List Val × (List Val × (List Val × (List Val × (List Val × (List Val × Unit {0})))))))
-  at = (headed head, (vint w32 n ∷ [], (slice-vals columns, (slice-vals positions, (slice-vals lowerEnds, (slice-vals upperEnds, (slice-vals (at-name b o ys γ), (slice-vals out, tt))))))))
+  abbrev at : List Val × (List Val × (List Val × (List Val × (List Val × (List Val × (List Val × (List Val × (List Val × Unit {0}))))))))
+  at = (headed head, (desk-values desk, (vint w32 n ∷ [], (slice-vals columns, (slice-vals positions, (slice-vals lowerEnds, (slice-vals upperEnds, (slice-vals (at-name b o ys γ), (slice-vals out, tt)))))))))
 
   abbrev given : List Val
-  given = only (headed head) ∷ vint w32 n ∷ only (slice-vals columns) ∷ only (slice-vals positions) ∷ only (slice-vals lowerEnds) ∷ only (slice-vals upperEnds) ∷ only (slice-vals (at-name b o ys γ)) ∷ only (slice-vals out) ∷ []
+  given = only (headed head) ∷ desk-value desk ∷ vint w32 n ∷ only (slice-vals columns) ∷ only (slice-vals positions) ∷ only (slice-vals lowerEnds) ∷ only (slice-vals upperEnds) ∷ only (slice-vals (at-name b o ys γ)) ∷ only (slice-vals out) ∷ []
 
   abbrev Entry : List (Item 𝓤)
-  Entry = (‵ (flft κ₀ q₀) ⊛ ‵ (flft κ₁ q₁) ⊛ ‵ (flft κ₂ q₂) ⊛ ‵ (flft κ₃ q₃) ⊛ ‵ (flft κ₄ q₄) ⊛ ‵ (flft κ₅ q₅) ⊛ ‵ ftrue) ∷ ‵ (owns (Hd.the-row ∷ u32 ∷ ShrSlice (named 0) κ₀ u32 ∷ ShrSlice (named 1) κ₁ u32 ∷ ShrSlice (named 2) κ₂ u32 ∷ ShrSlice (named 3) κ₃ u32 ∷ MutSlice (named 4) κ₄ T.the-row ∷ MutSlice (named 5) κ₅ u8 ∷ []) x at) ∷ []
+  Entry = (‵ (flft κ₀ q₀) ⊛ ‵ (flft κ₁ q₁) ⊛ ‵ (flft κ₂ q₂) ⊛ ‵ (flft κ₃ q₃) ⊛ ‵ (flft κ₄ q₄) ⊛ ‵ (flft κ₅ q₅) ⊛ ‵ ftrue) ∷ ‵ (owns (Hd.the-row ∷ D.the-row ∷ u32 ∷ ShrSlice (named 0) κ₀ u32 ∷ ShrSlice (named 1) κ₁ u32 ∷ ShrSlice (named 2) κ₂ u32 ∷ ShrSlice (named 3) κ₃ u32 ∷ MutSlice (named 4) κ₄ T.the-row ∷ MutSlice (named 5) κ₅ u8 ∷ []) x at) ∷ []
 
   abbrev bound : walkOf 𝓤 H A f.ended stayed (f.clauses 𝓤 H A mem run) .Ghost
   bound = (((κ₀, (κ₁, (κ₂, (κ₃, (κ₄, (κ₅, tt)))))), (q₀, (q₁, (q₂, (q₃, (q₄, (q₅, tt)))))), tt, x, at), tt)
@@ -112,7 +118,7 @@ module _ {M : Type 1} (𝓤 : URA M) (H : Heap 𝓤) (A : Atoms 𝓤) (W : Given
 
   -- what is known of the records once they are changed
   abbrev Last : List ℕ → Type 0
-  Last l = l ≡ padded 8 (insert n (standing (watched ys))) (watched ys)
+  Last l = l ≡ padded 8 (insert (watchOf desk n) (standing (watched ys))) (watched ys)
 
   -- what `watch_lent` binds outside, that it is given what it asks, and what is known of its result
   abbrev lives : Lft × (Lft × (Lft × (Lft × (Lft × Unit {0}))))
@@ -121,33 +127,33 @@ module _ {M : Type 1} (𝓤 : URA M) (H : Heap 𝓤) (A : Atoms 𝓤) (W : Given
   abbrev Tokens : Item 𝓤
   Tokens = ‵ (flft κ₀ q₀) ⊛ ‵ (flft κ₁ q₁) ⊛ ‵ (flft κ₂ q₂) ⊛ ‵ (flft κ₃ q₃) ⊛ ‵ (flft κ₅ q₅) ⊛ ‵ ftrue
 
-  abbrev asked : List ℕ → Head × (ℕ × (RefT (List ℕ) × (RefT (List ℕ) × (RefT (List ℕ) × (RefT (List ℕ) × (List ℕ × (ℕ × (RefT (List ℕ) × Unit {0}))))))))
-  asked r = (head, (n, (columns, (positions, (lowerEnds, (upperEnds, (r, (length ys, (out, tt)))))))))
+  abbrev asked : List ℕ → Head × (Desk × (ℕ × (RefT (List ℕ) × (RefT (List ℕ) × (RefT (List ℕ) × (RefT (List ℕ) × (List ℕ × (ℕ × (RefT (List ℕ) × Unit {0})))))))))
+  asked r = (head, (desk, (n, (columns, (positions, (lowerEnds, (upperEnds, (r, (length ys, (out, tt))))))))))
 
   abbrev to : List ℕ → Val → Callee 𝓤 H A mem run .Ghost
-  to r u = ((lives, (q₀, (q₁, (q₂, (q₃, (q₅, tt))))), tt, asked r, (headed head, (vint w32 n ∷ [], (slice-vals columns, (slice-vals positions, (slice-vals lowerEnds, (slice-vals upperEnds, (u ∷ [], (vint w64 (length ys) ∷ [], (slice-vals out, tt)))))))))), tt)
+  to r u = ((lives, (q₀, (q₁, (q₂, (q₃, (q₅, tt))))), tt, asked r, (headed head, (desk-values desk, (vint w32 n ∷ [], (slice-vals columns, (slice-vals positions, (slice-vals lowerEnds, (slice-vals upperEnds, (u ∷ [], (vint w64 (length ys) ∷ [], (slice-vals out, tt))))))))))), tt)
 
   abbrev Passed : List ℕ → Val → Fml
-  Passed r u = owns (Hd.the-row ∷ u32 ∷ ShrSlice (named 0) κ₀ u32 ∷ ShrSlice (named 1) κ₁ u32 ∷ ShrSlice (named 2) κ₂ u32 ∷ ShrSlice (named 3) κ₃ u32 ∷ Array u32 8 ∷ usize ∷ MutSlice (named 5) κ₅ u8 ∷ []) (asked r) (to r u .0 .4)
+  Passed r u = owns (Hd.the-row ∷ D.the-row ∷ u32 ∷ ShrSlice (named 0) κ₀ u32 ∷ ShrSlice (named 1) κ₁ u32 ∷ ShrSlice (named 2) κ₂ u32 ∷ ShrSlice (named 3) κ₃ u32 ∷ Array u64 8 ∷ usize ∷ MutSlice (named 5) κ₅ u8 ∷ []) (asked r) (to r u .0 .4)
 
   goes : (r : List ℕ) (u : Val) → ent 𝓤 (sep 𝓤 (mean 𝓤 H A Tokens) (sem 𝓤 H A (Passed r u))) (Callee 𝓤 H A mem run .pre (to r u))
   goes r u = qed W (Tokens ∷ ‵ (Passed r u) ∷ []) ∵ join ! $ frame ! $ nothing ! $ done !
 
   abbrev Ends : Type 0
-  Ends = Unit {0} × (Unit {0} × (Unit {0} × (Unit {0} × (Unit {0} × (Unit {0} × (Unit {0} × (Unit {0} × (List ℕ × Unit {0}))))))))
+  Ends = Unit {0} × (Unit {0} × (Unit {0} × (Unit {0} × (Unit {0} × (Unit {0} × (Unit {0} × (Unit {0} × (Unit {0} × (List ℕ × Unit {0})))))))))
 
   abbrev Said : List ℕ → Judgement → Ends → Type 0
-  Said r j zs = WatchJudged head n lent (take (length ys) r) (out .now) j (zs .1 .1 .1 .1 .1 .1 .1 .1 .0)
+  Said r j zs = WatchJudged head desk n lent (take (length ys) r) (out .now) j (zs .1 .1 .1 .1 .1 .1 .1 .1 .1 .0)
 
   -- what is left at the return, with what is lent at its last values
   abbrev Left : List Watch → List ℕ → List (Item 𝓤)
   Left watches-last out-last = Tokens ∷ ‵ (flft κ₄ q₄) ∷ ‵ (finally T.the-row γ watches-last) ∷ ‵ (finally u8 (out .name) out-last) ∷ []
 
-  exits : (watches-last : List Watch) (out-last : List ℕ) (j : Reply) → Is R.the-row j (machines j) → length watches-last ≡ length ys → length out-last ≡ length (out .now) → Watched head n lent (watched ys) (out .now) j (watched watches-last) out-last → ent 𝓤 (⋆ 𝓤 H A (Left watches-last out-last)) (Post (only (machines j)))
+  exits : (watches-last : List Watch) (out-last : List ℕ) (j : Reply) → Is R.the-row j (machines j) → length watches-last ≡ length ys → length out-last ≡ length (out .now) → Watched head desk n lent (watched ys) (out .now) j (watched watches-last) out-last → ent 𝓤 (⋆ 𝓤 H A (Left watches-last out-last)) (Post (only (machines j)))
   exits watches-last out-last j is watches-len out-len kept =
-      qed W (Left watches-last out-last) ∵ suffices ! _ (ends-at 𝓤 H A f.ended stayed (f.clauses 𝓤 H A mem run) W bound (only (machines j)) j (tt, (tt, (tt, (tt, (tt, (tt, (watches-last, (out-last, tt)))))))) (tt, (tt, (tt, (tt, (tt, (tt, (watches-len, (out-len, tt))))))))) $ says ! kept $
+      qed W (Left watches-last out-last) ∵ suffices ! _ (ends-at 𝓤 H A f.ended stayed (f.clauses 𝓤 H A mem run) W bound (only (machines j)) j (tt, (tt, (tt, (tt, (tt, (tt, (tt, (watches-last, (out-last, tt))))))))) (tt, (tt, (tt, (tt, (tt, (tt, (tt, (watches-len, (out-len, tt)))))))))) $ says ! kept $
       split ! $ move ! (1 ∷ []) $ split ! $ move ! (1 ∷ []) $ split ! $ move ! (1 ∷ []) $ split ! $ move ! (1 ∷ []) $ split ! $ move ! (1 ∷ []) $ move ! (1 ∷ 0 ∷ []) $ join ! $ move ! (5 ∷ 0 ∷ []) $ join ! $ move ! (1 ∷ 0 ∷ []) $ join ! $ move ! (1 ∷ 0 ∷ []) $ join ! $ move ! (1 ∷ 0 ∷ []) $ join ! $ move ! (1 ∷ 0 ∷ []) $ join ! $ frame ! $
-      nothing ! $ move ! (2 ∷ 0 ∷ []) $ fjoin ! $ move ! (1 ∷ 0 ∷ []) $ fjoin ! $ nothing ! $ fjoin ! $ nothing ! $ fjoin ! $ nothing ! $ fjoin ! $ nothing ! $ fjoin ! $ nothing ! $ fjoin ! $ nothing ! $ fjoin ! $ frame ! $
+      nothing ! $ move ! (2 ∷ 0 ∷ []) $ fjoin ! $ move ! (1 ∷ 0 ∷ []) $ fjoin ! $ nothing ! $ fjoin ! $ nothing ! $ fjoin ! $ nothing ! $ fjoin ! $ nothing ! $ fjoin ! $ nothing ! $ fjoin ! $ nothing ! $ fjoin ! $ nothing ! $ fjoin ! $ frame ! $
       owned ! R.the-row (Is R.the-row) ((LL.makes R.the-type R′.the-plain) 𝓤 H A) j (machines j) is $ done !
 
   module _ (is-head : Is Hd.the-row head (headed head)) (n-fits : n < 2 ^ 32) (columns-fits : length (columns .now) < 2 ^ 64) (positions-fits : length (positions .now) < 2 ^ 64) (lowerEnds-fits : length (lowerEnds .now) < 2 ^ 64) (upperEnds-fits : length (upperEnds .now) < 2 ^ 64) (room : Room T.the-row (length ys)) (out-fits : length (out .now) < 2 ^ 64)
@@ -155,56 +161,56 @@ module _ {M : Type 1} (𝓤 : URA M) (H : Heap 𝓤) (A : Atoms 𝓤) (W : Given
     walk : ent 𝓤 (onEntry 𝓤 H A f.signature (κ₀, (κ₁, (κ₂, (κ₃, (κ₄, (κ₅, tt)))))) (q₀, (q₁, (q₂, (q₃, (q₄, (q₅, tt)))))) x at) (WpFn 𝓤 H C Λ code.function given Post)
     walk =
         qed W Entry ∵ enter ! C Λ code.function given _ $
-        alloc1 ! (λ l₀. alloc1 ! (λ l₁. alloc1 ! (λ l₂. alloc1 ! (λ l₃. alloc1 ! (λ l₄. alloc1 ! (λ l₅. alloc1 ! (λ l₆. alloc1 ! (λ l₇. alloc1 ! (λ l₈. alloc1 ! (λ l₉. alloc1 ! (λ l₁₀. alloc1 ! (λ l₁₁. alloc1 ! (λ l₁₂. alloc1 ! (λ l₁₃. alloc1 ! (λ l₁₄. alloc1 ! (λ l₁₅. alloc1 ! (λ l₁₆. alloc1 ! (λ l₁₇. alloc1 ! (λ l₁₈. alloc1 ! (λ l₁₉. alloc0 ! $ params1 ! $ pass1 ! (init ! 36 refl (LL.lawful Hd.the-type Hd′.the-laws 𝓤 H A W .typed head _ is-head .0)) $ pass1 ! (init ! 34 refl (tt, record { fits = n-fits })) $ pass1 ! (init ! 32 refl (tt, (tt, (record { fits = columns-fits }, tt)))) $ pass1 ! (init ! 30 refl (tt, (tt, (record { fits = positions-fits }, tt)))) $ pass1 ! (init ! 28 refl (tt, (tt, (record { fits = lowerEnds-fits }, tt)))) $ pass1 ! (init ! 26 refl (tt, (tt, (record { fits = upperEnds-fits }, tt)))) $ pass1 ! (init ! 24 refl (tt, (tt, (record { fits = room .0 }, tt)))) $ pass1 ! (init ! 22 refl (tt, (tt, (record { fits = out-fits }, tt)))) $ pass0 ! $
+        alloc1 ! (λ l₀. alloc1 ! (λ l₁. alloc1 ! (λ l₂. alloc1 ! (λ l₃. alloc1 ! (λ l₄. alloc1 ! (λ l₅. alloc1 ! (λ l₆. alloc1 ! (λ l₇. alloc1 ! (λ l₈. alloc1 ! (λ l₉. alloc1 ! (λ l₁₀. alloc1 ! (λ l₁₁. alloc1 ! (λ l₁₂. alloc1 ! (λ l₁₃. alloc1 ! (λ l₁₄. alloc1 ! (λ l₁₅. alloc1 ! (λ l₁₆. alloc1 ! (λ l₁₇. alloc1 ! (λ l₁₈. alloc1 ! (λ l₁₉. alloc1 ! (λ l₂₀. alloc0 ! $ params1 ! $ pass1 ! (init ! 38 refl (LL.lawful Hd.the-type Hd′.the-laws 𝓤 H A W .typed head _ is-head .0)) $ pass1 ! (init ! 36 refl (EL.lawful D.the-type D′.the-laws 𝓤 H A W tt .typed desk _ (is-desk desk) .0)) $ pass1 ! (init ! 34 refl (tt, record { fits = n-fits })) $ pass1 ! (init ! 32 refl (tt, (tt, (record { fits = columns-fits }, tt)))) $ pass1 ! (init ! 30 refl (tt, (tt, (record { fits = positions-fits }, tt)))) $ pass1 ! (init ! 28 refl (tt, (tt, (record { fits = lowerEnds-fits }, tt)))) $ pass1 ! (init ! 26 refl (tt, (tt, (record { fits = upperEnds-fits }, tt)))) $ pass1 ! (init ! 24 refl (tt, (tt, (record { fits = room .0 }, tt)))) $ pass1 ! (init ! 22 refl (tt, (tt, (record { fits = out-fits }, tt)))) $ pass0 ! $
         assigns ! (addr ! (from ! (fld ! refl (hop ! (look-in ! 24 (sub ! 0 refl (whole !))) (stop !))))) (from ! (stop !)) (init ! 14 refl (tt, tt)) $
         assigns ! (agg ! (and-then ! (load ! (from ! (stop !)) (look ! 14 refl)) (and-then ! (load ! (from ! (fld ! refl (stop !))) (look-in ! 24 (sub ! 1 refl (whole !)))) (no-more !)))) (from ! (stop !)) (init ! 12 refl (tt, (tt, (record { fits = room .0 }, tt)))) $
-        move ! (41 ∷ []) $ fsplit ! $ move ! (1 ∷ []) $ fsplit ! $ move ! (1 ∷ []) $ fsplit ! $ move ! (1 ∷ []) $ fsplit ! $ move ! (1 ∷ []) $ fsplit ! $ move ! (1 ∷ []) $ fsplit ! $ move ! (1 ∷ []) $ fsplit ! $ move ! (1 ∷ []) $ fsplit ! $ move ! (1 ∷ []) $ move ! (49 ∷ []) $ split ! $ move ! (1 ∷ []) $ split ! $ move ! (1 ∷ []) $ split ! $ move ! (1 ∷ []) $ split ! $ move ! (1 ∷ []) $ split ! $ move ! (1 ∷ []) $ split ! $ move ! (1 ∷ []) $
-        -- [true; κ₅; κ₄; κ₃; κ₂; κ₁; κ₀; true; out; watches; upperEnds; lowerEnds; positions; columns; n; head; the locals]
-        move ! (9 ∷ 2 ∷ []) $ reads-records ! fm mem run known-numbers κ₄ q₄ b o ys γ room (λ ν δ. (and-then ! (load ! (from ! (stop !)) (look ! 28 refl)) (no-more !))) (λ u r is e.
-        land ! (from ! (stop !)) (init ! 36 refl (array-typed u32 (uint-lawful 𝓤 H A W w32 .typed) 8 r _ is .0)) $
-        assigns ! (of-opd ! (load ! (from ! (fld ! refl (stop !))) (look-in ! 40 (sub ! 1 refl (whole !))))) (from ! (stop !)) (init ! 34 refl (tt, record { fits = room .0 })) $
-        assigns ! (addr ! (from ! (fld ! refl (hop ! (look-in ! 38 (sub ! 0 refl (whole !))) (stop !))))) (from ! (stop !)) (init ! 26 refl (tt, tt)) $
-        assigns ! (agg ! (and-then ! (load ! (from ! (stop !)) (look ! 26 refl)) (and-then ! (load ! (from ! (fld ! refl (stop !))) (look-in ! 38 (sub ! 1 refl (whole !)))) (no-more !)))) (from ! (stop !)) (init ! 24 refl (tt, (tt, (record { fits = out-fits }, tt)))) $
+        move ! (43 ∷ []) $ fsplit ! $ move ! (1 ∷ []) $ fsplit ! $ move ! (1 ∷ []) $ fsplit ! $ move ! (1 ∷ []) $ fsplit ! $ move ! (1 ∷ []) $ fsplit ! $ move ! (1 ∷ []) $ fsplit ! $ move ! (1 ∷ []) $ fsplit ! $ move ! (1 ∷ []) $ fsplit ! $ move ! (1 ∷ []) $ fsplit ! $ move ! (1 ∷ []) $ move ! (52 ∷ []) $ split ! $ move ! (1 ∷ []) $ split ! $ move ! (1 ∷ []) $ split ! $ move ! (1 ∷ []) $ split ! $ move ! (1 ∷ []) $ split ! $ move ! (1 ∷ []) $ split ! $ move ! (1 ∷ []) $
+        -- [true; κ₅; κ₄; κ₃; κ₂; κ₁; κ₀; true; out; watches; upperEnds; lowerEnds; positions; columns; n; desk; head; the locals]
+        move ! (9 ∷ 2 ∷ []) $ reads-records ! fm mem run known-numbers κ₄ q₄ b o ys γ room (λ ν δ. (and-then ! (load ! (from ! (stop !)) (look ! 29 refl)) (no-more !))) (λ u r is e.
+        land ! (from ! (stop !)) (init ! 37 refl (array-typed u64 (uint-lawful 𝓤 H A W w64 .typed) 8 r _ is .0)) $
+        assigns ! (of-opd ! (load ! (from ! (fld ! refl (stop !))) (look-in ! 41 (sub ! 1 refl (whole !))))) (from ! (stop !)) (init ! 35 refl (tt, record { fits = room .0 })) $
+        assigns ! (addr ! (from ! (fld ! refl (hop ! (look-in ! 39 (sub ! 0 refl (whole !))) (stop !))))) (from ! (stop !)) (init ! 27 refl (tt, tt)) $
+        assigns ! (agg ! (and-then ! (load ! (from ! (stop !)) (look ! 27 refl)) (and-then ! (load ! (from ! (fld ! refl (stop !))) (look-in ! 39 (sub ! 1 refl (whole !)))) (no-more !)))) (from ! (stop !)) (init ! 25 refl (tt, (tt, (record { fits = out-fits }, tt)))) $
         move ! (2 ∷ []) $ move ! (3 ∷ 0 ∷ []) $ join ! $ move ! (3 ∷ 0 ∷ []) $ join ! $ move ! (3 ∷ 0 ∷ []) $ join ! $ move ! (3 ∷ 0 ∷ []) $ join ! $ move ! (3 ∷ 0 ∷ []) $ join ! $
-        nothing ! $ move ! (5 ∷ 0 ∷ []) $ fjoin ! $ owned ! usize (Is usize) (uint-makes 𝓤 H A W w64) (length ys) _ (refl, room .0) $ fjoin ! $ owned ! (Array u32 8) (Is (Array u32 8)) (array-makes 𝓤 H A W u32 (uint-makes 𝓤 H A W w32) 8) r (u ∷ []) is $ fjoin ! $ move ! (5 ∷ 0 ∷ []) $ fjoin ! $ move ! (5 ∷ 0 ∷ []) $ fjoin ! $ move ! (5 ∷ 0 ∷ []) $ fjoin ! $ move ! (5 ∷ 0 ∷ []) $ fjoin ! $ move ! (5 ∷ 0 ∷ []) $ fjoin ! $ move ! (5 ∷ 0 ∷ []) $ fjoin ! $
+        nothing ! $ move ! (5 ∷ 0 ∷ []) $ fjoin ! $ owned ! usize (Is usize) (uint-makes 𝓤 H A W w64) (length ys) _ (refl, room .0) $ fjoin ! $ owned ! (Array u64 8) (Is (Array u64 8)) (array-makes 𝓤 H A W u64 (uint-makes 𝓤 H A W w64) 8) r (u ∷ []) is $ fjoin ! $ move ! (5 ∷ 0 ∷ []) $ fjoin ! $ move ! (5 ∷ 0 ∷ []) $ fjoin ! $ move ! (5 ∷ 0 ∷ []) $ fjoin ! $ move ! (5 ∷ 0 ∷ []) $ fjoin ! $ move ! (5 ∷ 0 ∷ []) $ fjoin ! $ move ! (5 ∷ 0 ∷ []) $ fjoin ! $ move ! (5 ∷ 0 ∷ []) $ fjoin ! $
         move ! (1 ∷ 0 ∷ []) $ use2 W (raw (Callee 𝓤 H A mem run .pre (to r u))) (goes r u) $
-        calls-at ! fm (Callee 𝓤 H A mem run) known-callee (to r u) (and-then ! (load ! (from ! (stop !)) (look ! 40 refl)) (and-then ! (load ! (from ! (stop !)) (look ! 38 refl)) (and-then ! (load ! (from ! (stop !)) (look ! 36 refl)) (and-then ! (load ! (from ! (stop !)) (look ! 34 refl)) (and-then ! (load ! (from ! (stop !)) (look ! 32 refl)) (and-then ! (load ! (from ! (stop !)) (look ! 30 refl)) (and-then ! (load ! (from ! (stop !)) (look ! 24 refl)) (and-then ! (load ! (from ! (stop !)) (look ! 22 refl)) (and-then ! (load ! (from ! (stop !)) (look ! 12 refl)) (no-more !)))))))))) (λ c.
+        calls-at ! fm (Callee 𝓤 H A mem run) known-callee (to r u) (and-then ! (load ! (from ! (stop !)) (look ! 42 refl)) (and-then ! (load ! (from ! (stop !)) (look ! 40 refl)) (and-then ! (load ! (from ! (stop !)) (look ! 38 refl)) (and-then ! (load ! (from ! (stop !)) (look ! 36 refl)) (and-then ! (load ! (from ! (stop !)) (look ! 34 refl)) (and-then ! (load ! (from ! (stop !)) (look ! 32 refl)) (and-then ! (load ! (from ! (stop !)) (look ! 30 refl)) (and-then ! (load ! (from ! (stop !)) (look ! 24 refl)) (and-then ! (load ! (from ! (stop !)) (look ! 22 refl)) (and-then ! (load ! (from ! (stop !)) (look ! 12 refl)) (no-more !))))))))))) (λ c.
         use1 W (later (some (λ (j : Judgement). (Tokens ⊛ ‵ (J.the-row .own j (c ∷ []))) ⊛ some (λ (zs : Ends). ‵ (lasts callee.ended lives (asked r) zs) ⊛ raw (fact 𝓤 (Said r j zs)))))) (id⊢ 𝓤 _) $ await ! tt $ pick ! (λ j. split ! $ move ! (1 ∷ []) $ pick ! (λ zs. split ! $ move ! (1 ∷ []) $ heard ! (Said r j zs) (λ said.
-        fsplit ! $ drop ! $ move ! (0 ∷ []) $ fsplit ! $ drop ! $ move ! (0 ∷ []) $ fsplit ! $ drop ! $ move ! (0 ∷ []) $ fsplit ! $ drop ! $ move ! (0 ∷ []) $ fsplit ! $ drop ! $ move ! (0 ∷ []) $ fsplit ! $ drop ! $ move ! (0 ∷ []) $ fsplit ! $ drop ! $ move ! (0 ∷ []) $ fsplit ! $ drop ! $ move ! (0 ∷ []) $ fsplit ! $ fsplit ! $ move ! (1 ∷ []) $ feqL ! (λ out-same. move ! (1 ∷ []) $ drop ! $
+        fsplit ! $ drop ! $ move ! (0 ∷ []) $ fsplit ! $ drop ! $ move ! (0 ∷ []) $ fsplit ! $ drop ! $ move ! (0 ∷ []) $ fsplit ! $ drop ! $ move ! (0 ∷ []) $ fsplit ! $ drop ! $ move ! (0 ∷ []) $ fsplit ! $ drop ! $ move ! (0 ∷ []) $ fsplit ! $ drop ! $ move ! (0 ∷ []) $ fsplit ! $ drop ! $ move ! (0 ∷ []) $ fsplit ! $ drop ! $ move ! (0 ∷ []) $ fsplit ! $ fsplit ! $ move ! (1 ∷ []) $ feqL ! (λ out-same. move ! (1 ∷ []) $ drop ! $
         move ! (1 ∷ []) $ split ! $ move ! (1 ∷ []) $ peeks ! J.the-row (Is J.the-row) (shows 𝓤 H A J.the-row) j (c ∷ []) (λ has. drop ! $
         -- [the tokens of the callee; the last out; watches; κ₄; true; the locals]
-        land ! (from ! (stop !)) (init ! 21 refl (LL.lawful J.the-type J′.the-laws 𝓤 H A W .typed j _ has .0)) $ rewrite ! 21 (λ (z : Val). ‵ (fat fullShare J′.mir l₁₁ 0 z)) (ap only (LL.tells J.the-type J′.the-laws j (c ∷ []) has)) refl $
+        land ! (from ! (stop !)) (init ! 21 refl (LL.lawful J.the-type J′.the-laws 𝓤 H A W .typed j _ has .0)) $ rewrite ! 21 (λ (z : Val). ‵ (fat fullShare J′.mir l₁₂ 0 z)) (ap only (LL.tells J.the-type J′.the-laws j (c ∷ []) has)) refl $
         assigns ! (of-opd ! (load ! (from ! (fld ! refl (stop !))) (look-in ! 21 (sub ! 1 refl (whole !))))) (from ! (stop !)) (init ! 11 refl (tt, tt)) $
         decides ! (load ! (from ! (stop !)) (look ! 11 refl))
         (λ on next.
         assigns ! (addr ! (from ! (fld ! refl (hop ! (look-in ! 29 (sub ! 0 refl (whole !))) (stop !))))) (from ! (stop !)) (init ! 7 refl (tt, tt)) $
         assigns ! (agg ! (and-then ! (load ! (from ! (stop !)) (look ! 7 refl)) (and-then ! (load ! (from ! (fld ! refl (stop !))) (look-in ! 29 (sub ! 1 refl (whole !)))) (no-more !)))) (from ! (stop !)) (init ! 5 refl (tt, (tt, (record { fits = room .0 }, tt)))) $
-        move ! (3 ∷ 2 ∷ []) $ changes-last ! fm κ₄ q₄ b o ys γ (vint w32 n) Last (inserts 𝓤 H A κ₄ q₄ b o ys γ W mem run C n n-fits (watch-asks ys head n lent e j said on) known-change) (and-then ! (load ! (from ! (stop !)) (look ! 4 refl)) (and-then ! (load ! (from ! (stop !)) (look ! 38 refl)) (no-more !))) (λ v ws isv m len. next _ _ _ $
+        move ! (3 ∷ 2 ∷ []) $ changes-last ! fm κ₄ q₄ b o ys γ (desk-value desk ∷ vint w32 n ∷ []) Two two Last (inserts 𝓤 H A κ₄ q₄ b o ys γ W mem run C desk n n-fits (watch-asks ys head desk n lent e j said on) known-change) (and-then ! (load ! (from ! (stop !)) (look ! 4 refl)) (and-then ! (load ! (from ! (stop !)) (look ! 40 refl)) (and-then ! (load ! (from ! (stop !)) (look ! 38 refl)) (no-more !)))) (λ v ws isv m len. next _ _ _ $
         land ! (from ! (stop !)) (init ! 9 refl (nothing-lawful 𝓤 H A W .typed tt _ isv .0)) $
-        assigns ! (of-opd ! (load ! (from ! (fld ! refl (stop !))) (look-in ! 21 (sub ! 0 refl (whole !))))) (from ! (stop !)) (init ! 43 refl (LL.lawful R.the-type R′.the-laws 𝓤 H A W .typed (j .reply) _ (replied j c has) .0)) $
-        returns ! (look ! 43 refl) $ forget ! 5 refl $ forget ! 7 refl $ forget ! 9 refl $ forget ! 11 refl $ forget ! 13 refl $ forget ! 15 refl $ forget ! 17 refl $ forget ! 19 refl $ forget ! 21 refl $ forget ! 23 refl $ forget ! 25 refl $ forget ! 27 refl $ forget ! 29 refl $ forget ! 31 refl $ forget ! 33 refl $ forget ! 35 refl $ forget ! 37 refl $ forget ! 39 refl $ forget ! 41 refl $ forget ! 43 refl $
-        move ! (43 ∷ 44 ∷ []) $ free1 ! $ move ! (41 ∷ 42 ∷ []) $ free1 ! $ move ! (39 ∷ 40 ∷ []) $ free1 ! $ move ! (37 ∷ 38 ∷ []) $ free1 ! $ move ! (35 ∷ 36 ∷ []) $ free1 ! $ move ! (33 ∷ 34 ∷ []) $ free1 ! $ move ! (31 ∷ 32 ∷ []) $ free1 ! $ move ! (29 ∷ 30 ∷ []) $ free1 ! $ move ! (27 ∷ 28 ∷ []) $ free1 ! $ move ! (25 ∷ 26 ∷ []) $ free1 ! $ move ! (23 ∷ 24 ∷ []) $ free1 ! $ move ! (21 ∷ 22 ∷ []) $ free1 ! $ move ! (19 ∷ 20 ∷ []) $ free1 ! $ move ! (17 ∷ 18 ∷ []) $ free1 ! $ move ! (15 ∷ 16 ∷ []) $ free1 ! $ move ! (13 ∷ 14 ∷ []) $ free1 ! $ move ! (11 ∷ 12 ∷ []) $ free1 ! $ move ! (9 ∷ 10 ∷ []) $ free1 ! $ move ! (7 ∷ 8 ∷ []) $ free1 ! $ move ! (5 ∷ 6 ∷ []) $ free1 ! $ free0 ! $
-        keep ! (2 ∷ 0 ∷ 1 ∷ 3 ∷ []) $ by ! (exits ws (zs .1 .1 .1 .1 .1 .1 .1 .1 .0) (j .reply) (replied j c has) len out-same (watch-inserted ys head n lent e j said on (watched ws) m))))
+        assigns ! (of-opd ! (load ! (from ! (fld ! refl (stop !))) (look-in ! 21 (sub ! 0 refl (whole !))))) (from ! (stop !)) (init ! 45 refl (LL.lawful R.the-type R′.the-laws 𝓤 H A W .typed (j .reply) _ (replied j c has) .0)) $
+        returns ! (look ! 45 refl) $ forget ! 5 refl $ forget ! 7 refl $ forget ! 9 refl $ forget ! 11 refl $ forget ! 13 refl $ forget ! 15 refl $ forget ! 17 refl $ forget ! 19 refl $ forget ! 21 refl $ forget ! 23 refl $ forget ! 25 refl $ forget ! 27 refl $ forget ! 29 refl $ forget ! 31 refl $ forget ! 33 refl $ forget ! 35 refl $ forget ! 37 refl $ forget ! 39 refl $ forget ! 41 refl $ forget ! 43 refl $ forget ! 45 refl $
+        move ! (45 ∷ 46 ∷ []) $ free1 ! $ move ! (43 ∷ 44 ∷ []) $ free1 ! $ move ! (41 ∷ 42 ∷ []) $ free1 ! $ move ! (39 ∷ 40 ∷ []) $ free1 ! $ move ! (37 ∷ 38 ∷ []) $ free1 ! $ move ! (35 ∷ 36 ∷ []) $ free1 ! $ move ! (33 ∷ 34 ∷ []) $ free1 ! $ move ! (31 ∷ 32 ∷ []) $ free1 ! $ move ! (29 ∷ 30 ∷ []) $ free1 ! $ move ! (27 ∷ 28 ∷ []) $ free1 ! $ move ! (25 ∷ 26 ∷ []) $ free1 ! $ move ! (23 ∷ 24 ∷ []) $ free1 ! $ move ! (21 ∷ 22 ∷ []) $ free1 ! $ move ! (19 ∷ 20 ∷ []) $ free1 ! $ move ! (17 ∷ 18 ∷ []) $ free1 ! $ move ! (15 ∷ 16 ∷ []) $ free1 ! $ move ! (13 ∷ 14 ∷ []) $ free1 ! $ move ! (11 ∷ 12 ∷ []) $ free1 ! $ move ! (9 ∷ 10 ∷ []) $ free1 ! $ move ! (7 ∷ 8 ∷ []) $ free1 ! $ move ! (5 ∷ 6 ∷ []) $ free1 ! $ free0 ! $
+        keep ! (2 ∷ 0 ∷ 1 ∷ 3 ∷ []) $ by ! (exits ws (zs .1 .1 .1 .1 .1 .1 .1 .1 .1 .0) (j .reply) (replied j c has) len out-same (watch-inserted ys head desk n lent e j said on (watched ws) m))))
         (λ off. move ! (2 ∷ []) $ stays-last ! T.the-row (named 4) b o ys $
-        assigns ! (of-opd ! (load ! (from ! (fld ! refl (stop !))) (look-in ! 21 (sub ! 0 refl (whole !))))) (from ! (stop !)) (init ! 43 refl (LL.lawful R.the-type R′.the-laws 𝓤 H A W .typed (j .reply) _ (replied j c has) .0)) $
-        returns ! (look ! 43 refl) $ forget ! 11 refl $ forget ! 13 refl $ forget ! 15 refl $ forget ! 17 refl $ forget ! 19 refl $ forget ! 21 refl $ forget ! 23 refl $ forget ! 25 refl $ forget ! 27 refl $ forget ! 29 refl $ forget ! 31 refl $ forget ! 33 refl $ forget ! 35 refl $ forget ! 37 refl $ forget ! 39 refl $ forget ! 41 refl $ forget ! 43 refl $
-        move ! (43 ∷ 44 ∷ []) $ free1 ! $ move ! (41 ∷ 42 ∷ []) $ free1 ! $ move ! (39 ∷ 40 ∷ []) $ free1 ! $ move ! (37 ∷ 38 ∷ []) $ free1 ! $ move ! (35 ∷ 36 ∷ []) $ free1 ! $ move ! (33 ∷ 34 ∷ []) $ free1 ! $ move ! (31 ∷ 32 ∷ []) $ free1 ! $ move ! (29 ∷ 30 ∷ []) $ free1 ! $ move ! (27 ∷ 28 ∷ []) $ free1 ! $ move ! (25 ∷ 26 ∷ []) $ free1 ! $ move ! (23 ∷ 24 ∷ []) $ free1 ! $ move ! (21 ∷ 22 ∷ []) $ free1 ! $ move ! (19 ∷ 20 ∷ []) $ free1 ! $ move ! (17 ∷ 18 ∷ []) $ free1 ! $ move ! (15 ∷ 16 ∷ []) $ free1 ! $ move ! (13 ∷ 14 ∷ []) $ free1 ! $ move ! (11 ∷ 12 ∷ []) $ free1 ! $ move ! (9 ∷ 10 ∷ []) $ free1 ! $ move ! (7 ∷ 8 ∷ []) $ free1 ! $ move ! (5 ∷ 6 ∷ []) $ free1 ! $ free0 ! $
-        keep ! (1 ∷ 3 ∷ 0 ∷ 2 ∷ []) $ by ! (exits ys (zs .1 .1 .1 .1 .1 .1 .1 .1 .0) (j .reply) (replied j c has) refl out-same (watch-left ys head n lent e j said off))))))))))))))))))))))))))))))
+        assigns ! (of-opd ! (load ! (from ! (fld ! refl (stop !))) (look-in ! 21 (sub ! 0 refl (whole !))))) (from ! (stop !)) (init ! 45 refl (LL.lawful R.the-type R′.the-laws 𝓤 H A W .typed (j .reply) _ (replied j c has) .0)) $
+        returns ! (look ! 45 refl) $ forget ! 11 refl $ forget ! 13 refl $ forget ! 15 refl $ forget ! 17 refl $ forget ! 19 refl $ forget ! 21 refl $ forget ! 23 refl $ forget ! 25 refl $ forget ! 27 refl $ forget ! 29 refl $ forget ! 31 refl $ forget ! 33 refl $ forget ! 35 refl $ forget ! 37 refl $ forget ! 39 refl $ forget ! 41 refl $ forget ! 43 refl $ forget ! 45 refl $
+        move ! (45 ∷ 46 ∷ []) $ free1 ! $ move ! (43 ∷ 44 ∷ []) $ free1 ! $ move ! (41 ∷ 42 ∷ []) $ free1 ! $ move ! (39 ∷ 40 ∷ []) $ free1 ! $ move ! (37 ∷ 38 ∷ []) $ free1 ! $ move ! (35 ∷ 36 ∷ []) $ free1 ! $ move ! (33 ∷ 34 ∷ []) $ free1 ! $ move ! (31 ∷ 32 ∷ []) $ free1 ! $ move ! (29 ∷ 30 ∷ []) $ free1 ! $ move ! (27 ∷ 28 ∷ []) $ free1 ! $ move ! (25 ∷ 26 ∷ []) $ free1 ! $ move ! (23 ∷ 24 ∷ []) $ free1 ! $ move ! (21 ∷ 22 ∷ []) $ free1 ! $ move ! (19 ∷ 20 ∷ []) $ free1 ! $ move ! (17 ∷ 18 ∷ []) $ free1 ! $ move ! (15 ∷ 16 ∷ []) $ free1 ! $ move ! (13 ∷ 14 ∷ []) $ free1 ! $ move ! (11 ∷ 12 ∷ []) $ free1 ! $ move ! (9 ∷ 10 ∷ []) $ free1 ! $ move ! (7 ∷ 8 ∷ []) $ free1 ! $ move ! (5 ∷ 6 ∷ []) $ free1 ! $ free0 ! $
+        keep ! (1 ∷ 3 ∷ 0 ∷ 2 ∷ []) $ by ! (exits ys (zs .1 .1 .1 .1 .1 .1 .1 .1 .1 .0) (j .reply) (replied j c has) refl out-same (watch-left ys head desk n lent e j said off)))))))))))))))))))))))))))))))
 
 module _ {M : Type 1} (𝓤 : URA M) (H : Heap 𝓤) (A : Atoms 𝓤) (W : Given 𝓤 H A) (mem : Memory → SProp 𝓤) (run : Routine → Fun 𝓤) (𝓣 : Tables 𝓤 H)
     (known-numbers : Triple 𝓤 (𝓣 .C #watches·numbers) (Numbers 𝓤 H A mem run)) (known-callee : Triple 𝓤 (𝓣 .C #lending·watch-lent) (Callee 𝓤 H A mem run)) (known-change : Triple 𝓤 (𝓣 .C #watches·insert-record) (Insert 𝓤 H A mem run)) where
   watch-walks : Walks 𝓤 H A f.ended stayed (WpFn 𝓤 H (𝓣 .C) (𝓣 .Λ) code.function) (f.clauses 𝓤 H A mem run)
   watch-walks =
-      walked 𝓤 H A f.ended stayed (f.clauses 𝓤 H A mem run) (WpFn 𝓤 H (𝓣 .C) (𝓣 .Λ) code.function) (λ κs. (headed, (uint-vals w32, (slice-vals, (slice-vals, (slice-vals, (slice-vals, (slice-vals, (slice-vals, tt)))))))))
-      (λ κs. (LL.tells Hd.the-type Hd′.the-laws, (uint-tells w32, (shr-slice-tells (named 0) (κs .0) u32, (shr-slice-tells (named 1) (κs .1 .0) u32, (shr-slice-tells (named 2) (κs .1 .1 .0) u32, (shr-slice-tells (named 3) (κs .1 .1 .1 .0) u32, (mut-slice-tells (named 4) (κs .1 .1 .1 .1 .0) T.the-row, (mut-slice-tells (named 5) (κs .1 .1 .1 .1 .1 .0) u8, tt)))))))))
+      walked 𝓤 H A f.ended stayed (f.clauses 𝓤 H A mem run) (WpFn 𝓤 H (𝓣 .C) (𝓣 .Λ) code.function) (λ κs. (headed, (desk-values, (uint-vals w32, (slice-vals, (slice-vals, (slice-vals, (slice-vals, (slice-vals, (slice-vals, tt))))))))))
+      (λ κs. (LL.tells Hd.the-type Hd′.the-laws, (EL.tells D.the-type D′.the-laws, (uint-tells w32, (shr-slice-tells (named 0) (κs .0) u32, (shr-slice-tells (named 1) (κs .1 .0) u32, (shr-slice-tells (named 2) (κs .1 .1 .0) u32, (shr-slice-tells (named 3) (κs .1 .1 .1 .0) u32, (mut-slice-tells (named 4) (κs .1 .1 .1 .1 .0) T.the-row, (mut-slice-tells (named 5) (κs .1 .1 .1 .1 .1 .0) u8, tt))))))))))
       (λ κs qs bounds a g are. via 𝓤 _ (fst∗ 𝓤 _ (emp 𝓤)) (walk 𝓤 H A W mem run (κs .0) (κs .1 .0) (κs .1 .1 .0) (κs .1 .1 .1 .0) (κs .1 .1 .1 .1 .0) (κs .1 .1 .1 .1 .1 .0) (qs .0) (qs .1 .0) (qs .1 .1 .0) (qs .1 .1 .1 .0) (qs .1 .1 .1 .1 .0) (qs .1 .1 .1 .1 .1 .0)
-      (a .0) (a .1 .0) (a .1 .1 .0) (a .1 .1 .1 .0) (a .1 .1 .1 .1 .0) (a .1 .1 .1 .1 .1 .0) (a .1 .1 .1 .1 .1 .1 .0 .ptr .0) (a .1 .1 .1 .1 .1 .1 .0 .ptr .1) (a .1 .1 .1 .1 .1 .1 .0 .name) (a .1 .1 .1 .1 .1 .1 .0 .now) (a .1 .1 .1 .1 .1 .1 .1 .0)
-      (are .0) (are .1 .0 .1) (are .1 .1 .0 .0 .1 .0) (are .1 .1 .1 .0 .0 .1 .0) (are .1 .1 .1 .1 .0 .0 .1 .0) (are .1 .1 .1 .1 .1 .0 .0 .1 .0) (are .1 .1 .1 .1 .1 .1 .0 .0 .1) (are .1 .1 .1 .1 .1 .1 .1 .0 .0 .1 .0) (𝓣 .C) (𝓣 .Λ) (fmOf 𝓤 H (W .laws) 𝓣) known-numbers known-callee known-change))
+      (a .0) (a .1 .0) (a .1 .1 .0) (a .1 .1 .1 .0) (a .1 .1 .1 .1 .0) (a .1 .1 .1 .1 .1 .0) (a .1 .1 .1 .1 .1 .1 .0) (a .1 .1 .1 .1 .1 .1 .1 .0 .ptr .0) (a .1 .1 .1 .1 .1 .1 .1 .0 .ptr .1) (a .1 .1 .1 .1 .1 .1 .1 .0 .name) (a .1 .1 .1 .1 .1 .1 .1 .0 .now) (a .1 .1 .1 .1 .1 .1 .1 .1 .0)
+      (are .0) (are .1 .1 .0 .1) (are .1 .1 .1 .0 .0 .1 .0) (are .1 .1 .1 .1 .0 .0 .1 .0) (are .1 .1 .1 .1 .1 .0 .0 .1 .0) (are .1 .1 .1 .1 .1 .1 .0 .0 .1 .0) (are .1 .1 .1 .1 .1 .1 .1 .0 .0 .1) (are .1 .1 .1 .1 .1 .1 .1 .1 .0 .0 .1 .0) (𝓣 .C) (𝓣 .Λ) (fmOf 𝓤 H (W .laws) 𝓣) known-numbers known-callee known-change))
 
   watch-meets : Meets 𝓤 H A f.signature (WpFn 𝓤 H (𝓣 .C) (𝓣 .Λ) code.function) (f.spec 𝓤 H A mem run)
   watch-meets =
       walk-meets 𝓤 H A f.ended stayed W
-      (goes-dropped 𝓤 H A W 6 (plain (λ _. Hd.the-row)) yes (λ κs x f. refl), (goes-dropped 𝓤 H A W 6 (plain (λ _. u32)) yes (λ κs x f. refl), (goes-dropped 𝓤 H A W 6 (shrSliceOf (0 ∷ []) tt (plain (λ _. u32))) yes (λ κs x f. refl), (goes-dropped 𝓤 H A W 6 (shrSliceOf (1 ∷ []) tt (plain (λ _. u32))) yes (λ κs x f. refl), (goes-dropped 𝓤 H A W 6 (shrSliceOf (2 ∷ []) tt (plain (λ _. u32))) yes (λ κs x f. refl), (goes-dropped 𝓤 H A W 6 (shrSliceOf (3 ∷ []) tt (plain (λ _. u32))) yes (λ κs x f. refl), (goes-gave-slice 𝓤 H A W 6 4 tt (plain (λ _. T.the-row)), (goes-gave-slice 𝓤 H A W 6 5 tt (plain (λ _. u8)), tt))))))))
+      (goes-dropped 𝓤 H A W 6 (plain (λ _. Hd.the-row)) yes (λ κs x f. refl), (goes-dropped 𝓤 H A W 6 (plain (λ _. D.the-row)) yes (λ κs x f. refl), (goes-dropped 𝓤 H A W 6 (plain (λ _. u32)) yes (λ κs x f. refl), (goes-dropped 𝓤 H A W 6 (shrSliceOf (0 ∷ []) tt (plain (λ _. u32))) yes (λ κs x f. refl), (goes-dropped 𝓤 H A W 6 (shrSliceOf (1 ∷ []) tt (plain (λ _. u32))) yes (λ κs x f. refl), (goes-dropped 𝓤 H A W 6 (shrSliceOf (2 ∷ []) tt (plain (λ _. u32))) yes (λ κs x f. refl), (goes-dropped 𝓤 H A W 6 (shrSliceOf (3 ∷ []) tt (plain (λ _. u32))) yes (λ κs x f. refl), (goes-gave-slice 𝓤 H A W 6 4 tt (plain (λ _. T.the-row)), (goes-gave-slice 𝓤 H A W 6 5 tt (plain (λ _. u8)), tt)))))))))
       (f.clauses 𝓤 H A mem run) (WpFn 𝓤 H (𝓣 .C) (𝓣 .Λ) code.function) (WpFn-mono 𝓤 H (W .laws) 𝓣 code.function) watch-walks
 
 pub watch-spec : {M : Type 1} → stated.statement M

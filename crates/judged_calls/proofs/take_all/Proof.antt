@@ -1,5 +1,4 @@
--- `take_all` meets its contract: it goes through the quotes, and each leaves the lent parts as long as they were.
-use mathlib.Core.Path.{_≡_, refl}
+-- `take_all` meets its contract: it goes through the quotes.
 use Prim.Native.Nat.{_-_, _≤_}
 use native.Mathlib.Omega.{arith}
 use lib.ListN.{length}
@@ -8,33 +7,31 @@ use Rattle.judged_calls.proofs.take_all.Statement.{statement}
 use Rattle.judged_calls.proofs.take_all.Tie as tie
 
 abbrev Inv-loop : tie.InvT-loop
-Inv-loop quotes columns₀ positions₀ lower-ends₀ upper-ends₀ records out₀ now₀ i₀ columns positions lower-ends upper-ends out now i =
-    (length columns ≡ length columns₀) × (length positions ≡ length positions₀) × (length lower-ends ≡ length lower-ends₀) × (length upper-ends ≡ length upper-ends₀) × (length out ≡ length out₀) × (i ≤ length quotes)
+Inv-loop quotes now₀ i₀ now i = i ≤ length quotes
 
 abbrev μ-loop : tie.MeasureT-loop
-μ-loop quotes columns₀ positions₀ lower-ends₀ upper-ends₀ records out₀ now₀ i₀ columns positions lower-ends upper-ends out now i =
-    length quotes - i
+μ-loop quotes now₀ i₀ now i = length quotes - i
 
 loop-holds : tie.Need-loop-holds Inv-loop μ-loop
-loop-holds c = (refl, refl, refl, refl, refl, omega arith)
+loop-holds c = omega arith
 
 add-loop : tie.Need-add-loop Inv-loop μ-loop
 add-loop c = search needs
 
-mul-t12 : tie.Need-mul-t12 Inv-loop μ-loop
-mul-t12 c = search needs
+mul-t6 : tie.Need-mul-t6 Inv-loop μ-loop
+mul-t6 c = search needs
 
-shared-slice-read-t16 : tie.Need-shared-slice-read-t16 Inv-loop μ-loop
-shared-slice-read-t16 c = search needs
+shared-slice-read-t10 : tie.Need-shared-slice-read-t10 Inv-loop μ-loop
+shared-slice-read-t10 c = search needs
 
-add-t13 : tie.Need-add-t13 Inv-loop μ-loop
-add-t13 c = search needs
+add-t7 : tie.Need-add-t7 Inv-loop μ-loop
+add-t7 c = search needs
 
-mul-t17 : tie.Need-mul-t17 Inv-loop μ-loop
-mul-t17 c = search needs
+mul-t11 : tie.Need-mul-t11 Inv-loop μ-loop
+mul-t11 c = search needs
 
-shared-slice-read-t19 : tie.Need-shared-slice-read-t19 Inv-loop μ-loop
-shared-slice-read-t19 c = search needs
+shared-slice-read-t13 : tie.Need-shared-slice-read-t13 Inv-loop μ-loop
+shared-slice-read-t13 c = search needs
 
 take-requires : tie.Need-take-requires Inv-loop μ-loop
 take-requires c κs = search needs
@@ -48,21 +45,6 @@ loop-less c = search needs
 loop-again : tie.Need-loop-again Inv-loop μ-loop
 loop-again c = search needs
 
-same-length : tie.Need-same-length Inv-loop μ-loop
-same-length c = search needs
-
-same-length-2 : tie.Need-same-length-2 Inv-loop μ-loop
-same-length-2 c = search needs
-
-same-length-3 : tie.Need-same-length-3 Inv-loop μ-loop
-same-length-3 c = search needs
-
-same-length-4 : tie.Need-same-length-4 Inv-loop μ-loop
-same-length-4 c = search needs
-
-same-length-5 : tie.Need-same-length-5 Inv-loop μ-loop
-same-length-5 c = search needs
-
 returns : tie.Need-returns Inv-loop μ-loop
 returns c = search needs
 
@@ -74,18 +56,13 @@ take-all-spec =
     μ-loop
     loop-holds
     add-loop
-    mul-t12
-    shared-slice-read-t16
-    add-t13
-    mul-t17
-    shared-slice-read-t19
+    mul-t6
+    shared-slice-read-t10
+    add-t7
+    mul-t11
+    shared-slice-read-t13
     take-requires
     add-i
     loop-less
     loop-again
-    same-length
-    same-length-2
-    same-length-3
-    same-length-4
-    same-length-5
     returns)

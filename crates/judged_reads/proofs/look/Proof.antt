@@ -7,6 +7,18 @@ use Rattle.judged_reads.proofs.Cells.{fits}
 use Rattle.judged_reads.proofs.look.Statement.{statement}
 use Rattle.judged_reads.proofs.look.Tie as tie
 
+slice-aggregate-look : tie.Need-slice-aggregate-look
+slice-aggregate-look c = search needs
+
+slice-aggregate-look-2 : tie.Need-slice-aggregate-look-2
+slice-aggregate-look-2 c = search needs
+
+slice-aggregate-look-3 : tie.Need-slice-aggregate-look-3
+slice-aggregate-look-3 c = search needs
+
+slice-aggregate-look-4 : tie.Need-slice-aggregate-look-4
+slice-aggregate-look-4 c = search needs
+
 sub-look : tie.Need-sub-look
 sub-look c = search needs
 
@@ -56,6 +68,10 @@ pub look-spec : {M : Type 1} → statement M
 look-spec =
     tie.close
     (tie.spec
+    slice-aggregate-look
+    slice-aggregate-look-2
+    slice-aggregate-look-3
+    slice-aggregate-look-4
     sub-look
     part-cells-start
     part-cells-end

@@ -7,6 +7,18 @@ use Rattle.judged_reads.proofs.Cells.{fits}
 use Rattle.judged_reads.proofs.past.Statement.{statement}
 use Rattle.judged_reads.proofs.past.Tie as tie
 
+slice-aggregate-past : tie.Need-slice-aggregate-past
+slice-aggregate-past c = search needs
+
+slice-aggregate-past-2 : tie.Need-slice-aggregate-past-2
+slice-aggregate-past-2 c = search needs
+
+slice-aggregate-past-3 : tie.Need-slice-aggregate-past-3
+slice-aggregate-past-3 c = search needs
+
+slice-aggregate-past-4 : tie.Need-slice-aggregate-past-4
+slice-aggregate-past-4 c = search needs
+
 sub-past : tie.Need-sub-past
 sub-past c = search needs
 
@@ -59,6 +71,10 @@ pub past-spec : {M : Type 1} → statement M
 past-spec =
     tie.close
     (tie.spec
+    slice-aggregate-past
+    slice-aggregate-past-2
+    slice-aggregate-past-3
+    slice-aggregate-past-4
     sub-past
     part-cells-start
     part-cells-end

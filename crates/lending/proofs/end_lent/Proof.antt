@@ -14,7 +14,7 @@ judge-requires c κs = search needs
 returns : tie.Need-returns
 returns c =
     let a = c .before .before .before .before .before .before .before .args in
-    end-few (a .watches) (a .lent) (omega arith) _ _ _ _ (c .before .few .ensures) (c .judge .ensures)
+    end-few (a .watches) (a .lent) (omega arith) _ _ _ _ _ (c .before .few .ensures) (c .judge .ensures)
 
 end-requires : tie.Need-end-requires
 end-requires c κs = search needs
@@ -26,8 +26,8 @@ returns-2 : tie.Need-returns-2
 returns-2 c =
     let s = c .before .before .before .before .before .before .before in
     let a = s .args in
-    let g = s .good .1 .1 .1 .1 .1 .1 .0 in
-    end-eight (a .watches) (a .lent) _ _ _ (omega (arith, g)) (c .before .end .ensures) (c .judge2 .ensures)
+    let g = s .good .1 .1 .1 .1 .1 .1 .1 .0 in
+    end-eight (a .watches) (a .lent) _ _ _ _ (omega (arith, g)) (c .before .end .ensures) (c .judge2 .ensures)
 
 pub end-lent-spec : {M : Type 1} → statement M
 end-lent-spec = tie.close (tie.spec few-requires judge-requires returns end-requires judge-requires-2 returns-2)

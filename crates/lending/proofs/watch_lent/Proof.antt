@@ -14,7 +14,7 @@ judge-requires c κs = search needs
 returns : tie.Need-returns
 returns c =
     let a = c .before .before .before .before .before .before .before .before .args in
-    watch-few (a .watches) (a .lent) (omega arith) _ _ _ _ (c .before .few .ensures) (c .judge .ensures)
+    watch-few (a .watches) (a .lent) (omega arith) _ _ _ _ _ (c .before .few .ensures) (c .judge .ensures)
 
 watch-requires : tie.Need-watch-requires
 watch-requires c κs = search needs
@@ -29,8 +29,8 @@ returns-2 : tie.Need-returns-2
 returns-2 c =
     let s = c .before .before .before .before .before .before .before .before .before .before .before in
     let a = s .args in
-    let g = s .good .1 .1 .1 .1 .1 .1 .0 in
-    watch-eight (a .watches) (a .lent) _ _ _ (omega (arith, g)) (c .before .before .before .watch .ensures) (c .judge2 .ensures)
+    let g = s .good .1 .1 .1 .1 .1 .1 .1 .0 in
+    watch-eight (a .watches) (a .lent) _ _ _ _ (omega (arith, g)) (c .before .before .before .watch .ensures) (c .judge2 .ensures)
 
 pub watch-lent-spec : {M : Type 1} → statement M
 watch-lent-spec =

@@ -11,14 +11,17 @@ enum-told c = search needs
 enum-known-follower : tie.Need-enum-known-follower
 enum-known-follower c = search needs
 
+join-kind-requires : tie.Need-join-kind-requires
+join-kind-requires c κs = search needs
+
 lay-change-requires : tie.Need-lay-change-requires
-lay-change-requires c κs = omega (arith, watch-size (c .before .before .before .before .before .args .position) (c .before .before .follower .given .1), c .before .before .before .before .before .pre)
+lay-change-requires c κs = omega (arith, watch-size (c .before .before .before .before .before .before .args .position) (c .before .before .before .follower .given .1), c .before .before .before .before .before .before .pre)
 
 same-length : tie.Need-same-length
 same-length c = search needs
 
 returns : tie.Need-returns
-returns c = watch-laid _ (c .before .before .before .before .before .follower .given .1) _ (c .before .before .lay-change .ensures)
+returns c = watch-laid _ (c .before .before .before .before .before .before .follower .given .1) (c .before .before .before .before .join-kind .ensures) _ (c .before .before .lay-change .ensures)
 
 lay-position-requires : tie.Need-lay-position-requires
 lay-position-requires c κs = omega (arith, pair-size (c .before .before .before .before .args .position) (c .before .enum-told .given .1), c .before .before .before .before .pre)
@@ -30,4 +33,4 @@ returns-2 : tie.Need-returns-2
 returns-2 c = pair-laid _ (c .before .before .before .before .enum-told .given .1) _ (c .before .before .lay-position .ensures)
 
 pub lay-join-spec : {M : Type 1} → statement M
-lay-join-spec = tie.close (tie.spec enum-told enum-known-follower lay-change-requires same-length returns lay-position-requires same-length-2 returns-2)
+lay-join-spec = tie.close (tie.spec enum-told enum-known-follower join-kind-requires lay-change-requires same-length returns lay-position-requires same-length-2 returns-2)

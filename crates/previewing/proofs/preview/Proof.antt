@@ -2,7 +2,7 @@
 use native.Mathlib.Omega.{arith}
 use Rattle.head.proofs.Numbers.{accepted-number}
 use Rattle.settling.proofs.Findings.{findable}
-use Rattle.quoting.proofs.Quotes.{Entering, admitted, few-held, countable, reply-is, out-is, quote-refused}
+use Rattle.quoting.proofs.Quotes.{Entering, taken, few-held, reply-is, out-is, quote-refused}
 use Rattle.quoting.proofs.Reaching.{any-sound-if}
 use Rattle.previewing.proofs.Previews.{tells-quote, writable-in}
 use borrow.Author.Needs.{needs}
@@ -28,7 +28,9 @@ slice-aggregate-find : tie.Need-slice-aggregate-find
 slice-aggregate-find c = search needs
 
 find-requires : tie.Need-find-requires
-find-requires c κs = let a = admitted _ _ _ _ (accepted-number _ (c .before .before .before .judge-row .ensures) (c .before .enum-told .given .1)) .0 in findable a (omega (arith, few-held a))
+find-requires c κs =
+    let a = taken _ _ _ _ _ (accepted-number _ (c .before .before .before .judge-row .ensures) (c .before .enum-told .given .1)) .admitted in
+    findable a (omega (arith, few-held a))
 
 mul-write : tie.Need-mul-write
 mul-write c = search needs
@@ -43,7 +45,17 @@ part-write-end : tie.Need-part-write-end
 part-write-end c = search needs
 
 write-requires : tie.Need-write-requires
-write-requires c κs = let v : Entering _ _ _ _ _ _ = record { accepted = accepted-number _ (c .before .before .before .before .before .before .before .before .judge-row .ensures) (c .before .before .before .before .before .before .enum-told .given .1); eight = omega (arith, c .before .before .before .before .before .before .before .before .before .before .before .before .before .before .before .good); finds = c .before .before .before .before .find .ensures } in (countable v, (writable-in v (omega (arith, c .before .before .before .before .find .kept)), any-sound-if))
+write-requires c κs =
+    let found = c .before .before .before .before .find in
+    let v : Entering _ _ _ _ _ _ _ = record {
+      accepted = accepted-number _ (c .before .before .before .before .before .before .before .before .judge-row .ensures) (c .before .before .before .before .before .before .enum-told .given .1);
+      eight = omega (arith, c .before .before .before .before .before .before .before .before .before .before .before .before .before .before .before .good);
+      finds = found .ensures .1;
+    } in
+    (writable-in v (omega (arith, found .kept)), any-sound-if _ (found .ensures .0))
+
+accept-requires : tie.Need-accept-requires
+accept-requires c κs = search needs
 
 effect-of-requires-2 : tie.Need-effect-of-requires-2
 effect-of-requires-2 c κs = search needs
@@ -52,7 +64,14 @@ same-length : tie.Need-same-length
 same-length c = search needs
 
 returns-2 : tie.Need-returns-2
-returns-2 c = let v : Entering _ _ _ _ _ _ = record { accepted = accepted-number _ (c .before .before .before .before .before .before .before .before .before .before .before .before .judge-row .ensures) (c .before .before .before .before .before .before .before .before .before .before .enum-told .given .1); eight = omega (arith, c .before .before .before .before .before .before .before .before .before .before .before .before .before .before .before .before .before .before .before .good); finds = c .before .before .before .before .before .before .before .before .find .ensures } in tells-quote _ _ _ _ _ (c .effect-of2 .ensures) (reply-is v (c .before .before .before .write .ensures)) (out-is v (c .before .before .before .write .ensures))
+returns-2 c =
+    let v : Entering _ _ _ _ _ _ _ = record {
+      accepted = accepted-number _ (c .before .before .before .before .before .before .before .before .before .before .before .before .before .judge-row .ensures) (c .before .before .before .before .before .before .before .before .before .before .before .enum-told .given .1);
+      eight = omega (arith, c .before .before .before .before .before .before .before .before .before .before .before .before .before .before .before .before .before .before .before .before .good);
+      finds = c .before .before .before .before .before .before .before .before .before .find .ensures .1;
+    } in
+    let written = c .before .before .before .before .write .ensures in
+    tells-quote _ _ _ _ _ (c .effect-of2 .ensures) (reply-is v (written .0) (c .before .accept .ensures)) (out-is _ v (written .1))
 
 pub preview-spec : {M : Type 1} → statement M
 preview-spec =
@@ -70,6 +89,7 @@ preview-spec =
     part-write-start
     part-write-end
     write-requires
+    accept-requires
     effect-of-requires-2
     same-length
     returns-2)

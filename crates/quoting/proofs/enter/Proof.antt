@@ -1,17 +1,18 @@
 -- `enter` meets its contract: what was found tells the changes and the rows that stay, and each table is settled by itself.
 use mathlib.Core.Path.{refl}
 use native.Mathlib.Omega.{arith}
+use lib.ListN.{length}
 use denote.Ref.{now}
 use Rattle.model.specs.Promises.{tables}
 use Rattle.settling.proofs.Settled.{ready-columns, ready-positions, ready-lowers, ready-uppers, unnamed, settled}
-use Rattle.quoting.proofs.Quotes.{Entering, book, countable, writable, retired-low, uppers-settled, quote-full, quote-done}
+use Rattle.quoting.proofs.Quotes.{Entering, book, writable, retired-low, uppers-settled, quote-done}
 use borrow.Author.Needs.{needs}
 use Rattle.quoting.proofs.enter.Statement.{statement}
 use Rattle.quoting.proofs.enter.Tie as tie
 
 -- what is known where the call begins
 entering : (s : tie.Start)
-    → Entering (s .args .head) (now (s .args .quote)) (tables (now (s .args .columns)) (now (s .args .positions)) (now (s .args .lower-ends)) (now (s .args .upper-ends))) (s .args .watches) (s .args .found) (now (s .args .places))
+    → Entering (s .args .head) (now (s .args .quote)) (tables (now (s .args .columns)) (now (s .args .positions)) (now (s .args .lower-ends)) (now (s .args .upper-ends))) (s .args .watches) (length (now (s .args .out))) (s .args .found) (now (s .args .places))
 entering s = record { accepted = s .pre .0; eight = omega (arith, s .good); finds = s .pre .1 .0 }
 
 mul-write : tie.Need-mul-write
@@ -27,13 +28,47 @@ part-write-end : tie.Need-part-write-end
 part-write-end c = search needs
 
 write-requires : tie.Need-write-requires
-write-requires c κs = (countable (entering (c .before .before .before .before .before .before .before .before .before .before .before .before)), (writable (entering (c .before .before .before .before .before .before .before .before .before .before .before .before)), c .before .before .before .before .before .before .before .before .before .before .before .before .pre .1 .1 .1))
+write-requires c κs = let s = c .before .before .before .before .before .before .before .before .before .before .before .before in (writable (entering s), s .pre .1 .1 .1)
 
-enum-told : tie.Need-enum-told
-enum-told c = search needs
+cast-d : tie.Need-cast-d
+cast-d c = search needs
 
-enum-told-2 : tie.Need-enum-told-2
-enum-told-2 c = search needs
+settle-requires : tie.Need-settle-requires
+settle-requires c κs = let s = c .before .before .before .before .before .before .before .before .before .before .before .before .before .before .before .before .before in (ready-columns (book (entering s)) (s .pre .1 .0) (s .pre .1 .1 .0), book (entering s) .wide)
+
+add-t33 : tie.Need-add-t33
+add-t33 c = omega (arith, book (entering (c .before .before .before .before .before .before .before .before .before .before .before .before .before .before .before .before .before .before .before .before .before)) .below)
+
+slice-aggregate-settle : tie.Need-slice-aggregate-settle
+slice-aggregate-settle c = search needs
+
+settle-requires-2 : tie.Need-settle-requires-2
+settle-requires-2 c κs = let s = c .before .before .before .before .before .before .before .before .before .before .before .before .before .before .before .before .before .before .before .before .before .before .before in (ready-positions (book (entering s)) (s .pre .1 .0) (s .pre .1 .1 .0), refl)
+
+settle-lower-ends-requires : tie.Need-settle-lower-ends-requires
+settle-lower-ends-requires c κs =
+    let s = c .before .before .before .before .before .before .before .before .before .before .before .before .before .before .before .before .before .before .before .before .before .before .before .before .before .before .before in
+    (ready-lowers (book (entering s)) (s .pre .1 .0) (s .pre .1 .1 .0), unnamed (book (entering s)) (s .pre .1 .0) (s .pre .1 .1 .0))
+
+mul-settle-upper-ends : tie.Need-mul-settle-upper-ends
+mul-settle-upper-ends c = let s = c .before .before .before .before .before .before .before .before .before .before .before .before .before .before .before .before .before .before .before .before .before .before .before .before .before .before .before .before .before .before in omega (arith, s .good, s .pre .1 .0 .most)
+
+sub-settle-upper-ends : tie.Need-sub-settle-upper-ends
+sub-settle-upper-ends c = omega (arith, c .before .before .before .before .before .before .before .before .before .before .before .before .before .before .before .before .before .before .before .before .before .before .before .before .before .before .before .before .before .before .pre .1 .0 .most)
+
+part-settle-upper-ends-start : tie.Need-part-settle-upper-ends-start
+part-settle-upper-ends-start c = omega (arith, c .before .before .before .before .before .before .before .before .before .before .before .before .before .before .before .before .before .before .before .before .before .before .before .before .before .before .before .before .before .before .pre .1 .0 .most)
+
+part-settle-upper-ends-end : tie.Need-part-settle-upper-ends-end
+part-settle-upper-ends-end c = search needs
+
+settle-upper-ends-requires : tie.Need-settle-upper-ends-requires
+settle-upper-ends-requires c κs =
+    let s = c .before .before .before .before .before .before .before .before .before .before .before .before .before .before .before .before .before .before .before .before .before .before .before .before .before .before .before .before .before .before .before .before in
+    (ready-uppers (book (entering s)) (s .pre .1 .0) (s .pre .1 .1 .0), (book (entering s) .below, retired-low (entering s)))
+
+accept-requires : tie.Need-accept-requires
+accept-requires c κs = search needs
 
 same-length : tie.Need-same-length
 same-length c = search needs
@@ -47,59 +82,16 @@ same-length-3 c = search needs
 same-length-4 : tie.Need-same-length-4
 same-length-4 c = search needs
 
-returns : tie.Need-returns
-returns c = quote-full (entering (c .before .before .before .before .before .before .before .before .before .before .before .before .before .before .before .before .before)) (c .before .before .before .before .write .ensures) (c .enum-told2 .given .1)
-
-cast-d : tie.Need-cast-d
-cast-d c = search needs
-
-settle-requires : tie.Need-settle-requires
-settle-requires c κs = (ready-columns (book (entering (c .before .before .before .before .before .before .before .before .before .before .before .before .before .before .before .before .before .before .before))) (c .before .before .before .before .before .before .before .before .before .before .before .before .before .before .before .before .before .before .before .pre .1 .0) (c .before .before .before .before .before .before .before .before .before .before .before .before .before .before .before .before .before .before .before .pre .1 .1 .0), book (entering (c .before .before .before .before .before .before .before .before .before .before .before .before .before .before .before .before .before .before .before)) .wide)
-
-add-t36 : tie.Need-add-t36
-add-t36 c = omega (arith, book (entering (c .before .before .before .before .before .before .before .before .before .before .before .before .before .before .before .before .before .before .before .before .before .before .before)) .below)
-
-slice-aggregate-settle : tie.Need-slice-aggregate-settle
-slice-aggregate-settle c = search needs
-
-settle-requires-2 : tie.Need-settle-requires-2
-settle-requires-2 c κs = (ready-positions (book (entering (c .before .before .before .before .before .before .before .before .before .before .before .before .before .before .before .before .before .before .before .before .before .before .before .before .before))) (c .before .before .before .before .before .before .before .before .before .before .before .before .before .before .before .before .before .before .before .before .before .before .before .before .before .pre .1 .0) (c .before .before .before .before .before .before .before .before .before .before .before .before .before .before .before .before .before .before .before .before .before .before .before .before .before .pre .1 .1 .0), refl)
-
-settle-lower-ends-requires : tie.Need-settle-lower-ends-requires
-settle-lower-ends-requires c κs = (ready-lowers (book (entering (c .before .before .before .before .before .before .before .before .before .before .before .before .before .before .before .before .before .before .before .before .before .before .before .before .before .before .before .before .before))) (c .before .before .before .before .before .before .before .before .before .before .before .before .before .before .before .before .before .before .before .before .before .before .before .before .before .before .before .before .before .pre .1 .0) (c .before .before .before .before .before .before .before .before .before .before .before .before .before .before .before .before .before .before .before .before .before .before .before .before .before .before .before .before .before .pre .1 .1 .0), unnamed (book (entering (c .before .before .before .before .before .before .before .before .before .before .before .before .before .before .before .before .before .before .before .before .before .before .before .before .before .before .before .before .before))) (c .before .before .before .before .before .before .before .before .before .before .before .before .before .before .before .before .before .before .before .before .before .before .before .before .before .before .before .before .before .pre .1 .0) (c .before .before .before .before .before .before .before .before .before .before .before .before .before .before .before .before .before .before .before .before .before .before .before .before .before .before .before .before .before .pre .1 .1 .0))
-
-mul-settle-upper-ends : tie.Need-mul-settle-upper-ends
-mul-settle-upper-ends c = omega (arith, c .before .before .before .before .before .before .before .before .before .before .before .before .before .before .before .before .before .before .before .before .before .before .before .before .before .before .before .before .before .before .before .before .good, c .before .before .before .before .before .before .before .before .before .before .before .before .before .before .before .before .before .before .before .before .before .before .before .before .before .before .before .before .before .before .before .before .fits, c .before .before .before .before .before .before .before .before .before .before .before .before .before .before .before .before .before .before .before .before .before .before .before .before .before .before .before .before .before .before .before .before .pre .1 .0 .most)
-
-sub-settle-upper-ends : tie.Need-sub-settle-upper-ends
-sub-settle-upper-ends c = omega (arith, c .before .before .before .before .before .before .before .before .before .before .before .before .before .before .before .before .before .before .before .before .before .before .before .before .before .before .before .before .before .before .before .before .pre .1 .0 .most)
-
-part-settle-upper-ends-start : tie.Need-part-settle-upper-ends-start
-part-settle-upper-ends-start c = omega (arith, c .before .before .before .before .before .before .before .before .before .before .before .before .before .before .before .before .before .before .before .before .before .before .before .before .before .before .before .before .before .before .before .before .pre .1 .0 .most)
-
-part-settle-upper-ends-end : tie.Need-part-settle-upper-ends-end
-part-settle-upper-ends-end c = search needs
-
-settle-upper-ends-requires : tie.Need-settle-upper-ends-requires
-settle-upper-ends-requires c κs = (ready-uppers (book (entering (c .before .before .before .before .before .before .before .before .before .before .before .before .before .before .before .before .before .before .before .before .before .before .before .before .before .before .before .before .before .before .before .before .before .before))) (c .before .before .before .before .before .before .before .before .before .before .before .before .before .before .before .before .before .before .before .before .before .before .before .before .before .before .before .before .before .before .before .before .before .before .pre .1 .0) (c .before .before .before .before .before .before .before .before .before .before .before .before .before .before .before .before .before .before .before .before .before .before .before .before .before .before .before .before .before .before .before .before .before .before .pre .1 .1 .0), (book (entering (c .before .before .before .before .before .before .before .before .before .before .before .before .before .before .before .before .before .before .before .before .before .before .before .before .before .before .before .before .before .before .before .before .before .before)) .below, retired-low (entering (c .before .before .before .before .before .before .before .before .before .before .before .before .before .before .before .before .before .before .before .before .before .before .before .before .before .before .before .before .before .before .before .before .before .before))))
-
 same-length-5 : tie.Need-same-length-5
-same-length-5 c = search needs
+same-length-5 c = omega (arith, c .before .before .before .before .before .before .before .before .before .before .before .before .before .before .before .before .before .before .before .before .before .before .before .write .kept)
 
-same-length-6 : tie.Need-same-length-6
-same-length-6 c = search needs
-
-same-length-7 : tie.Need-same-length-7
-same-length-7 c = search needs
-
-same-length-8 : tie.Need-same-length-8
-same-length-8 c = search needs
-
-same-length-9 : tie.Need-same-length-9
-same-length-9 c = search needs
-
-returns-2 : tie.Need-returns-2
-returns-2 c = quote-done (entering (c .before .before .before .before .before .before .before .before .before .before .before .before .before .before .before .before .before .before .before .before .before .before .before .before .before .before .before .before .before .before .before .before .before .before .before .before .before)) (c .before .before .before .before .before .before .before .before .before .before .before .before .before .before .before .before .before .before .before .before .before .before .before .before .write .ensures) (c .before .before .before .before .before .before .before .before .before .before .before .before .before .before .before .before .before .before .before .before .enum-told .given .1) (settled (book (entering (c .before .before .before .before .before .before .before .before .before .before .before .before .before .before .before .before .before .before .before .before .before .before .before .before .before .before .before .before .before .before .before .before .before .before .before .before .before))) (c .before .before .before .before .before .before .before .before .before .before .before .before .before .before .before .before .before .before .before .before .before .before .before .before .before .before .before .before .before .before .before .before .before .before .before .before .before .pre .1 .0) (c .before .before .before .before .before .before .before .before .before .before .before .before .before .before .before .before .before .settle .ensures) (c .before .before .before .before .before .before .before .before .before .before .before .settle2 .ensures) (c .before .before .before .before .before .before .before .settle-lower-ends .ensures) (uppers-settled (entering (c .before .before .before .before .before .before .before .before .before .before .before .before .before .before .before .before .before .before .before .before .before .before .before .before .before .before .before .before .before .before .before .before .before .before .before .before .before)) (c .before .before .settle-upper-ends .ensures)))
+returns : tie.Need-returns
+returns c =
+    let s = c .before .before .before .before .before .before .before .before .before .before .before .before .before .before .before .before .before .before .before .before .before .before .before .before .before .before .before .before .before .before .before .before .before .before .before .before in
+    let v = entering s in
+    let written = c .before .before .before .before .before .before .before .before .before .before .before .before .before .before .before .before .before .before .before .before .before .before .before .write .ensures in
+    quote-done _ v (written .0) (c .accept .ensures) (written .1)
+    (settled (book v) (s .pre .1 .0) (c .before .before .before .before .before .before .before .before .before .before .before .before .before .before .before .before .before .before .settle .ensures) (c .before .before .before .before .before .before .before .before .before .before .before .before .settle2 .ensures) (c .before .before .before .before .before .before .before .before .settle-lower-ends .ensures) (uppers-settled v (c .before .before .before .settle-upper-ends .ensures)))
 
 pub enter-spec : {M : Type 1} → statement M
 enter-spec =
@@ -110,16 +102,9 @@ enter-spec =
     part-write-start
     part-write-end
     write-requires
-    enum-told
-    enum-told-2
-    same-length
-    same-length-2
-    same-length-3
-    same-length-4
-    returns
     cast-d
     settle-requires
-    add-t36
+    add-t33
     slice-aggregate-settle
     settle-requires-2
     settle-lower-ends-requires
@@ -128,9 +113,10 @@ enter-spec =
     part-settle-upper-ends-start
     part-settle-upper-ends-end
     settle-upper-ends-requires
+    accept-requires
+    same-length
+    same-length-2
+    same-length-3
+    same-length-4
     same-length-5
-    same-length-6
-    same-length-7
-    same-length-8
-    same-length-9
-    returns-2)
+    returns)

@@ -3,7 +3,7 @@ use native.Mathlib.Omega.{arith}
 use Rattle.head.proofs.Numbers.{accepted-number}
 use Rattle.settling.proofs.Findings.{findable}
 use Rattle.settling.proofs.Settled.{any-known}
-use Rattle.quoting.proofs.Quotes.{admitted, few-held, quote-refused}
+use Rattle.quoting.proofs.Quotes.{taken, few-held, quote-refused}
 use Rattle.quoting.proofs.Reaching.{any-sound-if}
 use borrow.Author.Needs.{needs}
 use Rattle.quoting.proofs.quote.Statement.{statement}
@@ -37,19 +37,18 @@ slice-aggregate-find : tie.Need-slice-aggregate-find
 slice-aggregate-find c = search needs
 
 find-requires : tie.Need-find-requires
-find-requires c κs = let a = admitted _ _ _ _ (accepted-number _ (c .before .before .before .before .before .judge-row .ensures) (c .before .before .before .enum-told .given .1)) .0 in findable a (omega (arith, few-held a))
-
-cast-named : tie.Need-cast-named
-cast-named c = search needs
-
-cast-used : tie.Need-cast-used
-cast-used c = search needs
+find-requires c κs =
+    let a = taken _ _ _ _ _ (accepted-number _ (c .before .before .before .before .before .judge-row .ensures) (c .before .before .before .enum-told .given .1)) .admitted in
+    findable a (omega (arith, few-held a))
 
 slice-aggregate-enter : tie.Need-slice-aggregate-enter
 slice-aggregate-enter c = search needs
 
 enter-requires : tie.Need-enter-requires
-enter-requires c κs = let accepted = accepted-number _ (c .before .before .before .before .before .before .before .before .before .before .before .before .before .before .before .judge-row .ensures) (c .before .before .before .before .before .before .before .before .before .before .before .before .before .enum-told .given .1) in (accepted, (c .before .before .before .before .before .before .before .before .before .find .ensures, (any-known (admitted _ _ _ _ accepted .0), any-sound-if)))
+enter-requires c κs =
+    let accepted = accepted-number _ (c .before .before .before .before .before .before .before .before .before .before .before .before .before .judge-row .ensures) (c .before .before .before .before .before .before .before .before .before .before .before .enum-told .given .1) in
+    let found = c .before .before .before .before .before .before .before .find .ensures in
+    (accepted, (found .1, (rw (found .0) (any-known (taken _ _ _ _ _ accepted .admitted)), any-sound-if _ (found .0))))
 
 same-length-5 : tie.Need-same-length-5
 same-length-5 c = search needs
@@ -83,8 +82,6 @@ quote-spec =
     returns
     slice-aggregate-find
     find-requires
-    cast-named
-    cast-used
     slice-aggregate-enter
     enter-requires
     same-length-5

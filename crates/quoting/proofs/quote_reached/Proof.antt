@@ -1,11 +1,11 @@
--- `quote_reached` meets its contract: a book that calls left is answered by the settings and the quote.
+-- `quote_reached` meets its contract: a book that calls left is answered by the settings, the quote and the output.
 use native.Mathlib.Omega.{arith}
 use Rattle.head.proofs.Numbers.{accepted-number}
 use Rattle.settling.proofs.Standing.{within}
 use Rattle.settling.proofs.Findings.{findable}
 use Rattle.settling.proofs.Settled.{placed}
 use Rattle.settling.proofs.Reaching.{reached-sound, reached-known}
-use Rattle.quoting.proofs.Quotes.{admitted, few-held, quote-refused}
+use Rattle.quoting.proofs.Quotes.{taken, few-held, quote-refused}
 use Rattle.quoting.proofs.Reaching.{reached-answers, reached-sound-if}
 use borrow.Author.Needs.{needs}
 use Rattle.quoting.proofs.quote_reached.Statement.{statement}
@@ -21,25 +21,27 @@ enum-told-2 : tie.Need-enum-told-2
 enum-told-2 c = search needs
 
 returns : tie.Need-returns
-returns c = quote-refused _ _ _ _ _ (reached-answers _ (c .before .before .before .before .before .before .before .before .before .pre) (c .before .before .judge-reached .ensures)) (c .enum-told2 .given .1)
+returns c = quote-refused _ _ _ _ _ (reached-answers _ _ (c .before .before .before .before .before .before .before .before .before .pre) (c .before .before .judge-reached .ensures)) (c .enum-told2 .given .1)
 
 slice-aggregate-find-reached : tie.Need-slice-aggregate-find-reached
 slice-aggregate-find-reached c = search needs
 
 find-reached-requires : tie.Need-find-reached-requires
-find-reached-requires c κs = let a = admitted _ _ _ _ (accepted-number _ (reached-answers _ (c .before .before .before .before .before .before .before .before .before .before .before .before .pre) (c .before .before .before .before .before .judge-reached .ensures)) (c .before .before .before .enum-told .given .1)) .0 in (findable a (omega (arith, few-held a)), reached-sound _ (c .before .before .before .before .before .before .before .before .before .before .before .before .pre) (within a .some-capacity))
-
-named-before-requires : tie.Need-named-before-requires
-named-before-requires c κs = let a = admitted _ _ _ _ (accepted-number _ (reached-answers _ (c .before .before .before .before .before .before .before .before .before .before .before .before .before .before .before .pre) (c .before .before .before .before .before .before .before .before .judge-reached .ensures)) (c .before .before .before .before .before .before .enum-told .given .1)) .0 in placed a
-
-cast-used : tie.Need-cast-used
-cast-used c = search needs
+find-reached-requires c κs =
+    let reached = c .before .before .before .before .before .before .before .before .before .before .before .before .pre in
+    let a = taken _ _ _ _ _ (accepted-number _ (reached-answers _ _ reached (c .before .before .before .before .before .judge-reached .ensures)) (c .before .before .before .enum-told .given .1)) .admitted in
+    (findable a (omega (arith, few-held a)), (reached-sound _ reached (within a .some-capacity), placed a))
 
 slice-aggregate-enter : tie.Need-slice-aggregate-enter
 slice-aggregate-enter c = search needs
 
 enter-requires : tie.Need-enter-requires
-enter-requires c κs = let reached = c .before .before .before .before .before .before .before .before .before .before .before .before .before .before .before .before .before .before .before .before .before .before .before .pre in let accepted = accepted-number _ (reached-answers _ reached (c .before .before .before .before .before .before .before .before .before .before .before .before .before .before .before .before .judge-reached .ensures)) (c .before .before .before .before .before .before .before .before .before .before .before .before .before .before .enum-told .given .1) in let k = within (admitted _ _ _ _ accepted .0) .some-capacity in (accepted, (c .before .before .before .before .before .before .before .before .before .before .find-reached .ensures, (rw (c .before .before .before .before .before .before .before .named-before .ensures) (reached-known reached k), reached-sound-if _ reached k)))
+enter-requires c κs =
+    let reached = c .before .before .before .before .before .before .before .before .before .before .before .before .before .before .before .before .before .before .before .before .pre in
+    let accepted = accepted-number _ (reached-answers _ _ reached (c .before .before .before .before .before .before .before .before .before .before .before .before .before .judge-reached .ensures)) (c .before .before .before .before .before .before .before .before .before .before .before .enum-told .given .1) in
+    let some = within (taken _ _ _ _ _ accepted .admitted) .some-capacity in
+    let found = c .before .before .before .before .before .before .before .find-reached .ensures in
+    (accepted, (found .1, (rw (found .0) (reached-known reached some), reached-sound-if _ _ reached some)))
 
 same-length : tie.Need-same-length
 same-length c = search needs
@@ -69,8 +71,6 @@ quote-reached-spec =
     returns
     slice-aggregate-find-reached
     find-reached-requires
-    named-before-requires
-    cast-used
     slice-aggregate-enter
     enter-requires
     same-length

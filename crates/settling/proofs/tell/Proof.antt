@@ -25,25 +25,25 @@ cast-lost c = search needs
 add-lost : tie.Need-add-lost
 add-lost c = let v = c .before .before .before .before .before .pre in omega (arith, lost-within v (c .before .before .before .expired-places .ensures) (c .expired-live .ensures), v .live-few, v .held-few)
 
-sub-t10 : tie.Need-sub-t10
-sub-t10 c = lost-within (c .before .before .before .before .before .before .pre) (c .before .before .before .before .expired-places .ensures) (c .before .expired-live .ensures)
+sub-t11 : tie.Need-sub-t11
+sub-t11 c = lost-within (c .before .before .before .before .before .before .pre) (c .before .before .before .before .expired-places .ensures) (c .before .expired-live .ensures)
 
-add-t11 : tie.Need-add-t11
-add-t11 c = search needs
+add-t12 : tie.Need-add-t12
+add-t12 c = search needs
 
-cast-t12 : tie.Need-cast-t12
+cast-t13 : tie.Need-cast-t13
 unfolding expiredPlaces
-cast-t12 c = let v = c .before .before .before .before .before .before .pre in omega (arith, c .before .before .before .before .expired-places .ensures, v .held-fits)
+cast-t13 c = let v = c .before .before .before .before .before .before .pre in omega (arith, c .before .before .before .before .expired-places .ensures, v .held-fits)
 
-sub-t13 : tie.Need-sub-t13
+sub-t14 : tie.Need-sub-t14
 unfolding expiredPlaces
-sub-t13 c = let v = c .before .before .before .before .before .before .before .pre in omega (arith, c .before .before .before .before .before .expired-places .ensures, v .held-fits, v .some)
+sub-t14 c = let v = c .before .before .before .before .before .before .before .pre in omega (arith, c .before .before .before .before .before .expired-places .ensures, v .held-fits, v .some)
 
-add-t14 : tie.Need-add-t14
-add-t14 c = search needs
+add-t15 : tie.Need-add-t15
+add-t15 c = search needs
 
 returns : tie.Need-returns
-returns c = told-is (c .before .before .before .before .before .before .before .pre) (c .before .before .before .before .before .expired-places .ensures) (c .before .before .expired-live .ensures) _ (c .before .before .before .before .expired-position .ensures) (c .before .before .before .position-of .ensures)
+returns c = told-is (c .before .before .before .before .before .before .before .pre) (c .before .before .before .before .before .expired-places .ensures) (c .before .before .expired-live .ensures) _ _ (c .before .before .before .before .expired-position .ensures) (c .before .before .before .position-of .ensures)
 
 pub tell-spec : {M : Type 1} → statement M
 tell-spec =
@@ -55,9 +55,9 @@ tell-spec =
     expired-live-requires
     cast-lost
     add-lost
-    sub-t10
-    add-t11
-    cast-t12
-    sub-t13
-    add-t14
+    sub-t11
+    add-t12
+    cast-t13
+    sub-t14
+    add-t15
     returns)

@@ -23,7 +23,7 @@ use denote.RattleType.{owns}
 use denote.Laws.{Is, shows}
 use denote.Array.{Array, array-typed, array-makes}
 use denote.Plain.{uint-lawful, uint-makes}
-use denote.Builtin.{u8, u32, usize}
+use denote.Builtin.{u8, u32, u64, usize}
 use denote.Ref.{RefT}
 use denote.Slice.{ShrSlice, MutSlice, Room, slice-vals, shr-slice-tells, mut-slice-tells, finally}
 use denote.Signature.{plain, shrSliceOf}
@@ -113,7 +113,7 @@ module _ {M : Type 1} (𝓤 : URA M) (H : Heap 𝓤) (A : Atoms 𝓤) (W : Given
   to r u = ((lives, (q₀, (q₁, (q₂, (q₃, (q₄, (q₆, tt)))))), tt, asked r, (headed head, (slice-vals quoted, (slice-vals columns, (slice-vals positions, (slice-vals lowerEnds, (slice-vals upperEnds, (u ∷ [], (vint w64 (length ys) ∷ [], (slice-vals out, tt)))))))))), tt)
 
   abbrev Passed : List ℕ → Val → Fml
-  Passed r u = owns (Hd.the-row ∷ ShrSlice (named 0) κ₀ u32 ∷ ShrSlice (named 1) κ₁ u32 ∷ ShrSlice (named 2) κ₂ u32 ∷ ShrSlice (named 3) κ₃ u32 ∷ ShrSlice (named 4) κ₄ u32 ∷ Array u32 8 ∷ usize ∷ MutSlice (named 6) κ₆ u8 ∷ []) (asked r) (to r u .0 .4)
+  Passed r u = owns (Hd.the-row ∷ ShrSlice (named 0) κ₀ u32 ∷ ShrSlice (named 1) κ₁ u32 ∷ ShrSlice (named 2) κ₂ u32 ∷ ShrSlice (named 3) κ₃ u32 ∷ ShrSlice (named 4) κ₄ u32 ∷ Array u64 8 ∷ usize ∷ MutSlice (named 6) κ₆ u8 ∷ []) (asked r) (to r u .0 .4)
 
   goes : (r : List ℕ) (u : Val) → ent 𝓤 (sep 𝓤 (mean 𝓤 H A Tokens) (sem 𝓤 H A (Passed r u))) (Callee 𝓤 H A mem run .pre (to r u))
   goes r u = qed W (Tokens ∷ ‵ (Passed r u) ∷ []) ∵ join ! $ frame ! $ nothing ! $ done !
@@ -144,12 +144,12 @@ module _ {M : Type 1} (𝓤 : URA M) (H : Heap 𝓤) (A : Atoms 𝓤) (W : Given
         move ! (27 ∷ []) $ fsplit ! $ move ! (1 ∷ []) $ fsplit ! $ move ! (1 ∷ []) $ fsplit ! $ move ! (1 ∷ []) $ fsplit ! $ move ! (1 ∷ []) $ fsplit ! $ move ! (1 ∷ []) $ fsplit ! $ move ! (1 ∷ []) $ fsplit ! $ move ! (1 ∷ []) $ fsplit ! $ move ! (1 ∷ []) $ move ! (35 ∷ []) $ split ! $ move ! (1 ∷ []) $ split ! $ move ! (1 ∷ []) $ split ! $ move ! (1 ∷ []) $ split ! $ move ! (1 ∷ []) $ split ! $ move ! (1 ∷ []) $ split ! $ move ! (1 ∷ []) $ split ! $ move ! (1 ∷ []) $
         -- [true; κ₆; κ₅; κ₄; κ₃; κ₂; κ₁; κ₀; true; out; records; upperEnds; lowerEnds; positions; columns; quoted; head; the locals]
         move ! (2 ∷ 10 ∷ []) $ calls-numbers ! fm mem run known-numbers κ₅ q₅ b o ys γ (and-then ! (load ! (from ! (stop !)) (look ! 26 refl)) (no-more !)) (λ u r is e.
-        land ! (from ! (stop !)) (init ! 22 refl (array-typed u32 (uint-lawful 𝓤 H A W w32 .typed) 8 r _ is .0)) $
+        land ! (from ! (stop !)) (init ! 22 refl (array-typed u64 (uint-lawful 𝓤 H A W w64 .typed) 8 r _ is .0)) $
         assigns ! (of-opd ! (load ! (from ! (fld ! refl (stop !))) (look-in ! 26 (sub ! 1 refl (whole !))))) (from ! (stop !)) (init ! 20 refl (tt, record { fits = room .0 })) $
         assigns ! (addr ! (from ! (fld ! refl (hop ! (look-in ! 24 (sub ! 0 refl (whole !))) (stop !))))) (from ! (stop !)) (init ! 18 refl (tt, tt)) $
         assigns ! (agg ! (and-then ! (load ! (from ! (stop !)) (look ! 18 refl)) (and-then ! (load ! (from ! (fld ! refl (stop !))) (look-in ! 24 (sub ! 1 refl (whole !)))) (no-more !)))) (from ! (stop !)) (init ! 16 refl (tt, (tt, (record { fits = out-fits }, tt)))) $
         move ! (1 ∷ []) $ move ! (2 ∷ 0 ∷ []) $ join ! $ move ! (2 ∷ 0 ∷ []) $ join ! $ move ! (2 ∷ 0 ∷ []) $ join ! $ move ! (2 ∷ 0 ∷ []) $ join ! $ move ! (2 ∷ 0 ∷ []) $ join ! $ move ! (2 ∷ 0 ∷ []) $ join ! $
-        nothing ! $ move ! (4 ∷ 0 ∷ []) $ fjoin ! $ owned ! usize (Is usize) (uint-makes 𝓤 H A W w64) (length ys) _ (refl, room .0) $ fjoin ! $ owned ! (Array u32 8) (Is (Array u32 8)) (array-makes 𝓤 H A W u32 (uint-makes 𝓤 H A W w32) 8) r (u ∷ []) is $ fjoin ! $ move ! (4 ∷ 0 ∷ []) $ fjoin ! $ move ! (4 ∷ 0 ∷ []) $ fjoin ! $ move ! (4 ∷ 0 ∷ []) $ fjoin ! $ move ! (4 ∷ 0 ∷ []) $ fjoin ! $ move ! (4 ∷ 0 ∷ []) $ fjoin ! $ move ! (4 ∷ 0 ∷ []) $ fjoin ! $
+        nothing ! $ move ! (4 ∷ 0 ∷ []) $ fjoin ! $ owned ! usize (Is usize) (uint-makes 𝓤 H A W w64) (length ys) _ (refl, room .0) $ fjoin ! $ owned ! (Array u64 8) (Is (Array u64 8)) (array-makes 𝓤 H A W u64 (uint-makes 𝓤 H A W w64) 8) r (u ∷ []) is $ fjoin ! $ move ! (4 ∷ 0 ∷ []) $ fjoin ! $ move ! (4 ∷ 0 ∷ []) $ fjoin ! $ move ! (4 ∷ 0 ∷ []) $ fjoin ! $ move ! (4 ∷ 0 ∷ []) $ fjoin ! $ move ! (4 ∷ 0 ∷ []) $ fjoin ! $ move ! (4 ∷ 0 ∷ []) $ fjoin ! $
         move ! (1 ∷ 0 ∷ []) $ use2 W (raw (Callee 𝓤 H A mem run .pre (to r u))) (goes r u) $
         calls-at ! fm (Callee 𝓤 H A mem run) known-callee (to r u) (and-then ! (load ! (from ! (stop !)) (look ! 25 refl)) (and-then ! (load ! (from ! (stop !)) (look ! 23 refl)) (and-then ! (load ! (from ! (stop !)) (look ! 21 refl)) (and-then ! (load ! (from ! (stop !)) (look ! 19 refl)) (and-then ! (load ! (from ! (stop !)) (look ! 17 refl)) (and-then ! (load ! (from ! (stop !)) (look ! 15 refl)) (and-then ! (load ! (from ! (stop !)) (look ! 9 refl)) (and-then ! (load ! (from ! (stop !)) (look ! 7 refl)) (and-then ! (load ! (from ! (stop !)) (look ! 3 refl)) (no-more !)))))))))) (λ c.
         use1 W (later (some (λ (j : Effect). (Tokens ⊛ ‵ (R.the-row .own j (c ∷ []))) ⊛ some (λ (zs : Ends). ‵ (lasts callee.ended lives (asked r) zs) ⊛ raw (fact 𝓤 (Said r j zs)))))) (id⊢ 𝓤 _) $ await ! tt $ pick ! (λ j. split ! $ move ! (1 ∷ []) $ pick ! (λ zs. split ! $ move ! (1 ∷ []) $ heard ! (Said r j zs) (λ said.

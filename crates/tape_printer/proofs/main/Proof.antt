@@ -6,13 +6,13 @@ use lib.ListN.{length, length-take}
 use Rattle.model.specs.Calls.{Reached}
 use Rattle.model.proofs.Reached.{reached-first}
 use Rattle.model.specs.Promises.{tables, world}
-use Rattle.tape_printer.proofs.Advancing.{same-reached}
+use Rattle.tape_pieces.proofs.Advancing.{same-reached}
 use borrow.Author.Needs.{needs}
 use Rattle.tape_printer.proofs.main.Statement.{statement}
 use Rattle.tape_printer.proofs.main.Tie as tie
 
 abbrev Inv-loop : tie.InvT-loop
-Inv-loop columns₀ positions₀ lower-ends₀ upper-ends₀ bytes₀ tape₀ text₀ stand₀ turns₀ columns positions lower-ends upper-ends bytes tape text stand turns = (stand .used ≤ length text) × (stand .place ≤ stand .end) × (stand .end ≤ length tape) × (length tape ≡ 65536) × (length text ≡ 291168) × Reached (world (stand .head) (tables columns positions lower-ends upper-ends) (stand .watches))
+Inv-loop columns₀ positions₀ lower-ends₀ upper-ends₀ bytes₀ tape₀ text₀ stand₀ turns₀ columns positions lower-ends upper-ends bytes tape text stand turns = (stand .used ≤ length text) × (stand .place ≤ stand .end) × (stand .end ≤ length tape) × (length tape ≡ 65536) × (length text ≡ 300100) × Reached (world (stand .head) (tables columns positions lower-ends upper-ends) (stand .watches))
 
 abbrev μ-loop : tie.MeasureT-loop
 μ-loop columns₀ positions₀ lower-ends₀ upper-ends₀ bytes₀ tape₀ text₀ stand₀ turns₀ columns positions lower-ends upper-ends bytes tape text stand turns = turns
@@ -48,7 +48,7 @@ slice-aggregate-play-piece-2 : tie.Need-slice-aggregate-play-piece-2 Inv-loop μ
 slice-aggregate-play-piece-2 c = sym (c .before .before .before .before .before .before .before .before .before .before .before .before .before .before .before .loop .inv .4)
 
 play-piece-requires : tie.Need-play-piece-requires Inv-loop μ-loop
-play-piece-requires c κs = let i = c .before .before .before .before .before .before .before .before .before .before .before .before .before .before .before .loop .inv in let f = c .before .before .before .before .before .before .before .before .before .before .flush .ensures in let r = c .before .before .before .before .before .before .before .before .refill .ensures in (omega (arith, r .0, f .0), omega (arith, i .4), simp length-take (omega (arith, r .1, r .2, c .before .before .before .before .before .before .before .before .refill .kept .1 .0)), same-reached (r .3 ∙ f .3) (r .4 ∙ f .4) (i .5))
+play-piece-requires c κs = let i = c .before .before .before .before .before .before .before .before .before .before .before .before .before .before .before .loop .inv in let f = c .before .before .before .before .before .before .before .before .before .before .flush .ensures in let r = c .before .before .before .before .before .before .before .before .refill .ensures in (omega (arith, r .0, f .0), simp length-take (omega (arith, r .1, r .2, c .before .before .before .before .before .before .before .before .refill .kept .1 .0)), same-reached (r .3 ∙ f .3) (r .4 ∙ f .4) (i .5))
 
 loop-less : tie.Need-loop-less Inv-loop μ-loop
 loop-less c = omega (arith, c .before .before .before .before .before .before .before .before .before .before .before .before .before .before .before .before .loop-test .taken)

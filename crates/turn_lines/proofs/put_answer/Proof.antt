@@ -7,8 +7,8 @@ use Rattle.turn_lines.proofs.put_answer.Tie as tie
 enum-told : tie.Need-enum-told
 enum-told c = search needs
 
-put-line-requires : tie.Need-put-line-requires
-put-line-requires c κs = search needs
+put-desk-line-requires : tie.Need-put-desk-line-requires
+put-desk-line-requires c κs = search needs
 
 enum-known-answer : tie.Need-enum-known-answer
 enum-known-answer c = search needs
@@ -19,31 +19,31 @@ number-requires c κs = search needs
 slice-aggregate-put-line : tie.Need-slice-aggregate-put-line
 slice-aggregate-put-line c = search needs
 
-put-line-requires-2 : tie.Need-put-line-requires-2
-put-line-requires-2 c κs = search needs
+put-line-requires : tie.Need-put-line-requires
+put-line-requires c κs = search needs
 
 same-length : tie.Need-same-length
 same-length c = search needs
 
 returns : tie.Need-returns
-returns c = rw (accepted-line _ _ (c .before .before .before .before .enum-told .given .1)) (c .before .before .put-line .ensures)
+returns c = rw (accepted-line _ (c .before .before .before .before .enum-told .given .1)) (c .before .before .put-desk-line .ensures)
 
 same-length-2 : tie.Need-same-length-2
 same-length-2 c = search needs
 
 returns-2 : tie.Need-returns-2
-returns-2 c = rw (refused-line _ _ _ (c .before .before .before .before .before .before .before .answer .given .1) (c .before .before .before .before .before .number .ensures)) (c .before .before .put-line2 .ensures)
+returns-2 c = rw (refused-line _ _ (c .before .before .before .before .before .before .before .answer .given .1) (c .before .before .before .before .before .number .ensures)) (c .before .before .put-line .ensures)
 
 pub put-answer-spec : {M : Type 1} → statement M
 put-answer-spec =
     tie.close
     (tie.spec
     enum-told
-    put-line-requires
+    put-desk-line-requires
     enum-known-answer
     number-requires
     slice-aggregate-put-line
-    put-line-requires-2
+    put-line-requires
     same-length
     returns
     same-length-2

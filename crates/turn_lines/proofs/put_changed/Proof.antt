@@ -13,12 +13,12 @@ put-answer-requires c κs = (omega arith, omega arith)
 sub-put-changes : tie.Need-sub-put-changes
 sub-put-changes c =
     let known = c .before .before .before .before .before .before .before in
-    omega (arith, changes-room _ _ _ (now (known .args .bytes)) _ (known .pre .0 .0) (known .pre .0 .1) (known .pre .1 .0) (known .pre .1 .1) (c .before .before .put-answer .ensures))
+    omega (arith, changes-room _ _ _ _ (now (known .args .bytes)) _ (known .pre .0 .0) (known .pre .0 .1) (known .pre .1 .0) (known .pre .1 .1) (c .before .before .put-answer .ensures))
 
 part-put-changes-start : tie.Need-part-put-changes-start
 part-put-changes-start c =
     let known = c .before .before .before .before .before .before .before in
-    omega (arith, changes-room _ _ _ (now (known .args .bytes)) _ (known .pre .0 .0) (known .pre .0 .1) (known .pre .1 .0) (known .pre .1 .1) (c .before .before .put-answer .ensures))
+    omega (arith, changes-room _ _ _ _ (now (known .args .bytes)) _ (known .pre .0 .0) (known .pre .0 .1) (known .pre .1 .0) (known .pre .1 .1) (c .before .before .put-answer .ensures))
 
 part-put-changes-end : tie.Need-part-put-changes-end
 part-put-changes-end c = search needs
@@ -26,12 +26,12 @@ part-put-changes-end c = search needs
 put-changes-requires : tie.Need-put-changes-requires
 put-changes-requires c κs =
     let known = c .before .before .before .before .before .before .before .before in
-    (omega arith, simp (length-take, length-drop) (omega (arith, changes-room _ _ _ (now (known .args .bytes)) _ (known .pre .0 .0) (known .pre .0 .1) (known .pre .1 .0) (known .pre .1 .1) (c .before .before .before .put-answer .ensures))))
+    (omega arith, simp (length-take, length-drop) (omega (arith, changes-room _ _ _ _ (now (known .args .bytes)) _ (known .pre .0 .0) (known .pre .0 .1) (known .pre .1 .0) (known .pre .1 .1) (c .before .before .before .put-answer .ensures))))
 
 add-result : tie.Need-add-result
 add-result c =
     let known = c .before .before .before .before .before .before .before .before .before .before .before in
-    omega (arith, both-room _ _ _ _ _ (known .pre .0 .0) (known .pre .0 .1) (known .pre .1 .0) (known .pre .1 .1) (c .before .before .before .before .before .before .put-answer .ensures) (c .before .before .put-changes .ensures) (c .before .before .put-changes .kept .1 .1 .0) (c .before .before .before .before .before .before .put-answer .kept .1 .1 .1 .0))
+    omega (arith, both-room _ _ _ _ _ _ (known .pre .0 .0) (known .pre .0 .1) (known .pre .1 .0) (known .pre .1 .1) (c .before .before .before .before .before .before .put-answer .ensures) (c .before .before .put-changes .ensures) (c .before .before .put-changes .kept .1 .1 .0) (c .before .before .before .before .before .before .put-answer .kept .1 .1 .1 .1 .0))
 
 same-length : tie.Need-same-length
 same-length c = search needs
@@ -39,7 +39,7 @@ same-length c = search needs
 returns : tie.Need-returns
 returns c =
     let known = c .before .before .before .before .before .before .before .before .before .before .before in
-    both-laid _ _ _ _ _ (known .pre .0 .0) (known .pre .0 .1) (known .pre .1 .0) (known .pre .1 .1) (c .before .before .before .before .before .before .put-answer .ensures) (c .before .before .put-changes .ensures) (c .before .before .put-changes .kept .1 .1 .0) (c .before .before .before .before .before .before .put-answer .kept .1 .1 .1 .0)
+    both-laid _ _ _ _ _ _ (known .pre .0 .0) (known .pre .0 .1) (known .pre .1 .0) (known .pre .1 .1) (c .before .before .before .before .before .before .put-answer .ensures) (c .before .before .put-changes .ensures) (c .before .before .put-changes .kept .1 .1 .0) (c .before .before .before .before .before .before .put-answer .kept .1 .1 .1 .1 .0)
 
 pub put-changed-spec : {M : Type 1} → statement M
 put-changed-spec =

@@ -17,7 +17,7 @@ same-length : tie.Need-same-length
 same-length c = search needs
 
 returns : tie.Need-returns
-returns c = λ bytes. end-turned _ _ _ bytes _ (c .before .before .before .before .before .before .before .before .end .ensures) (c .before .before .put-answer .ensures)
+returns c = λ bytes. end-turned _ _ _ bytes _ _ (c .before .before .before .before .before .before .before .before .end .ensures) (c .before .before .put-answer .ensures)
 
 pub end-spec : {M : Type 1} → statement M
 end-spec =

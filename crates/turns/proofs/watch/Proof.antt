@@ -24,7 +24,7 @@ same-length-2 c = search needs
 returns : tie.Need-returns
 returns c =
     let made = c .before .before .before .before .before .before .before .before .before .before .before .watch in
-    watch-turned _ _ _ _ _ (made .ensures) (c .before .before .put-changed .ensures)
+    watch-turned _ _ _ _ _ _ (made .ensures) (c .before .before .put-changed .ensures)
 
 pub watch-spec : {M : Type 1} → statement M
 watch-spec =

@@ -1,15 +1,19 @@
 -- `find` meets its contract.
 use Prim.Native.Nat.{_-_}
 use native.Mathlib.Omega.{arith}
+use borrow.Author.Needs.{needs}
 use Rattle.watches.proofs.Counting.{Finding, start-find, more-find, finish-find}
 use Rattle.watches.proofs.find.Statement.{statement}
 use Rattle.watches.proofs.find.Tie as tie
 
 abbrev Inv-loop : tie.InvT-loop
-Inv-loop n watches found₀ i₀ found i = Finding watches n found i
+Inv-loop n watches watch found₀ i₀ found i = Finding watches watch found i
 
 abbrev μ-loop : tie.MeasureT-loop
-μ-loop n watches found₀ i₀ found i = 8 - i
+μ-loop n watches watch found₀ i₀ found i = 8 - i
+
+watch-of-requires : tie.Need-watch-of-requires Inv-loop μ-loop
+watch-of-requires c κs = search needs
 
 loop-holds : tie.Need-loop-holds Inv-loop μ-loop
 loop-holds c = start-find _ _ (omega arith)
@@ -30,7 +34,7 @@ loop-again : tie.Need-loop-again Inv-loop μ-loop
 loop-again c = more-find _ _ _ _ (c .before .loop .inv) (c .loop-test .taken)
 
 returns : tie.Need-returns Inv-loop μ-loop
-returns c = finish-find _ _ _ _ (c .before .loop .inv) (c .loop-test .left)
+returns c = finish-find _ _ _ _ _ _ (c .before .before .watch-of .ensures) (c .before .loop .inv) (c .loop-test .left)
 
 pub find-spec : {M : Type 1} → statement M
 find-spec =
@@ -38,6 +42,7 @@ find-spec =
     (tie.spec
     Inv-loop
     μ-loop
+    watch-of-requires
     loop-holds
     mul-found
     array-read-found

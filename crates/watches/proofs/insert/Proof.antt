@@ -7,10 +7,13 @@ use Rattle.watches.proofs.insert.Statement.{statement}
 use Rattle.watches.proofs.insert.Tie as tie
 
 abbrev Inv-loop : tie.InvT-loop
-Inv-loop n watches after₀ carried₀ i₀ after carried i = Inserting watches n after carried i
+Inv-loop n watches after₀ carried₀ i₀ after carried i = Inserting watches carried₀ after carried i
 
 abbrev μ-loop : tie.MeasureT-loop
 μ-loop n watches after₀ carried₀ i₀ after carried i = 8 - i
+
+watch-of-requires : tie.Need-watch-of-requires Inv-loop μ-loop
+watch-of-requires c κs = search needs
 
 loop-holds : tie.Need-loop-holds Inv-loop μ-loop
 loop-holds c = start _ _ (omega arith)
@@ -45,8 +48,8 @@ loop-again c = rw (c .before .choose .ensures, c .choose2 .ensures) (more _ _ _ 
 
 returns : tie.Need-returns Inv-loop μ-loop
 returns c =
-    let p = c .before .before .pre in
-    finish _ _ _ _ _ (c .before .loop .inv) (p .capacity) (c .loop-test .left) (p .untorn) (p .free)
+    let p = c .before .before .before .pre in
+    rw (← (c .before .before .watch-of .ensures)) (finish _ _ _ _ _ (c .before .loop .inv) (p .capacity) (c .loop-test .left) (p .untorn) (p .free))
 
 pub insert-spec : {M : Type 1} → statement M
 insert-spec =
@@ -54,6 +57,7 @@ insert-spec =
     (tie.spec
     Inv-loop
     μ-loop
+    watch-of-requires
     loop-holds
     mul-watch
     array-read-watch

@@ -19,7 +19,8 @@ use sound.WpLaws.{fmOf, WpFn-mono}
 use denote.Laws.{Is}
 use denote.Array.{Array}
 use denote.Plain.{uint-vals, uint-tells}
-use denote.Builtin.{u32}
+use denote.Builtin.{u32, u64}
+use denote.Enum.Laws as EL
 use denote.Ref.{RefT}
 use denote.Slice.{sliceVal, Room, slice-vals, mut-slice-tells}
 use denote.Signature.{plain}
@@ -32,11 +33,16 @@ use denote.Triple.Table.{entered, cited}
 use denote.Triple.Walked.{says, needs, Stays, gave-slice, stay-none, walkOf, goes-gave-slice, goes-none, Walks, ends-at, walked, walk-meets}
 use denote.Exit.{yes}
 use Rattle.lists.specs.Lists.{insert, padded}
+use Rattle.head.specs.declared.Desk.{Desk}
 use Rattle.head.specs.declared.Watch.{Watch}
+use Rattle.head.specs.Desks.{watchOf}
+use Rattle.head.proofs.Desk as D
+use Rattle.head.proofs.Desk.Laws as D′
 use Rattle.head.proofs.Watch as T
 use Rattle.model.specs.Book.{standing}
 use Rattle.watches.specs.Records.{watched, firstEight, stored, Vacant}
 use Rattle.watches.proofs.Records.{many, changed, vacant-first, few-inserted}
+use Rattle.watches.proofs.DeskValues.{desk-value, desk-values}
 use Rattle.watches.proofs.Lending.{at-name}
 use Rattle.watches.proofs.Calling.{Numbers, Store, handed}
 use Rattle.watches.proofs.Changing.{Left, changes}
@@ -56,7 +62,7 @@ use Rattle.watches.proofs.insert_record.Statement as stated
 use Rattle.watches.proofs.insert_record.Code as code
 
 abbrev stayed : Stays (f.ended .signature .params) (f.ended .kept)
-stayed = (gave-slice (0 ∷ []) tt (plain (λ _. T.the-row)), (stay-none (λ _. u32) yes, tt))
+stayed = (gave-slice (0 ∷ []) tt (plain (λ _. T.the-row)), (stay-none (λ _. D.the-row) yes, (stay-none (λ _. u32) yes, tt)))
 
 -- what is made of the numbers
 abbrev F : ℕ → List ℕ → List ℕ
@@ -66,52 +72,55 @@ module _ {M : Type 1} (𝓤 : URA M) (H : Heap 𝓤) (A : Atoms 𝓤) (mem : Mem
   abbrev Change : Contract 𝓤
   Change = tripleOf 𝓤 H A change.signature (change.spec 𝓤 H A mem run)
 
-module _ {M : Type 1} (𝓤 : URA M) (H : Heap 𝓤) (A : Atoms 𝓤) (W : Given 𝓤 H A) (mem : Memory → SProp 𝓤) (run : Routine → Fun 𝓤) (κ : Lft) (q : Share) (b o : ℕ) (γ : GName) (ys : List Watch) (n : ℕ)
+module _ {M : Type 1} (𝓤 : URA M) (H : Heap 𝓤) (A : Atoms 𝓤) (W : Given 𝓤 H A) (mem : Memory → SProp 𝓤) (run : Routine → Fun 𝓤) (κ : Lft) (q : Share) (b o : ℕ) (γ : GName) (ys : List Watch) (desk : Desk) (n : ℕ)
     (n-fits : n < 2 ^ 32) (room : Room T.the-row (length ys)) (enough : 8 ≤ length ys) (vacant : Vacant (watched ys)) where
-  abbrev x : RefT (List Watch) × (ℕ × Unit {0})
-  x = (at-name b o ys γ, (n, tt))
+  abbrev x : RefT (List Watch) × (Desk × (ℕ × Unit {0}))
+  x = (at-name b o ys γ, (desk, (n, tt)))
 
-  abbrev at : List Val × (List Val × Unit {0})
-  at = (sliceVal (b, o) (length ys) ∷ [], (vint w32 n ∷ [], tt))
+  abbrev at : List Val × (List Val × (List Val × Unit {0}))
+  at = (sliceVal (b, o) (length ys) ∷ [], (desk-values desk, (vint w32 n ∷ [], tt)))
+
+  abbrev watch : ℕ
+  watch = watchOf desk n
 
   abbrev Post : Val → SProp 𝓤
   Post = walkOf 𝓤 H A f.ended stayed (f.clauses 𝓤 H A mem run) .post (((κ, tt), (q, tt), tt, x, at), tt)
 
   -- what `insert` binds outside, that it is given what it asks, and what is known of its result
   abbrev to : List ℕ → Val → Change 𝓤 H A mem run .Ghost
-  to r u = ((tt, tt, tt, (r, (n, tt)), (u ∷ [], (vint w32 n ∷ [], tt))), tt)
+  to r u = ((tt, tt, tt, (r, (desk, (n, tt))), (u ∷ [], (desk-values desk, (vint w32 n ∷ [], tt)))), tt)
 
-  goes : (r : List ℕ) (u : Val) → Is (Array u32 8) r (u ∷ []) → r ≡ firstEight (watched ys) → ent 𝓤 (emp 𝓤) (Change 𝓤 H A mem run .pre (to r u))
-  goes r u is e = qed W [] ∵ says ! (subst Vacant (sym e) (vacant-first (watched ys) (many ys enough) vacant)) $ by ! (handed 𝓤 H A W r u n is n-fits)
+  goes : (r : List ℕ) (u : Val) → Is (Array u64 8) r (u ∷ []) → r ≡ firstEight (watched ys) → ent 𝓤 (emp 𝓤) (Change 𝓤 H A mem run .pre (to r u))
+  goes r u is e = qed W [] ∵ says ! (subst Vacant (sym e) (vacant-first (watched ys) (many ys enough) vacant)) $ by ! (handed 𝓤 H A W r u desk n is n-fits)
 
   abbrev ensures : List ℕ → List ℕ → SProp 𝓤
-  ensures r k = ensured 𝓤 H A change.ended (change.clauses 𝓤 H A mem run) tt (r, (n, tt)) tt k
+  ensures r k = ensured 𝓤 H A change.ended (change.clauses 𝓤 H A mem run) tt (r, (desk, (n, tt))) tt k
 
-  said : (r k : List ℕ) → ent 𝓤 (ensures r k) (fact 𝓤 (k ≡ F n r))
-  said r k = exE 𝓤 _ (λ ws. snd∗ 𝓤 (sem 𝓤 H A (lasts change.ended tt (r, (n, tt)) ws)) (fact 𝓤 (k ≡ F n r)))
+  said : (r k : List ℕ) → ent 𝓤 (ensures r k) (fact 𝓤 (k ≡ F watch r))
+  said r k = exE 𝓤 _ (λ ws. snd∗ 𝓤 (sem 𝓤 H A (lasts change.ended tt (r, (desk, (n, tt))) ws)) (fact 𝓤 (k ≡ F watch r)))
 
-  exits : (zs : List Watch) → watched zs ≡ stored (F n (firstEight (watched ys))) (watched ys) → length zs ≡ length ys → ent 𝓤 (⋆ 𝓤 H A (Left κ q γ n zs)) (Post vunit)
+  exits : (zs : List Watch) → watched zs ≡ stored (F watch (firstEight (watched ys))) (watched ys) → length zs ≡ length ys → ent 𝓤 (⋆ 𝓤 H A (Left κ q γ desk n zs)) (Post vunit)
   exits zs e len =
-      qed W (Left κ q γ n zs) ∵
-      suffices ! _ (ends-at 𝓤 H A f.ended stayed (f.clauses 𝓤 H A mem run) W (((κ, tt), (q, tt), tt, x, at), tt) vunit tt (zs, (tt, tt)) (len, (tt, tt))) $
-      says ! (e ∙ changed (watched ys) (many ys enough) (insert n) (few-inserted n (watched ys) vacant)) $ nothing ! $ move ! (1 ∷ 0 ∷ []) $ join ! $ frame ! $ fjoin ! $ frame ! $ feqI ! (List Val) (vunit ∷ []) (vunit ∷ []) refl $ done !
+      qed W (Left κ q γ desk n zs) ∵
+      suffices ! _ (ends-at 𝓤 H A f.ended stayed (f.clauses 𝓤 H A mem run) W (((κ, tt), (q, tt), tt, x, at), tt) vunit tt (zs, (tt, (tt, tt))) (len, (tt, (tt, tt)))) $
+      says ! (e ∙ changed (watched ys) (many ys enough) (insert watch) (few-inserted watch (watched ys) vacant)) $ nothing ! $ move ! (1 ∷ 0 ∷ []) $ join ! $ frame ! $ fjoin ! $ frame ! $ feqI ! (List Val) (vunit ∷ []) (vunit ∷ []) refl $ done !
 
   module _ (𝓣 : Tables 𝓤 H) (known-numbers : Triple 𝓤 (𝓣 .C #watches·numbers) (Numbers 𝓤 H A mem run)) (known-change : Triple 𝓤 (𝓣 .C #watches·insert) (Change 𝓤 H A mem run)) (known-store : Triple 𝓤 (𝓣 .C #watches·store) (Store 𝓤 H A mem run)) where
-    walk : ent 𝓤 (onEntry 𝓤 H A f.signature (κ, tt) (q, tt) x at) (WpFn 𝓤 H (𝓣 .C) (𝓣 .Λ) code.function (sliceVal (b, o) (length ys) ∷ vint w32 n ∷ []) Post)
+    walk : ent 𝓤 (onEntry 𝓤 H A f.signature (κ, tt) (q, tt) x at) (WpFn 𝓤 H (𝓣 .C) (𝓣 .Λ) code.function (sliceVal (b, o) (length ys) ∷ desk-value desk ∷ vint w32 n ∷ []) Post)
     walk =
-        changes 𝓤 H A W mem run κ q b o γ ys n n-fits room (𝓣 .C) (𝓣 .Λ) (fmOf 𝓤 H (W .laws) 𝓣) known-numbers known-store #watches·insert (F n) ensures
+        changes 𝓤 H A W mem run κ q b o γ ys desk n n-fits room (𝓣 .C) (𝓣 .Λ) (fmOf 𝓤 H (W .laws) 𝓣) known-numbers known-store #watches·insert (F watch) ensures
         (λ r u is e. via 𝓤 (Change 𝓤 H A mem run .pre (to r u)) (goes r u is e) (known-change (to r u))) said Post exits
 
 module _ {M : Type 1} (𝓤 : URA M) (H : Heap 𝓤) (A : Atoms 𝓤) (W : Given 𝓤 H A) (mem : Memory → SProp 𝓤) (run : Routine → Fun 𝓤) (𝓣 : Tables 𝓤 H)
     (known-numbers : Triple 𝓤 (𝓣 .C #watches·numbers) (Numbers 𝓤 H A mem run)) (known-change : Triple 𝓤 (𝓣 .C #watches·insert) (Change 𝓤 H A mem run)) (known-store : Triple 𝓤 (𝓣 .C #watches·store) (Store 𝓤 H A mem run)) where
   insert-record-walks : Walks 𝓤 H A f.ended stayed (WpFn 𝓤 H (𝓣 .C) (𝓣 .Λ) code.function) (f.clauses 𝓤 H A mem run)
-  insert-record-walks = walked 𝓤 H A f.ended stayed (f.clauses 𝓤 H A mem run) (WpFn 𝓤 H (𝓣 .C) (𝓣 .Λ) code.function) (λ κs. (slice-vals, (uint-vals w32, tt))) (λ κs. (mut-slice-tells (named 0) (κs .0) T.the-row, (uint-tells w32, tt)))
+  insert-record-walks = walked 𝓤 H A f.ended stayed (f.clauses 𝓤 H A mem run) (WpFn 𝓤 H (𝓣 .C) (𝓣 .Λ) code.function) (λ κs. (slice-vals, (desk-values, (uint-vals w32, tt)))) (λ κs. (mut-slice-tells (named 0) (κs .0) T.the-row, (EL.tells D.the-type D′.the-laws, (uint-tells w32, tt))))
       (λ κs qs bounds a g are. needs 𝓤 ((8 ≤ length (a .0 .now)) × Vacant (watched (a .0 .now))) _ (λ ok.
-      walk 𝓤 H A W mem run (κs .0) (qs .0) (a .0 .ptr .0) (a .0 .ptr .1) (a .0 .name) (a .0 .now) (a .1 .0) (are .1 .0 .1) (are .0 .0 .1) (ok .0) (ok .1) 𝓣 known-numbers known-change known-store))
+      walk 𝓤 H A W mem run (κs .0) (qs .0) (a .0 .ptr .0) (a .0 .ptr .1) (a .0 .name) (a .0 .now) (a .1 .0) (a .1 .1 .0) (are .1 .1 .0 .1) (are .0 .0 .1) (ok .0) (ok .1) 𝓣 known-numbers known-change known-store))
 
   insert-record-meets : Meets 𝓤 H A f.signature (WpFn 𝓤 H (𝓣 .C) (𝓣 .Λ) code.function) (f.spec 𝓤 H A mem run)
   insert-record-meets =
-      walk-meets 𝓤 H A f.ended stayed W (goes-gave-slice 𝓤 H A W 1 0 tt (plain (λ _. T.the-row)), (goes-none 𝓤 H A W 1 (λ _. u32) yes (λ κs x f. refl), tt)) (f.clauses 𝓤 H A mem run)
+      walk-meets 𝓤 H A f.ended stayed W (goes-gave-slice 𝓤 H A W 1 0 tt (plain (λ _. T.the-row)), (goes-none 𝓤 H A W 1 (λ _. D.the-row) yes (λ κs x f. refl), (goes-none 𝓤 H A W 1 (λ _. u32) yes (λ κs x f. refl), tt))) (f.clauses 𝓤 H A mem run)
       (WpFn 𝓤 H (𝓣 .C) (𝓣 .Λ) code.function) (WpFn-mono 𝓤 H (W .laws) 𝓣 code.function) insert-record-walks
 
 pub insert-record-spec : {M : Type 1} → stated.statement M

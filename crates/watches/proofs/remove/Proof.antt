@@ -1,15 +1,19 @@
 -- `remove` meets its contract.
 use Prim.Native.Nat.{_-_}
 use native.Mathlib.Omega.{arith}
+use borrow.Author.Needs.{needs}
 use Rattle.watches.proofs.Removing.{stays, Removing, start, few, more-stays, more-goes, finish}
 use Rattle.watches.proofs.remove.Statement.{statement}
 use Rattle.watches.proofs.remove.Tie as tie
 
 abbrev Inv-loop : tie.InvT-loop
-Inv-loop n watches kept₀ count₀ i₀ kept count i = Removing watches n kept count i
+Inv-loop n watches ended kept₀ count₀ i₀ kept count i = Removing watches ended kept count i
 
 abbrev μ-loop : tie.MeasureT-loop
-μ-loop n watches kept₀ count₀ i₀ kept count i = 8 - i
+μ-loop n watches ended kept₀ count₀ i₀ kept count i = 8 - i
+
+watch-of-requires : tie.Need-watch-of-requires Inv-loop μ-loop
+watch-of-requires c κs = search needs
 
 loop-holds : tie.Need-loop-holds Inv-loop μ-loop
 loop-holds c = start _ _ (omega arith)
@@ -47,7 +51,7 @@ unfolding stays
 loop-again-2 c = more-goes _ _ _ _ _ (c .before .before .loop .inv) (c .before .loop-test .taken) (c .if1 .left)
 
 returns : tie.Need-returns Inv-loop μ-loop
-returns c = finish _ _ _ _ _ (c .before .loop .inv) (c .loop-test .left)
+returns c = rw (← (c .before .before .watch-of .ensures)) (finish _ _ _ _ _ (c .before .loop .inv) (c .loop-test .left))
 
 pub remove-spec : {M : Type 1} → statement M
 remove-spec =
@@ -55,6 +59,7 @@ remove-spec =
     (tie.spec
     Inv-loop
     μ-loop
+    watch-of-requires
     loop-holds
     mul-watch
     array-read-watch

@@ -1,8 +1,7 @@
--- `judge_pair` meets its contract: whether a pair stands is asked behind the sizes of n1 and n2 and their order.
+-- `judge_pair` meets its contract: whether a pair stands is asked behind the sizes of n1 and n2 and their order, and the output last.
 use mathlib.Core.Path.{refl}
-use Rattle.model.specs.Book.{watchfulAnswer, pairStands}
+use Rattle.model.specs.Book.{watchfulAnswer, pairStands, pairAnswer}
 use Rattle.judging.proofs.Answering.{tested}
-use Rattle.watching.specs.Answers.{freeAnswer}
 use borrow.Author.Needs.{needs}
 use Rattle.watching.proofs.judge_pair.Statement.{statement}
 use Rattle.watching.proofs.judge_pair.Tie as tie
@@ -22,12 +21,20 @@ with-test-requires-2 c κs = search needs
 with-test-requires-3 : tie.Need-with-test-requires-3
 with-test-requires-3 c κs = search needs
 
+short-output-requires : tie.Need-short-output-requires
+short-output-requires c κs = search needs
+
+with-test-requires-4 : tie.Need-with-test-requires-4
+with-test-requires-4 c κs = search needs
+
 returns : tie.Need-returns
-unfolding watchfulAnswer freeAnswer pairStands
+unfolding watchfulAnswer pairAnswer pairStands
 returns c =
-    let known = c .before .before .before in
+    let known = c .before .before .before .before .before in
     let sized = tested _ _ _ (known .before .before .judge-watchful .ensures) (known .before .out-of-sizes .ensures) (known .with-test .ensures) refl in
-    tested _ _ _ (tested _ _ _ sized refl (c .before .with-test2 .ensures) refl) refl (c .with-test3 .ensures) refl
+    let ordered = tested _ _ _ sized refl (c .before .before .before .with-test2 .ensures) refl in
+    let free = tested _ _ _ ordered refl (c .before .before .with-test3 .ensures) refl in
+    tested _ _ _ free (c .before .short-output .ensures) (c .with-test4 .ensures) refl
 
 pub judge-pair-spec : {M : Type 1} → statement M
-judge-pair-spec = tie.close (tie.spec judge-watchful-requires out-of-sizes-requires with-test-requires with-test-requires-2 with-test-requires-3 returns)
+judge-pair-spec = tie.close (tie.spec judge-watchful-requires out-of-sizes-requires with-test-requires with-test-requires-2 with-test-requires-3 short-output-requires with-test-requires-4 returns)

@@ -2,7 +2,7 @@
 use Prim.Native.Nat.{_-_}
 use native.Mathlib.Omega.{arith}
 use Rattle.finding.specs.Found.{rows}
-use Rattle.changes.proofs.Records.{watch-below}
+use Rattle.changes.proofs.Records.{watch-at}
 use Rattle.changes.proofs.Watching.{Written, written-start, written-fits, written-rest, written-more, written-all}
 use borrow.Author.Needs.{needs}
 use Rattle.changes.proofs.each_watch.write_all_changes.Statement.{statement}
@@ -36,7 +36,7 @@ part-write-watch-end : tie.Need-part-write-watch-end Inv-loop μ-loop
 part-write-watch-end c = search needs
 
 write-watch-requires : tie.Need-write-watch-requires Inv-loop μ-loop
-write-watch-requires c κs = let p = c .before .before .before .before .before .before .before .before .before .before .pre in let n = watch-below _ _ (c .before .before .loop .i) (p .1 .0) (c .before .loop-test .taken) in (omega arith, (n, (c .before .before .before .start-of .ensures, (p .1 .1 .0, (p .1 .1 .1 .0, (p .1 .1 .1 .1 .0, written-rest (c .before .before .loop .inv) (c .before .loop-test .taken)))))))
+write-watch-requires c κs = let p = c .before .before .before .before .before .before .before .before .before .before .pre in (p .0, (watch-at _ _ (c .before .before .loop .i) (p .1 .0) (c .before .loop-test .taken), (c .before .before .before .start-of .ensures, (p .1 .1 .0, (p .1 .1 .1 .0, (p .1 .1 .1 .1 .0, written-rest (c .before .before .loop .inv) (c .before .loop-test .taken)))))))
 
 add-at : tie.Need-add-at Inv-loop μ-loop
 add-at c = omega (arith, written-fits (c .before .before .before .before .before .loop .inv) (c .before .before .before .before .loop-test .taken), c .before .before .write-watch .ensures .0, c .before .before .before .before .before .loop .inv .laying .front .long, c .before .before .before .before .before .before .before .before .before .before .before .before .before .good)

@@ -10,13 +10,13 @@ use Rattle.changes.proofs.leaves.write_dropped.Statement.{statement}
 use Rattle.changes.proofs.leaves.write_dropped.Tie as tie
 
 abbrev Inv-loop : tie.InvT-loop
-Inv-loop n retired lower-ends first shift out₀ at₀ k₀ out at k = Leaving n first lower-ends shift retired out₀ out at k
+Inv-loop kind n retired lower-ends first shift out₀ at₀ k₀ out at k = Leaving kind n first lower-ends shift retired out₀ out at k
 
 abbrev μ-loop : tie.MeasureT-loop
-μ-loop n retired lower-ends first shift out₀ at₀ k₀ out at k = length retired - k
+μ-loop kind n retired lower-ends first shift out₀ at₀ k₀ out at k = length retired - k
 
 loop-holds : tie.Need-loop-holds Inv-loop μ-loop
-loop-holds c = leaving-start _ _ _ _ _ _ (c .before .before .before .pre .1 .1)
+loop-holds c = leaving-start _ _ _ _ _ _ _ (c .before .before .before .pre .1 .1)
 
 mul-i : tie.Need-mul-i Inv-loop μ-loop
 mul-i c = search needs
@@ -44,7 +44,7 @@ add-k c = search needs
 
 -- a row that is dropped has room for its leave
 fits : (c : tie.Then1 Inv-loop μ-loop) → c .before .before .before .before .before .before .loop .at + 7 ≤ length (c .before .before .before .before .before .before .loop .out)
-fits c = leaving-fits _ _ _ _ (c .before .before .before .before .before .before .loop .inv) (c .before .before .before .before .before .loop-test .taken) refl (c .if1 .taken)
+fits c = leaving-fits _ _ _ _ _ (c .before .before .before .before .before .before .loop .inv) (c .before .before .before .before .before .loop-test .taken) refl (c .if1 .taken)
 
 sub-lay-change : tie.Need-sub-lay-change Inv-loop μ-loop
 sub-lay-change c = omega (arith, fits c)
@@ -66,19 +66,19 @@ loop-less c = search needs
 
 loop-again : tie.Need-loop-again Inv-loop μ-loop
 unfolding frame
-loop-again c = leaving-more _ _ _ _ (c .before .before .before .before .before .before .before .before .before .before .loop .inv) (c .before .before .before .before .before .before .before .before .before .loop-test .taken) refl (c .before .before .lay-change .ensures) (c .before .before .before .before .if1 .taken)
+loop-again c = leaving-more _ _ _ _ _ (c .before .before .before .before .before .before .before .before .before .before .loop .inv) (c .before .before .before .before .before .before .before .before .before .loop-test .taken) refl (c .before .before .lay-change .ensures) (c .before .before .before .before .if1 .taken)
 
 loop-less-2 : tie.Need-loop-less-2 Inv-loop μ-loop
 loop-less-2 c = search needs
 
 loop-again-2 : tie.Need-loop-again-2 Inv-loop μ-loop
-loop-again-2 c = leaving-pass _ _ _ _ (c .before .before .before .before .before .before .loop .inv) (c .before .before .before .before .before .loop-test .taken) refl (c .if1 .left)
+loop-again-2 c = leaving-pass _ _ _ _ _ (c .before .before .before .before .before .before .loop .inv) (c .before .before .before .before .before .loop-test .taken) refl (c .if1 .left)
 
 same-length : tie.Need-same-length Inv-loop μ-loop
 same-length c = c .before .loop .inv .laying .front .long
 
 returns : tie.Need-returns Inv-loop μ-loop
-returns c = leaving-all _ _ _ _ (c .before .loop .inv) (c .loop-test .left)
+returns c = leaving-all _ _ _ _ _ (c .before .loop .inv) (c .loop-test .left)
 
 pub write-dropped-spec : {M : Type 1} → statement M
 write-dropped-spec =

@@ -3,7 +3,6 @@ use mathlib.Core.Path.{refl, sym}
 use denote.Ref.{now}
 use Rattle.lists.specs.Lists.{flat, laid}
 use Rattle.frames.specs.Frames.{frame}
-use Rattle.frames.specs.Kinds.{leaveKind}
 use Rattle.frames.proofs.RoundTrips.{change-length}
 use Rattle.model.specs.Changes.{frames}
 use Rattle.changes.proofs.Leaving.{fallen-frame, fallen-nothing, fallen-none, fallen-is}
@@ -28,18 +27,18 @@ shared-slice-read-if2-2 : tie.Need-shared-slice-read-if2-2
 shared-slice-read-if2-2 c = c .before .before .before .before .before .before .before .pre .0 (c .before .before .if1 .left)
 
 lay-change-requires : tie.Need-lay-change-requires
-lay-change-requires c κs = rw (fallen-frame (c .before .before .before .before .before .before .before .before .before .before .args .n) (c .before .before .before .before .before .before .before .before .before .before .args .shift .before) (fallen-is (c .before .before .before .before .before .before .before .before .before .before .args .place) (now (c .before .before .before .before .before .before .before .before .before .before .args .lower-ends)) (now (c .before .before .before .before .before .before .before .before .before .before .args .upper-ends)) (c .before .before .before .before .before .before .before .before .before .before .args .shift) (c .before .before .before .before .before .if1 .left)) (c .before .if2 .taken), change-length) at (c .before .before .before .before .before .before .before .before .before .before .pre .1 .1)
+lay-change-requires c κs = rw (fallen-frame (c .before .before .before .before .before .before .before .before .before .before .args .kind) (c .before .before .before .before .before .before .before .before .before .before .args .n) (c .before .before .before .before .before .before .before .before .before .before .args .shift .before) (fallen-is (c .before .before .before .before .before .before .before .before .before .before .args .place) (now (c .before .before .before .before .before .before .before .before .before .before .args .lower-ends)) (now (c .before .before .before .before .before .before .before .before .before .before .args .upper-ends)) (c .before .before .before .before .before .before .before .before .before .before .args .shift) (c .before .before .before .before .before .if1 .left)) (c .before .if2 .taken), change-length) at (c .before .before .before .before .before .before .before .before .before .before .pre .1 .1)
 
 same-length : tie.Need-same-length
 same-length c = search needs
 
 returns-2 : tie.Need-returns-2
 unfolding frame
-returns-2 c = rw (fallen-frame (c .before .before .before .before .before .before .before .before .before .before .before .before .before .args .n) (c .before .before .before .before .before .before .before .before .before .before .before .before .before .args .shift .before) (fallen-is (c .before .before .before .before .before .before .before .before .before .before .before .before .before .args .place) (now (c .before .before .before .before .before .before .before .before .before .before .before .before .before .args .lower-ends)) (now (c .before .before .before .before .before .before .before .before .before .before .before .before .before .args .upper-ends)) (c .before .before .before .before .before .before .before .before .before .before .before .before .before .args .shift) (c .before .before .before .before .before .before .before .before .if1 .left)) (c .before .before .before .before .if2 .taken)) (sym (change-length leaveKind _ _), c .before .before .lay-change .ensures)
+returns-2 c = rw (fallen-frame (c .before .before .before .before .before .before .before .before .before .before .before .before .before .args .kind) (c .before .before .before .before .before .before .before .before .before .before .before .before .before .args .n) (c .before .before .before .before .before .before .before .before .before .before .before .before .before .args .shift .before) (fallen-is (c .before .before .before .before .before .before .before .before .before .before .before .before .before .args .place) (now (c .before .before .before .before .before .before .before .before .before .before .before .before .before .args .lower-ends)) (now (c .before .before .before .before .before .before .before .before .before .before .before .before .before .args .upper-ends)) (c .before .before .before .before .before .before .before .before .before .before .before .before .before .args .shift) (c .before .before .before .before .before .before .before .before .if1 .left)) (c .before .before .before .before .if2 .taken)) (sym (change-length (c .before .before .before .before .before .before .before .before .before .before .before .before .before .args .kind) (c .before .before .before .before .before .before .before .before .before .before .before .before .before .args .n) (c .before .before .before .before .before .before .before .before .before .before .before .before .before .args .shift .before)), c .before .before .lay-change .ensures)
 
 returns-3 : tie.Need-returns-3
 unfolding laid
-returns-3 c = rw (fallen-nothing (c .before .before .before .before .before .before .before .before .before .args .n) (c .before .before .before .before .before .before .before .before .before .args .shift .before) (fallen-is (c .before .before .before .before .before .before .before .before .before .args .place) (now (c .before .before .before .before .before .before .before .before .before .args .lower-ends)) (now (c .before .before .before .before .before .before .before .before .before .args .upper-ends)) (c .before .before .before .before .before .before .before .before .before .args .shift) (c .before .before .before .before .if1 .left)) (c .if2 .left)) (refl, refl)
+returns-3 c = rw (fallen-nothing (c .before .before .before .before .before .before .before .before .before .args .kind) (c .before .before .before .before .before .before .before .before .before .args .n) (c .before .before .before .before .before .before .before .before .before .args .shift .before) (fallen-is (c .before .before .before .before .before .before .before .before .before .args .place) (now (c .before .before .before .before .before .before .before .before .before .args .lower-ends)) (now (c .before .before .before .before .before .before .before .before .before .args .upper-ends)) (c .before .before .before .before .before .before .before .before .before .args .shift) (c .before .before .before .before .if1 .left)) (c .if2 .left)) (refl, refl)
 
 pub write-fallen-spec : {M : Type 1} → statement M
 write-fallen-spec =

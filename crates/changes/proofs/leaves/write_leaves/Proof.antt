@@ -7,7 +7,8 @@ use lib.ListN.{length, length-append}
 use denote.Ref.{now}
 use Rattle.lists.proofs.Filters.{map-append}
 use Rattle.lists.proofs.Laying.{Front, front-one, front-room, front-rest, front-more}
-use Rattle.model.specs.Changes.{leave, frames}
+use Rattle.frames.specs.declared.Message.the-variants.{Change}
+use Rattle.model.specs.Changes.{frames}
 use Rattle.model.proofs.ChangeFrames.{frames-append}
 use Rattle.changes.specs.Held.{fallen, dropped}
 use Rattle.changes.proofs.Leaving.{leavesOf}
@@ -17,12 +18,12 @@ use Rattle.changes.proofs.leaves.write_leaves.Tie as tie
 
 -- the leave of the row at the window's old start, and those of the rows that the quote retires
 abbrev L : tie.Start → List ℕ
-L c = frames (map (leave (c .args .n)) (fallen (c .args .place) (now (c .args .lower-ends)) (now (c .args .upper-ends)) (c .args .shift)))
+L c = frames (map (Change (c .args .kind) (c .args .n)) (fallen (c .args .place) (now (c .args .lower-ends)) (now (c .args .upper-ends)) (c .args .shift)))
 
 abbrev R : tie.Start → List ℕ
-R c = leavesOf (c .args .n) (c .args .first) (now (c .args .lower-ends)) (c .args .shift) (now (c .args .retired))
+R c = leavesOf (c .args .kind) (c .args .n) (c .args .first) (now (c .args .lower-ends)) (c .args .shift) (now (c .args .retired))
 
-both : (c : tie.Start) → frames (map (leave (c .args .n)) (fallen (c .args .place) (now (c .args .lower-ends)) (now (c .args .upper-ends)) (c .args .shift) ++ dropped (c .args .first) (now (c .args .lower-ends)) (c .args .shift) (now (c .args .retired)))) ≡ L c ++ R c
+both : (c : tie.Start) → frames (map (Change (c .args .kind) (c .args .n)) (fallen (c .args .place) (now (c .args .lower-ends)) (now (c .args .upper-ends)) (c .args .shift) ++ dropped (c .args .first) (now (c .args .lower-ends)) (c .args .shift) (now (c .args .retired)))) ≡ L c ++ R c
 both c = rw (map-append, frames-append)
 
 room : (c : tie.Start) → length (L c ++ R c) ≤ length (now (c .args .out))
@@ -37,7 +38,7 @@ start c = c .before .before .before .before .before .before
 
 -- the output behind it
 abbrev out1 : tie.After-write-fallen → List ℕ
-out1 c = c .write-fallen .last .1 .1 .1 .1 .1 .0
+out1 c = c .write-fallen .last .1 .1 .1 .1 .1 .1 .0
 
 -- the first leave stands at the front
 front : (c : tie.After-write-fallen) → Front (L (start c)) (now (start c .args .out)) (out1 c) (c .write-fallen .result)

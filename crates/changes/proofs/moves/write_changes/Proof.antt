@@ -8,9 +8,9 @@ use denote.Ref.{now}
 use borrow.Rule.Slice.PartMut.{putMid}
 use Rattle.lists.proofs.Laying.{Front, front-one, front-room, front-rest, front-more}
 use Rattle.frames.specs.Frames.{frame}
-use Rattle.frames.specs.Kinds.{joinKind}
+use Rattle.frames.specs.declared.Message.the-variants.{Change}
 use Rattle.frames.proofs.RoundTrips.{change-length}
-use Rattle.model.specs.Changes.{leave, frames}
+use Rattle.model.specs.Changes.{frames}
 use Rattle.finding.specs.Found.{rows}
 use Rattle.changes.specs.Held.{Held, held, fallen, dropped, changed}
 use Rattle.changes.proofs.Stepping.{leaves-are}
@@ -25,23 +25,23 @@ abbrev book : tie.Start → Held
 book c = held (c .args .first) (c .args .head .held) (now (c .args .lower-ends)) (rows (c .args .head .dimensions) (c .args .head .directions) (now (c .args .columns)) (now (c .args .upper-ends)) (now (c .args .quote)))
 
 abbrev L : tie.Start → List ℕ
-L c = leaveFrames (book c) (c .args .shift) (c .args .lower) (c .args .n)
+L c = leaveFrames (book c) (c .args .shift) (c .args .lower) (c .args .kinds) (c .args .n)
 
 abbrev J : tie.Start → List ℕ
-J c = joinFrames (book c) (c .args .shift) (c .args .lower) (c .args .n)
+J c = joinFrames (book c) (c .args .shift) (c .args .lower) (c .args .kinds) (c .args .n)
 
 abbrev N : tie.Start → List ℕ
-N c = newFrame (book c) (c .args .shift) (c .args .lower) (c .args .n)
+N c = newFrame (book c) (c .args .shift) (c .args .lower) (c .args .kinds) (c .args .n)
 
 rows-room : (c : tie.Start) → length (L c ++ J c) ≤ length (now (c .args .out))
-rows-room c = rows-fit (book c) _ (c .args .lower) _ _ (c .pre .1 .1 .1)
+rows-room c = rows-fit (book c) _ (c .args .lower) _ _ _ (c .pre .1 .1 .1)
 
 leaves-room : (c : tie.Start) → length (L c) ≤ length (now (c .args .out))
 leaves-room c = omega (arith, rows-room c, length-append (L c) (J c))
 
 -- the leaves by their parts
-parts : (c : tie.Start) → L c ≡ frames (map (leave (c .args .n)) (fallen (c .args .shift .before - c .args .first) (now (c .args .lower-ends)) (now (c .args .upper-ends)) (c .args .shift) ++ dropped (c .args .first) (now (c .args .lower-ends)) (c .args .shift) (now (c .args .retired))))
-parts c = ap (λ (l : List ℕ). frames (map (leave (c .args .n)) l)) (leaves-are (book c) (c .args .shift) (c .pre .0) (now (c .args .retired)) (c .pre .1 .0))
+parts : (c : tie.Start) → L c ≡ frames (map (Change (c .args .kinds .leave) (c .args .n)) (fallen (c .args .shift .before - c .args .first) (now (c .args .lower-ends)) (now (c .args .upper-ends)) (c .args .shift) ++ dropped (c .args .first) (now (c .args .lower-ends)) (c .args .shift) (now (c .args .retired))))
+parts c = ap (λ (l : List ℕ). frames (map (Change (c .args .kinds .leave) (c .args .n)) l)) (leaves-are (book c) (c .args .shift) (c .pre .0) (now (c .args .retired)) (c .pre .1 .0))
 
 -- the function's start, from behind each call
 abbrev start : tie.After-write-leaves → tie.Start
@@ -52,12 +52,12 @@ start2 c = c .before .before .before .before .before .before .before .before .be
 
 -- the output behind each call
 abbrev out1 : tie.After-write-leaves → List ℕ
-out1 c = c .write-leaves .last .1 .1 .1 .1 .1 .1 .1 .0
+out1 c = c .write-leaves .last .1 .1 .1 .1 .1 .1 .1 .1 .0
 
 abbrev out2 : tie.After-write-row-joins → List ℕ
 out2 c =
     let b = c .before .before .before .before in
-    putMid (b .write-leaves .result) (length (out1 b) - b .write-leaves .result) (out1 b) (c .write-row-joins .last .1 .1 .1 .1 .1 .1 .1 .1 .1 .1 .0)
+    putMid (b .write-leaves .result) (length (out1 b) - b .write-leaves .result) (out1 b) (c .write-row-joins .last .1 .1 .1 .1 .1 .1 .1 .1 .1 .1 .1 .0)
 
 -- the leaves stand at the front
 front : (c : tie.After-write-leaves) → Front (L (start c)) (now (start c .args .out)) (out1 c) (c .write-leaves .result)
@@ -73,11 +73,11 @@ second c =
     front-more (front (c .before .before .before .before)) (J (start2 c)) (rows-room (start2 c)) (c .write-row-joins .ensures .0) (c .write-row-joins .ensures .1)
 
 -- the frames of the changes, where the new row is listed and where it is not
-listed-frames : (c : tie.Start) → c .args .lower < c .args .shift .after → frames (changed (book c) (c .args .shift) (c .args .lower) (c .args .n)) ≡ (L c ++ J c) ++ N c
-listed-frames c h = changed-listed (book c) (c .args .shift) (c .args .lower) (c .args .n) h
+listed-frames : (c : tie.Start) → c .args .lower < c .args .shift .after → frames (changed (book c) (c .args .shift) (c .args .lower) (c .args .kinds) (c .args .n)) ≡ (L c ++ J c) ++ N c
+listed-frames c h = changed-listed (book c) (c .args .shift) (c .args .lower) (c .args .kinds) (c .args .n) h
 
-unlisted-frames : (c : tie.Start) → c .args .shift .after ≤ c .args .lower → frames (changed (book c) (c .args .shift) (c .args .lower) (c .args .n)) ≡ L c ++ J c
-unlisted-frames c h = changed-unlisted (book c) (c .args .shift) (c .args .lower) (c .args .n) h
+unlisted-frames : (c : tie.Start) → c .args .shift .after ≤ c .args .lower → frames (changed (book c) (c .args .shift) (c .args .lower) (c .args .kinds) (c .args .n)) ≡ L c ++ J c
+unlisted-frames c h = changed-unlisted (book c) (c .args .shift) (c .args .lower) (c .args .kinds) (c .args .n) h
 
 -- the second call, from the branch where the new row is listed
 abbrev both : tie.Else1 → tie.After-write-row-joins
@@ -143,7 +143,7 @@ same-length-2 c = search needs
 
 returns-2 : tie.Need-returns-2
 unfolding frame
-returns-2 c = let b = (c .before .before .before .before .before) in let v = front-more (second (both b)) (N (start2 (both b))) (all-room b) (sym (change-length joinKind _ _)) (c .before .before .lay-change .ensures) in rw (listed-frames (start2 (both b)) (b .if1 .left)) (v .place, v .cells)
+returns-2 c = let b = (c .before .before .before .before .before) in let v = front-more (second (both b)) (N (start2 (both b))) (all-room b) (sym (change-length (start2 (both b) .args .kinds .join) (start2 (both b) .args .n) (start2 (both b) .args .first + start2 (both b) .args .head .held))) (c .before .before .lay-change .ensures) in rw (listed-frames (start2 (both b)) (b .if1 .left)) (v .place, v .cells)
 
 pub write-changes-spec : {M : Type 1} → statement M
 write-changes-spec =

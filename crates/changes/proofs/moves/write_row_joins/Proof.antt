@@ -18,10 +18,10 @@ use Rattle.changes.proofs.moves.write_row_joins.Statement.{statement}
 use Rattle.changes.proofs.moves.write_row_joins.Tie as tie
 
 abbrev Inv-loop : tie.InvT-loop
-Inv-loop n head columns lower-ends upper-ends quote first place shift sound out₀ count d at₀ i₀ out at i = Joining n (held first (head .held) lower-ends (rows (head .dimensions) (head .directions) columns upper-ends quote)) shift out₀ out at i
+Inv-loop kind n head columns lower-ends upper-ends quote first place shift sound out₀ count d at₀ i₀ out at i = Joining kind n (held first (head .held) lower-ends (rows (head .dimensions) (head .directions) columns upper-ends quote)) shift out₀ out at i
 
 abbrev μ-loop : tie.MeasureT-loop
-μ-loop n head columns lower-ends upper-ends quote first place shift sound out₀ count d at₀ i₀ out at i = count - i
+μ-loop kind n head columns lower-ends upper-ends quote first place shift sound out₀ count d at₀ i₀ out at i = count - i
 
 may-gain-requires : tie.Need-may-gain-requires Inv-loop μ-loop
 may-gain-requires c κs = λ moved. omega (arith, c .before .before .before .before .before .pre .0 .starts, c .before .before .before .before .before .pre .0 .ends, c .before .before .before .before .before .pre .0 .fits .uppers, c .before .before .before .before .before .pre .1 .0)

@@ -28,13 +28,9 @@ above-quotes : (kind : ℕ) → 7 ≤ kind → kind < 16 → Unknown ≡ shapeOf
 unfolding kinds shapeIn shapeOf run
 above-quotes = in-row Unknown 7 9 refl
 
-sizes : (kind : ℕ) → 16 ≤ kind → kind < 19 → Size ≡ shapeOf kind
+sizes : (kind : ℕ) → 16 ≤ kind → kind < 21 → Size ≡ shapeOf kind
 unfolding kinds shapeIn shapeOf run
-sizes = in-row Size 16 3 refl
-
-above-sizes : (kind : ℕ) → 19 ≤ kind → kind < 21 → Unknown ≡ shapeOf kind
-unfolding kinds shapeIn shapeOf run
-above-sizes = in-row Unknown 19 2 refl
+sizes = in-row Size 16 5 refl
 
 pair-end : (kind : ℕ) → 22 ≤ kind → kind < 23 → Bare ≡ shapeOf kind
 unfolding kinds shapeIn shapeOf run
@@ -44,13 +40,9 @@ above-pairs : (kind : ℕ) → 24 ≤ kind → kind < 32 → Unknown ≡ shapeOf
 unfolding kinds shapeIn shapeOf run
 above-pairs = in-row Unknown 24 8 refl
 
-changes : (kind : ℕ) → 32 ≤ kind → kind < 34 → SizePosition ≡ shapeOf kind
+changes : (kind : ℕ) → 32 ≤ kind → kind < 36 → SizePosition ≡ shapeOf kind
 unfolding kinds shapeIn shapeOf run
-changes = in-row SizePosition 32 2 refl
-
-above-changes : (kind : ℕ) → 34 ≤ kind → kind < 36 → Unknown ≡ shapeOf kind
-unfolding kinds shapeIn shapeOf run
-above-changes = in-row Unknown 34 2 refl
+changes = in-row SizePosition 32 4 refl
 
 positions : (kind : ℕ) → 36 ≤ kind → kind < 38 → Position ≡ shapeOf kind
 unfolding kinds shapeIn shapeOf run
@@ -91,31 +83,25 @@ returns-4 : tie.Need-returns-4
 returns-4 c = sizes _ (omega arith) (omega arith)
 
 returns-5 : tie.Need-returns-5
-returns-5 c = above-sizes _ (omega arith) (omega arith)
+returns-5 c = pair-end _ (omega arith) (omega arith)
 
 returns-6 : tie.Need-returns-6
-returns-6 c = pair-end _ (omega arith) (omega arith)
+returns-6 c = pairs _ (omega arith) (omega arith) (λ e. omega arith)
 
 returns-7 : tie.Need-returns-7
-returns-7 c = pairs _ (omega arith) (omega arith) (λ e. omega arith)
+returns-7 c = above-pairs _ (omega arith) (omega arith)
 
 returns-8 : tie.Need-returns-8
-returns-8 c = above-pairs _ (omega arith) (omega arith)
+returns-8 c = changes _ (omega arith) (omega arith)
 
 returns-9 : tie.Need-returns-9
-returns-9 c = changes _ (omega arith) (omega arith)
+returns-9 c = positions _ (omega arith) (omega arith)
 
 returns-10 : tie.Need-returns-10
-returns-10 c = above-changes _ (omega arith) (omega arith)
+returns-10 c = opening _ (omega arith) (omega arith)
 
 returns-11 : tie.Need-returns-11
-returns-11 c = positions _ (omega arith) (omega arith)
-
-returns-12 : tie.Need-returns-12
-returns-12 c = opening _ (omega arith) (omega arith)
-
-returns-13 : tie.Need-returns-13
-returns-13 c = around-opening _ (omega arith) (search needs) (λ e. omega arith)
+returns-11 c = around-opening _ (omega arith) (search needs) (λ e. omega arith)
 
 pub shape-of-spec : {M : Type 1} → statement M
 shape-of-spec =
@@ -131,6 +117,4 @@ shape-of-spec =
     returns-8
     returns-9
     returns-10
-    returns-11
-    returns-12
-    returns-13)
+    returns-11)

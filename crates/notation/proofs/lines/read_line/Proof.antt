@@ -5,28 +5,43 @@ use Rattle.notation.specs.Lines.{nothing}
 use Rattle.notation.proofs.lines.read_line.Statement.{statement}
 use Rattle.notation.proofs.lines.read_line.Tie as tie
 
+marked-requires : tie.Need-marked-requires
+marked-requires c κs = search needs
+
+fields-place-requires : tie.Need-fields-place-requires
+fields-place-requires c κs = search needs
+
 fields-from-requires : tie.Need-fields-from-requires
 fields-from-requires c κs = search needs
 
 returns : tie.Need-returns
 unfolding nothing
-returns c = read-none _ (c .if1 .taken) (c .before .before .fields-from .ensures)
+returns c = read-none _ (c .before .before .before .fields-place .result) (c .if1 .taken) (c .before .before .fields-from .ensures)
 
-shared-slice-read-message-of : tie.Need-shared-slice-read-message-of
-shared-slice-read-message-of c = search needs
+shared-slice-read-sign-of : tie.Need-shared-slice-read-sign-of
+shared-slice-read-sign-of c = search needs
+
+sign-of-requires : tie.Need-sign-of-requires
+sign-of-requires c κs = search needs
 
 message-of-requires : tie.Need-message-of-requires
 message-of-requires c κs = search needs
 
 returns-2 : tie.Need-returns-2
-returns-2 c = read-some _ (c .before .before .if1 .left) (c .before .before .before .before .fields-from .ensures) (c .«message-of» .ensures)
+returns-2 c =
+    let read = c .before .before .before .before .before in
+    read-some _ (c .before .before .before .if1 .left) (read .before .before .marked .ensures) (read .before .fields-place .ensures) (c .before .sign-of .ensures)
+    (read .fields-from .ensures) (c .«message-of» .ensures)
 
 pub read-line-spec : {M : Type 1} → statement M
 read-line-spec =
     tie.close
     (tie.spec
+    marked-requires
+    fields-place-requires
     fields-from-requires
     returns
-    shared-slice-read-message-of
+    shared-slice-read-sign-of
+    sign-of-requires
     message-of-requires
     returns-2)

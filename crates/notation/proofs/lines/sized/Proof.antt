@@ -1,10 +1,10 @@
--- `sized` meets its contract: the number fits, and the letter says which message.
+-- `sized` meets its contract: the number fits, and the sign says which message.
 use mathlib.Core.Path.{_≡_, sym, _∙_}
 use native.Mathlib.Omega.{arith}
 use lib.ListN.{getD}
 use borrow.Author.Needs.{needs}
 use borrow.Author.Tests.{not-true, not-false}
-use Rattle.notation.proofs.Reading.{fits-two, of-look, of-watch, of-end, of-other, sized-not, sized-of}
+use Rattle.notation.proofs.Reading.{fits-two, of-look, of-watch, of-end, of-watch-two, of-end-two, of-other, sized-not, sized-of}
 use Rattle.notation.specs.Lines.{nothing, ofNumber, sizedOf}
 use Rattle.notation.proofs.lines.sized.Statement.{statement}
 use Rattle.notation.proofs.lines.sized.Tie as tie
@@ -23,7 +23,7 @@ cast-n : tie.Need-cast-n
 cast-n c = omega (arith, fits-two _ (sym (c .before .fits2 .ensures) ∙ not-false _ (c .if1 .left)))
 
 -- the message of the number
-by-number : (c : tie.Else1) → let a = c .before .before .before .args in ofNumber (a .letter) (getD (a .fields .numbers) 0 0) ≡ sizedOf (a .letter) (a .fields)
+by-number : (c : tie.Else1) → let a = c .before .before .before .args in ofNumber (a .sign) (getD (a .fields .numbers) 0 0) ≡ sizedOf (a .sign) (a .fields)
 by-number c = sized-of _ _ (sym (c .before .fits2 .ensures) ∙ not-false _ (c .if1 .left))
 
 returns-2 : tie.Need-returns-2
@@ -36,8 +36,16 @@ returns-4 : tie.Need-returns-4
 returns-4 c = of-end _ _ (c .match .keys3) ∙ by-number (c .before)
 
 returns-5 : tie.Need-returns-5
+returns-5 c = of-watch-two _ _ (c .match .keys4) ∙ by-number (c .before)
+
+returns-6 : tie.Need-returns-6
+returns-6 c = of-end-two _ _ (c .match .keys5) ∙ by-number (c .before)
+
+returns-7 : tie.Need-returns-7
 unfolding nothing
-returns-5 c = of-other _ _ (c .match .rest .0 .0 .1) (c .match .rest .0 .1) (c .match .rest .1) ∙ by-number (c .before)
+returns-7 c =
+    let r = c .match .rest in
+    of-other _ _ (r .0 .0 .0 .0 .1) (r .0 .0 .0 .1) (r .0 .0 .1) (r .0 .1) (r .1) ∙ by-number (c .before)
 
 pub sized-spec : {M : Type 1} → statement M
 sized-spec =
@@ -50,4 +58,6 @@ sized-spec =
     returns-2
     returns-3
     returns-4
-    returns-5)
+    returns-5
+    returns-6
+    returns-7)

@@ -1,8 +1,7 @@
 -- `judge_row` meets its contract: the quote is tested behind the tables and watches.
 use mathlib.Core.Path.{refl}
 use borrow.Author.Needs.{needs}
-use Rattle.model.specs.Book.{watchfulAnswer}
-use Rattle.quoting.specs.Answers.{rowAnswer}
+use Rattle.model.specs.Book.{watchfulAnswer, quoteAnswer}
 use Rattle.judging.proofs.Answering.{tested-more}
 use Rattle.quoting.proofs.judged.judge_row.Statement.{statement}
 use Rattle.quoting.proofs.judged.judge_row.Tie as tie
@@ -14,7 +13,7 @@ with-quote-requires : tie.Need-with-quote-requires
 with-quote-requires c κs = search needs
 
 returns : tie.Need-returns
-unfolding rowAnswer watchfulAnswer
+unfolding quoteAnswer watchfulAnswer
 returns c = tested-more _ _ (c .before .judge-watchful .ensures) (c .with-quote .ensures) refl
 
 pub judge-row-spec : {M : Type 1} → statement M

@@ -1,7 +1,7 @@
--- `with_quote` meets its contract: the column count is tested, and behind it the position.
+-- `with_quote` meets its contract: the column count is tested, behind it the position, and last the output.
 use mathlib.Core.Path.{refl}
 use borrow.Author.Needs.{needs}
-use Rattle.judging.proofs.Answering.{tested-twice}
+use Rattle.judging.proofs.Answering.{tested-again}
 use Rattle.quoting.proofs.judged.with_quote.Statement.{statement}
 use Rattle.quoting.proofs.judged.with_quote.Tie as tie
 
@@ -14,8 +14,16 @@ with-test-requires c κs = search needs
 with-test-requires-2 : tie.Need-with-test-requires-2
 with-test-requires-2 c κs = search needs
 
+short-output-requires : tie.Need-short-output-requires
+short-output-requires c κs = search needs
+
+with-test-requires-3 : tie.Need-with-test-requires-3
+with-test-requires-3 c κs = search needs
+
 returns : tie.Need-returns
-returns c = tested-twice _ _ _ (c .before .before .with-test .ensures) (c .with-test2 .ensures) refl
+returns c =
+    let two = tested-again _ _ _ (c .before .before .before .before .with-test .ensures) (c .before .before .with-test2 .ensures) refl in
+    tested-again _ _ _ two (rw (c .before .short-output .ensures) at (c .with-test3 .ensures)) refl
 
 pub with-quote-spec : {M : Type 1} → statement M
-with-quote-spec = tie.close (tie.spec cast-d with-test-requires with-test-requires-2 returns)
+with-quote-spec = tie.close (tie.spec cast-d with-test-requires with-test-requires-2 short-output-requires with-test-requires-3 returns)

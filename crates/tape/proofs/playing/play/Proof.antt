@@ -2,20 +2,13 @@
 use native.Mathlib.Omega.{arith}
 use lib.ListN.{length-take}
 use Rattle.turns.proofs.Rooms.{quote-fits}
-use Rattle.asking.proofs.Places.{quote-few}
-use Rattle.tape.proofs.Plays.{columns-six, quote-played, other-played}
+use Rattle.tape.proofs.Plays.{quote-played, other-played}
 use borrow.Author.Needs.{needs}
 use Rattle.tape.proofs.playing.play.Statement.{statement}
 use Rattle.tape.proofs.playing.play.Tie as tie
 
-read-at-requires : tie.Need-read-at-requires
-read-at-requires c κs = search needs
-
-settings-hold-requires : tie.Need-settings-hold-requires
-settings-hold-requires c κs = search needs
-
-placed-requires : tie.Need-placed-requires
-placed-requires c κs = search needs
+wish-at-requires : tie.Need-wish-at-requires
+wish-at-requires c κs = search needs
 
 enum-known-wanted : tie.Need-enum-known-wanted
 enum-known-wanted c = search needs
@@ -24,10 +17,10 @@ cast-quote : tie.Need-cast-quote
 cast-quote c = search needs
 
 array-share-prefix-quote : tie.Need-array-share-prefix-quote
-array-share-prefix-quote c = omega (arith, columns-six _ _ (c .before .before .before .before .before .before .read-at .result) (c .before .before .before .before .before .before .read-at .ensures), quote-few _ _ _ (c .before .before .before .before .before .before .read-at .result) (c .before .before .before .placed .result) (c .before .before .before .before .before .before .read-at .ensures) (c .before .before .before .placed .ensures) (c .before .wanted .given .1))
+array-share-prefix-quote c = let wish = c .before .before .before .before .wish-at .ensures in omega (arith, wish .six, wish .few _ (c .before .wanted .given .1))
 
 slice-aggregate-quote : tie.Need-slice-aggregate-quote
-slice-aggregate-quote c = simp length-take (omega (arith, columns-six _ _ (c .before .before .before .before .before .before .before .read-at .result) (c .before .before .before .before .before .before .before .read-at .ensures), quote-few _ _ _ (c .before .before .before .before .before .before .before .read-at .result) (c .before .before .before .before .placed .result) (c .before .before .before .before .before .before .before .read-at .ensures) (c .before .before .before .before .placed .ensures) (c .before .before .wanted .given .1)))
+slice-aggregate-quote c = let wish = c .before .before .before .before .before .wish-at .ensures in simp length-take (omega (arith, wish .six, wish .few _ (c .before .before .wanted .given .1)))
 
 quote-requires : tie.Need-quote-requires
 quote-requires c κs = search needs
@@ -57,7 +50,7 @@ same-length-4 : tie.Need-same-length-4
 same-length-4 c = search needs
 
 returns : tie.Need-returns
-returns c = quote-played _ _ _ _ _ _ _ (c .before .before .before .before .before .before .before .before .before .before .before .before .before .before .before .before .before .before .before .before .before .before .before .before .before .before .read-at .result) (c .before .before .before .before .before .before .before .before .before .before .before .before .before .before .before .before .before .before .before .before .before .before .before .placed .result) (c .before .before .before .before .before .before .before .before .before .before .before .before .before .before .before .before .before .before .before .before .before .before .before .before .before .before .read-at .ensures) (c .before .before .before .before .before .before .before .before .before .before .before .before .before .before .before .before .before .before .before .before .before .before .before .before .settings-hold .ensures) (c .before .before .before .before .before .before .before .before .before .before .before .before .before .before .before .before .before .before .before .before .before .before .before .placed .ensures) (c .step .ensures) (c .before .before .before .before .before .before .before .before .before .before .before .before .before .before .before .before .before .before .before .before .before .wanted .given .1) (c .before .put-quote .ensures _ _ _ _ _ (c .before .before .before .before .before .before .before .before .before .before .before .before .before .quote3 .ensures))
+returns c = quote-played _ _ _ _ _ _ _ (c .before .before .before .before .before .before .before .before .before .before .before .before .before .before .before .before .before .before .before .before .before .before .before .before .wish-at .ensures) (c .step .ensures) (c .before .before .before .before .before .before .before .before .before .before .before .before .before .before .before .before .before .before .before .before .before .wanted .given .1) (c .before .put-quote .ensures _ _ _ _ _ (c .before .before .before .before .before .before .before .before .before .before .before .before .before .quote3 .ensures))
 
 same-length-5 : tie.Need-same-length-5
 same-length-5 c = search needs
@@ -72,15 +65,13 @@ same-length-8 : tie.Need-same-length-8
 same-length-8 c = search needs
 
 returns-2 : tie.Need-returns-2
-returns-2 c = other-played _ _ _ _ _ _ _ (c .before .before .before .before .before .before .before .before .before .before .before .before .before .before .before .before .before .before .before .before .read-at .result) (c .before .before .before .before .before .before .before .before .before .before .before .before .before .before .before .before .before .placed .result) (c .before .before .before .before .before .before .before .before .before .before .before .before .before .before .before .before .before .before .before .before .read-at .ensures) (c .before .before .before .before .before .before .before .before .before .before .before .before .before .before .before .before .before .before .settings-hold .ensures) (c .before .before .before .before .before .before .before .before .before .before .before .before .before .before .before .before .before .placed .ensures) (c .step2 .ensures) (c .before .before .before .before .before .before .before .before .before .before .before .before .before .before .before .before .match .keys2) (c .before .before .before .before .before .before .before .before .before .make-other .ensures)
+returns-2 c = other-played _ _ _ _ _ _ _ (c .before .before .before .before .before .before .before .before .before .before .before .before .before .before .before .before .before .before .wish-at .ensures) (c .step2 .ensures) (c .before .before .before .before .before .before .before .before .before .before .before .before .before .before .before .before .match .keys2) (c .before .before .before .before .before .before .before .before .before .make-other .ensures)
 
 pub play-spec : {M : Type 1} → statement M
 play-spec =
     tie.close
     (tie.spec
-    read-at-requires
-    settings-hold-requires
-    placed-requires
+    wish-at-requires
     enum-known-wanted
     cast-quote
     array-share-prefix-quote

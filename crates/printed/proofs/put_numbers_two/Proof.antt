@@ -1,0 +1,45 @@
+-- `put_numbers_two` meets its contract: the line of the two numbers that are read.
+use borrow.Author.Needs.{needs}
+use Rattle.printed.proofs.put_numbers_two.Statement.{statement}
+use Rattle.printed.proofs.put_numbers_two.Tie as tie
+
+add-two-at : tie.Need-add-two-at
+add-two-at c = search needs
+
+two-at-requires : tie.Need-two-at-requires
+two-at-requires c κs = search needs
+
+cast-n : tie.Need-cast-n
+cast-n c = search needs
+
+add-four-at : tie.Need-add-four-at
+add-four-at c = search needs
+
+four-at-requires : tie.Need-four-at-requires
+four-at-requires c κs = search needs
+
+slice-aggregate-put-line2 : tie.Need-slice-aggregate-put-line2
+slice-aggregate-put-line2 c = search needs
+
+put-line2-requires : tie.Need-put-line2-requires
+put-line2-requires c κs = search needs
+
+same-length : tie.Need-same-length
+same-length c = search needs
+
+returns : tie.Need-returns
+returns c = rw (← c .before .before .before .before .before .before .two-at .ensures, ← c .before .before .before .before .before .four-at .ensures) (c .before .before .put-line2 .ensures)
+
+pub put-numbers-two-spec : {M : Type 1} → statement M
+put-numbers-two-spec =
+    tie.close
+    (tie.spec
+    add-two-at
+    two-at-requires
+    cast-n
+    add-four-at
+    four-at-requires
+    slice-aggregate-put-line2
+    put-line2-requires
+    same-length
+    returns)

@@ -1,0 +1,20 @@
+-- `wish_at` meets its contract: what was read is judged by the head.
+use Rattle.tape.proofs.Plays.{wish-there}
+use borrow.Author.Needs.{needs}
+use Rattle.tape.proofs.playing.wish_at.Statement.{statement}
+use Rattle.tape.proofs.playing.wish_at.Tie as tie
+
+read-at-requires : tie.Need-read-at-requires
+read-at-requires c κs = search needs
+
+settings-hold-requires : tie.Need-settings-hold-requires
+settings-hold-requires c κs = search needs
+
+placed-requires : tie.Need-placed-requires
+placed-requires c κs = search needs
+
+returns : tie.Need-returns
+returns c = wish-there _ _ _ (c .before .before .before .read-at .result) (c .placed .result) (c .before .before .before .read-at .ensures) (c .before .settings-hold .ensures) (c .placed .ensures)
+
+pub wish-at-spec : {M : Type 1} → statement M
+wish-at-spec = tie.close (tie.spec read-at-requires settings-hold-requires placed-requires returns)

@@ -1,0 +1,26 @@
+-- `plays` meets its contract, by the tests it makes.
+use borrow.Author.Needs.{needs}
+use Rattle.tape_pieces.proofs.Advancing.{no-room, some-room, none-over}
+use Rattle.tape_pieces.proofs.plays.Statement.{statement}
+use Rattle.tape_pieces.proofs.plays.Tie as tie
+
+returns : tie.Need-returns
+returns c = none-over (c .if1 .taken)
+
+sub-if2 : tie.Need-sub-if2
+sub-if2 c = search needs
+
+returns-2 : tie.Need-returns-2
+returns-2 c = no-room (c .before .before .if1 .left) (c .if2 .taken)
+
+returns-3 : tie.Need-returns-3
+returns-3 c = some-room (c .before .before .before .if1 .left) (c .before .if2 .left) (rw (c .if3 .taken))
+
+ready-requires : tie.Need-ready-requires
+ready-requires c κs = search needs
+
+returns-4 : tie.Need-returns-4
+returns-4 c = some-room (c .before .before .before .before .if1 .left) (c .before .before .if2 .left) (rw (c .before .if3 .left) (c .ready .ensures))
+
+pub plays-spec : {M : Type 1} → statement M
+plays-spec = tie.close (tie.spec returns sub-if2 returns-2 returns-3 ready-requires returns-4)

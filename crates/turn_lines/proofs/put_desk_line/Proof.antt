@@ -1,0 +1,42 @@
+-- `put_desk_line` meets its contract, by the cases of the desk.
+use Rattle.turn_lines.proofs.Turning.{one-line, two-line}
+use borrow.Author.Needs.{needs}
+use Rattle.turn_lines.proofs.put_desk_line.Statement.{statement}
+use Rattle.turn_lines.proofs.put_desk_line.Tie as tie
+
+enum-told : tie.Need-enum-told
+enum-told c = search needs
+
+put-line-requires : tie.Need-put-line-requires
+put-line-requires c κs = search needs
+
+enum-told-2 : tie.Need-enum-told-2
+enum-told-2 c = search needs
+
+put-line2-requires : tie.Need-put-line2-requires
+put-line2-requires c κs = search needs
+
+same-length : tie.Need-same-length
+same-length c = search needs
+
+returns : tie.Need-returns
+returns c = rw (one-line _ _ (c .before .before .before .before .enum-told .given .1)) (c .before .before .put-line .ensures)
+
+same-length-2 : tie.Need-same-length-2
+same-length-2 c = search needs
+
+returns-2 : tie.Need-returns-2
+returns-2 c = rw (two-line _ _ (c .before .before .before .before .enum-told2 .given .1)) (c .before .before .put-line2 .ensures)
+
+pub put-desk-line-spec : {M : Type 1} → statement M
+put-desk-line-spec =
+    tie.close
+    (tie.spec
+    enum-told
+    put-line-requires
+    enum-told-2
+    put-line2-requires
+    same-length
+    returns
+    same-length-2
+    returns-2)

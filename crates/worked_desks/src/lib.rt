@@ -1,0 +1,30 @@
+// Two desks on a worked book: how they share the eight records, and what a quote brings to both.
+use head::Desk;
+use judged_calls::Worked;
+use judged_calls::open;
+use judged_calls::take;
+use judged_watches::end;
+use judged_watches::watch;
+
+// A desk's watches of 1 up to so many, one behind the other.
+fn watch_up_to(worked: Worked, desk: Desk, most: u32) -> Worked {
+    let mut now = worked;
+    let mut n: u32 = 0;
+    while n < most {
+        n += 1;
+        now = watch(now, desk, n);
+    }
+    now
+}
+
+// Desk one takes its 3 and the 2 left over, and gets 9 at its sixth; desk two takes its 3, and gets 9 at its fourth until
+// desk one gives one of the 2 back. A quote then brings the changes of desk one's watches, and behind them desk two's.
+pub fn show_desks() {
+    let opened = open(8);
+    let five = watch_up_to(opened, Desk::One, 6);
+    let eight = watch_up_to(five, Desk::Two, 4);
+    let seven = end(eight, Desk::One, 5);
+    let again = watch(seven, Desk::Two, 4);
+    watch(again, Desk::One, 5);
+    take(again, [5, 5]);
+}
