@@ -15,6 +15,7 @@ pub mod Pairing
 pub mod Replay
 pub mod Lengths
 pub mod Reached
+pub mod Places
 pub mod Kept
 pub mod ChangeFrames
 pub mod Heeding

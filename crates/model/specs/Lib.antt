@@ -1,5 +1,6 @@
 -- The definitions of the crate, in reading order.
 pub mod Rows
+pub mod Places
 pub mod Changes
 pub mod Shares
 pub mod Reference

@@ -1,9 +1,10 @@
 -- The print of every tape by the book model is the print by the reference model, which is lent nothing but lengths.
 use mathlib.Core.Path.{_≡_, refl, sym, ap, ap₂, _∙_}
+use mathlib.Core.Logic.{_⊎_, inl, inr}
 use Prim.Native.Nat.{ℕ, zero, suc, _≤_, zero-le}
 use native.Mathlib.Nat.{le-refl, le-trans}
 use native.Mathlib.Omega.{arith}
-use mathlib.Core.Bool.{Bool, cond}
+use mathlib.Core.Bool.{Bool, true, false, cond}
 use mathlib.Core.List.{List, [], _++_}
 use lib.ListN.{length, take, drop, replicate, length-replicate}
 use lib.Seq.{take-append-seam, take-all}
@@ -15,15 +16,17 @@ use Rattle.head.specs.Desks.{watchOf}
 use Rattle.head.specs.Refusals.{granted}
 use Rattle.head.specs.Heads.{lastPosition}
 use Rattle.head.proofs.Numbers.{zero-passed}
-use Rattle.frames.specs.Frames.{readAt}
+use Rattle.frames.specs.Frames.{Saying, told, ended, refused, readAt}
 use Rattle.model.specs.Changes.{changeRoom}
 use Rattle.model.specs.Reference.{Reference, Lengths, unopened, newest, opened, headOf, tells, foretells, referenceStep}
 use Rattle.model.specs.Calls.{Call, Open, Quote, Look, Watch, End, Past, Pair, Unpair, Due, Preview, Outputs, Lent, bookStep, lengthsOf, shown, expectedStep, runs, worldFirst}
+use Rattle.model.specs.Claims.{isOpening}
 use Rattle.model.proofs.Simulation.{Simulation, Agree, referenceWith, Bounded, bounded, in-range, in-pair-range}
 use Rattle.model.proofs.Written.{written-fits, watch-written, pair-written}
 use Rattle.model.proofs.Replay.{call-agrees, replay-ends}
 use Rattle.model.proofs.Lengths.{either-way, long-after, lengths-kept, since-long}
-use Rattle.asking.specs.Asking.{Asked, finished, unread, misplaced, request, asked}
+use Rattle.model.proofs.Places.{lengths-unread, opened-kept}
+use Rattle.asking.specs.Asking.{Asked, finished, unread, misplaced, request, asks, inPlace, placed, asked}
 use Rattle.tape_model.specs.Print.{Answered, linesOf, textOf}
 use Rattle.tape_model.specs.Play.{Played, playAsked, playAt, printFrom, print, referenceMake, Player, bookMake, begun}
 use Rattle.tape_model.specs.Ample.{Reaches, start, onward}
@@ -139,19 +142,39 @@ module _ (lengths : Lengths) (s : Reference) where
   laid-text Due o = refl
   laid-text (Preview x) o = refl
 
--- between two frames: the book simulates the reference model, and what it is lent has the lengths that the reference model is lent
+-- lengths of a book's own give the answers of the reference model that is lent these: they are the same; or an opening was accepted, from
+-- when on only those of the outputs count
+abbrev pub Answering : Reference → Lengths → Lengths → Type 0
+Answering s own lengths = (own ≡ lengths) ⊎ ((opened s ≡ true) × (own .bytes ≡ lengths .bytes) × (own .cells ≡ lengths .cells))
+
+-- a call is no second opening
+abbrev Once : Reference → Call → Type 0
+Once s c = opened s ≡ true → isOpening c ≡ false
+
+module _ (s : Reference) (own lengths : Lengths) (c : Call) (once : Once s c) where
+  -- then the reference model tells the same
+  told-same : Answering s own lengths → referenceStep c own s ≡ referenceStep c lengths s
+  told-same (inl e) = ap (λ (n : Lengths). referenceStep c n s) e
+  told-same (inr t) = lengths-unread c (once (t .0)) own lengths (t .1) (t .2) s
+
+  -- and answers so after it
+  answering-still : (n : Lengths) → Answering s own lengths → Answering (referenceStep c n s .next) own lengths
+  answering-still n (inl e) = inl e
+  answering-still n (inr t) = inr (opened-kept c (once (t .0)) n s ∙ t .0, t .1, t .2)
+
+-- between two frames: the book simulates the reference model, and what it is lent has lengths that give the same answers
 pub record Alike (lengths : Lengths) (s : Reference) (k : Player) : Type 0 where
   pub simulation : Simulation (referenceWith s (k .world .lent)) (k .world)
-  pub lent : lengthsOf (k .world .lent) (k .outputs) ≡ lengths
+  pub lent : Answering s (lengthsOf (k .world .lent) (k .outputs)) lengths
 
-module _ (lengths : Lengths) (c : Call) (s : Reference) (k : Player) (v : Alike lengths s k) where
+module _ (lengths : Lengths) (c : Call) (s : Reference) (k : Player) (v : Alike lengths s k) (once : Once s c) where
   -- what is lent
   abbrev l : Lent
   l = k .world .lent
 
   -- the reference model tells the same
   told-alike : referenceStep c (lengthsOf l (k .outputs)) s ≡ referenceStep c lengths s
-  told-alike = ap (λ (n : Lengths). referenceStep c n s) (v .lent)
+  told-alike = told-same s (lengthsOf l (k .outputs)) lengths c once (v .lent)
 
   -- the call is seen alike, and the book simulates the reference model after it
   agree : Agree c (k .outputs) (referenceWith s l) (k .world)
@@ -177,10 +200,13 @@ module _ (lengths : Lengths) (c : Call) (s : Reference) (k : Player) (v : Alike 
   left-alike = rw (← told-alike) record {
     simulation = record { head = j .head; lent = refl; since = rw (j .lent) (j .since) };
     lent =
-        rw (j .lent, agree .0)
-        (outputs-alike (shown next l) (k .outputs) _ (length-laid (referenceStep c (lengthsOf l (k .outputs)) s .bytes) (k .outputs .bytes) (bytes-room l (k .outputs) c s (bounded s l (v .simulation .since))))
-        ∙ lengths-kept next l (shown next l) (k .outputs) (long-after l (k .outputs) c s (since-long s l (v .simulation .since))) (j .since))
-        ∙ v .lent;
+        rw (
+          j .lent,
+          agree .0,
+          outputs-alike (shown next l) (k .outputs) _ (length-laid (referenceStep c (lengthsOf l (k .outputs)) s .bytes) (k .outputs .bytes) (bytes-room l (k .outputs) c s (bounded s l (v .simulation .since)))),
+          lengths-kept next l (shown next l) (k .outputs) (long-after l (k .outputs) c s (since-long s l (v .simulation .since))) (j .since),
+        )
+        (answering-still s (lengthsOf l (k .outputs)) lengths c once (lengthsOf l (k .outputs)) (v .lent));
   }
     where
       next : Reference
@@ -192,9 +218,43 @@ module _ (lengths : Lengths) (c : Call) (s : Reference) (k : Player) (v : Alike 
 -- ---- one frame, and all of them
 
 -- an opening was accepted by both models or by neither
-begun-alike : {lengths : Lengths} (s : Reference) (k : Player) → Alike lengths s k → begun k ≡ opened s
+pub begun-alike : {lengths : Lengths} (s : Reference) (k : Player) → Alike lengths s k → begun k ≡ opened s
 unfolding begun opened headOf
 begun-alike s k v = rw (v .simulation .head)
+
+-- what is asked for is an opening
+unfoldable asksOpening : Asked → Bool
+asksOpening finished = false
+asksOpening (unread e) = false
+asksOpening misplaced = false
+asksOpening (request c) = isOpening c
+
+-- once one was accepted another is out of place
+call-once : (c : Call) → asksOpening (placed true (request c)) ≡ false
+unfolding placed inPlace asksOpening isOpening
+call-once (Open d N directions) = refl
+call-once (Quote x) = refl
+call-once (Look n) = refl
+call-once (Watch desk n) = refl
+call-once (End desk n) = refl
+call-once (Past n1 n2) = refl
+call-once (Pair n1 n2) = refl
+call-once Unpair = refl
+call-once Due = refl
+call-once (Preview x) = refl
+
+placed-once : (a : Asked) → asksOpening (placed true a) ≡ false
+unfolding placed asksOpening
+placed-once finished = refl
+placed-once (unread e) = refl
+placed-once misplaced = refl
+placed-once (request c) = call-once c
+
+asked-once : (r : Saying) (columns : List ℕ) → asksOpening (asked true r columns) ≡ false
+unfolding asked asksOpening
+asked-once (told m) columns = placed-once (asks m columns)
+asked-once ended columns = refl
+asked-once (refused e) columns = refl
 
 -- two players after one frame: the same number, the same lines and the same place, both over or neither, and the models alike
 pub record Matches (lengths : Lengths) (one : Played Player) (other : Played Reference) : Type 0 where
@@ -206,14 +266,19 @@ pub record Matches (lengths : Lengths) (one : Played Player) (other : Played Ref
 
 module _ (lengths : Lengths) where
   -- what is asked at a place is played alike
-  asked-matches : (a : Asked) (next : ℕ) (s : Reference) (k : Player) → Alike lengths s k
+  asked-matches : (a : Asked) (next : ℕ) (s : Reference) (k : Player) → Alike lengths s k → (opened s ≡ true → asksOpening a ≡ false)
       → Matches lengths (playAsked begun bookMake a next k) (playAsked opened (referenceMake lengths) a next s)
-  unfolding playAsked
-  asked-matches finished next s k v = record { number = refl; text = refl; next = refl; over = refl; state = v }
-  asked-matches (unread e) next s k v = record { number = refl; text = refl; next = refl; over = refl; state = v }
-  asked-matches misplaced next s k v = record { number = refl; text = refl; next = refl; over = refl; state = v }
-  asked-matches (request c) next s k v =
-      record { number = number-alike lengths c s k v; text = text-alike lengths c s k v; next = refl; over = refl; state = left-alike lengths c s k v }
+  unfolding playAsked asksOpening
+  asked-matches finished next s k v once = record { number = refl; text = refl; next = refl; over = refl; state = v }
+  asked-matches (unread e) next s k v once = record { number = refl; text = refl; next = refl; over = refl; state = v }
+  asked-matches misplaced next s k v once = record { number = refl; text = refl; next = refl; over = refl; state = v }
+  asked-matches (request c) next s k v once = record {
+    number = number-alike lengths c s k v once;
+    text = text-alike lengths c s k v once;
+    next = refl;
+    over = refl;
+    state = left-alike lengths c s k v once;
+  }
 
   -- one frame is played alike by both models
   pub frame-agrees : (tape : List ℕ) (place : ℕ) (s : Reference) (k : Player) → Alike lengths s k
@@ -221,7 +286,8 @@ module _ (lengths : Lengths) where
   unfolding playAt
   frame-agrees tape place s k v =
       let read = readAt tape place in
-      rw (begun-alike s k v) (asked-matches (asked (opened s) (read .says) (read .columns)) (read .next) s k v)
+      rw (begun-alike s k v)
+      (asked-matches (asked (opened s) (read .says) (read .columns)) (read .next) s k v (λ o. rw o (asked-once (read .says) (read .columns))))
 
   -- and so is any number of frames
   pub frames-agree : (frames : ℕ) (tape : List ℕ) (place : ℕ) (s : Reference) (k : Player) → Alike lengths s k
@@ -238,9 +304,9 @@ abbrev pub atFirst : Lent → Outputs → Player
 atFirst l o = record { world = worldFirst l; outputs = o }
 
 -- it stands alike with the reference model before any opening
-at-first : (l : Lent) (o : Outputs) → Alike (lengthsOf l o) unopened (atFirst l o)
+pub at-first : (l : Lent) (o : Outputs) → Alike (lengthsOf l o) unopened (atFirst l o)
 unfolding runs
-at-first l o = record { simulation = replay-ends [] l; lent = refl }
+at-first l o = record { simulation = replay-ends [] l; lent = inl refl }
 
 -- the print of every tape by the book is the print by the reference model, whatever the tables, the watch records and the outputs hold
 -- and however long they are

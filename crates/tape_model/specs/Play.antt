@@ -7,8 +7,10 @@ use Rattle.head.specs.declared.Refusal.the-variants.{OutOfPlace}
 use Rattle.head.specs.Refusals.{number}
 use Rattle.head.specs.Heads.{settingsHold}
 use Rattle.frames.specs.Frames.{readAt}
+use Rattle.model.specs.Rows.{Tables}
 use Rattle.model.specs.Reference.{Reference, Lengths, referenceStep}
 use Rattle.model.specs.Calls.{Call, Outputs, World, bookStep}
+use Rattle.model.specs.Promises.{world}
 use Rattle.asking.specs.Asking.{Asked, finished, unread, misplaced, request, asked}
 use Rattle.tape_model.specs.Print.{Answered, refusalLine, textOf}
 
@@ -68,6 +70,10 @@ referenceMake lengths c s =
 pub record Player : Type 0 where
   pub world : World
   pub outputs : Outputs
+
+-- the player with other tables
+abbrev pub on : Tables → Player → Player
+on u k = record { world = world (k .world .head) u (k .world .lent .watches); outputs = k .outputs }
 
 -- a call made by the book model; each call is lent the same cells for positions
 unfoldable pub bookMake : Call → Player → Answered × Player
