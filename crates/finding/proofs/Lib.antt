@@ -3,4 +3,3 @@ pub mod Scanning
 pub mod Blocks
 pub mod Looping
 pub mod Finding
-pub mod Seeking

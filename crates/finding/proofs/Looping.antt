@@ -6,12 +6,14 @@ use native.Mathlib.Numerals.{add-one}
 use native.Mathlib.Omega.{arith}
 use mathlib.Core.Bool.{Bool, true, false, _&&_, cond}
 use mathlib.Core.List.{List}
+use lib.Dec.{ltb}
 use lib.ListN.{length, drop}
+use borrow.Author.Tests.{ltb-false, lt-ltb, le-ltb}
 use Rattle.lists.specs.Lists.{filter, run}
 use Rattle.lists.proofs.Booleans.{clash}
 use Rattle.dominance.specs.declared.Comparison.{Comparison}
 use Rattle.dominance.specs.Compared.{compared}
-use Rattle.finding.specs.Found.{live, liveIn, dullIn, Rows, rows, over, under, youngest, Fits, Scan, Outcome, through, stopped, Room}
+use Rattle.finding.specs.Found.{live, liveIn, takenLive, dullIn, Rows, rows, over, under, youngest, Fits, Scan, Outcome, through, stopped, Room}
 use Rattle.finding.specs.declared.Found.{Found}
 use Rattle.finding.proofs.Blocks.{live-more, none-live, dull-none, dull-more, skipped}
 
@@ -33,6 +35,30 @@ count-turn {uppers} {from} {count} {i} v h n e o = record {
   count≡ = rw (live-more uppers from i, ← v .count≡, ← e);
 }
 
+-- how many rows are taken for live below a place: one where there are fewer than 16
+pub taken-few : (dense : Bool) (uppers : List ℕ) (to : ℕ) → to < 16 → 1 ≡ takenLive dense uppers to
+unfolding takenLive
+taken-few dense uppers to h = rw (lt-ltb to 16 h)
+
+-- all 16 in a dense book
+pub taken-dense : (dense : Bool) (uppers : List ℕ) (to : ℕ) → 16 ≤ to → dense ≡ true → 16 ≡ takenLive dense uppers to
+unfolding takenLive
+taken-dense dense uppers to h e = rw (le-ltb to 16 h, e)
+
+-- those that are live in another
+pub taken-counted : (dense : Bool) (uppers : List ℕ) (to : ℕ) → 16 ≤ to → dense ≡ false → {n : ℕ} → n ≡ liveIn uppers (to - 16) 16 → n ≡ takenLive dense uppers to
+unfolding takenLive
+taken-counted dense uppers to h e f = f ∙ rw (le-ltb to 16 h, e)
+
+-- where more than one is, there are 16 rows
+pub sixteen-below : (dense : Bool) (uppers : List ℕ) (to : ℕ) {n : ℕ} → n ≡ takenLive dense uppers to → 8 < n → 16 ≤ to
+unfolding takenLive
+sixteen-below dense uppers to {n} e h = go (ltb to 16) refl e
+  where
+    go : (x : Bool) → ltb to 16 ≡ x → n ≡ cond x 1 (cond dense 16 (liveIn uppers (to - 16) 16)) → 16 ≤ to
+    go true w f = absurd (omega arith)
+    go false w f = ltb-false to 16 w
+
 -- the cells of a row lie within those of the rows below b
 pub row-in : (i b d : ℕ) → i < b → i * d + d ≤ b * d
 row-in i b d h = rw (← suc-mul i d) (mul-le-mul-right d h)
@@ -47,6 +73,10 @@ module _ (s : Rows) where
   fits-less {a} {b} h v =
       let m : a * s .d ≤ b * s .d = mul-le-mul-right (s .d) h in
       record { quoted = v .quoted; columns = omega (arith, v .columns); uppers = omega (arith, v .uppers); few = omega (arith, v .few) }
+
+  -- the 16 rows below a place lie within the table if the rows below it do
+  pub fits-at : {b : ℕ} → 16 ≤ b → Fits s b → Fits s (b - 16 + 16)
+  fits-at {b} h v = let e : b - 16 + 16 ≡ b = omega arith in rw e v
 
   -- i of 16 rows have been compared
   pub record Comparing (from : ℕ) (all : Bool) (start i : ℕ) : Type 0 where
@@ -112,28 +142,27 @@ module _ (s : Rows) where
       → ((b : ℕ) (rest : List ℕ) → i - 1 < b → Scan s (suc (i - 1)) b rest places left → Outcome s (i - 1) b rest places' f) → (b : ℕ) (rest : List ℕ) → i ≤ b → Scan s i b rest places left → Outcome s (i - 1) b rest places' f
   row-below {i} h o b rest l v = let e : suc (i - 1) ≡ i = omega arith in o b rest (omega arith) (rw e v)
 
-  -- what one block more says
-  pub block-below : {i left : ℕ} {places places' : List ℕ} {f : Found} → 16 ≤ i
-      → ((b : ℕ) (rest : List ℕ) → i - 16 + 16 ≤ b → Scan s (i - 16 + 16) b rest places left → Outcome s (i - 16) b rest places' f) → (b : ℕ) (rest : List ℕ) → i ≤ b → Scan s i b rest places left → Outcome s (i - 16) b rest places' f
-  block-below {i} h o b rest l v = let e : i - 16 + 16 ≡ i = omega arith in o b rest (omega arith) (rw e v)
-
-  -- the rows left were gone through
-  pub scan-rest : {from to : ℕ} {before : List ℕ} {at : ℕ} {places : List ℕ} {i left : ℕ} → Scanning from to before at places i left → (places' : List ℕ) (f : Found) → Room s from places' (f .at)
-      → ((b : ℕ) (rest : List ℕ) → i ≤ b → Scan s i b rest places left → Outcome s from b rest places' f) → Room s from places' (f .at) × ((b : ℕ) (rest : List ℕ) → to ≤ b → Scan s to b rest before at → Outcome s from b rest places' f)
-  scan-rest v places' f r o = (r, λ b rest m w. o b rest (omega (arith, v .most)) (v .scanned b rest m w))
-
   -- a block of rows need not be gone through
-  pub block-passed : {from at : ℕ} {places : List ℕ} (f : Found) → f .at ≡ at → f .last ≡ 0 → Room s (from + 16) places at
-      → ((q : ℕ) → from ≤ q → q < from + 16 → live (s .uppers) q ≡ true → (over s q ≡ false) × (under s q ≡ false))
-      → Room s from places (f .at) × ((b : ℕ) (rest : List ℕ) → from + 16 ≤ b → Scan s (from + 16) b rest places at → Outcome s from b rest places f)
-  block-passed f e z r g = (
+  pub block-passed : {from to at : ℕ} {places : List ℕ} (f : Found) → f .at ≡ at → f .last ≡ 0 → from ≤ to → Room s to places at
+      → ((q : ℕ) → from ≤ q → q < to → live (s .uppers) q ≡ true → (over s q ≡ false) × (under s q ≡ false))
+      → Room s from places (f .at) × ((b : ℕ) (rest : List ℕ) → to ≤ b → Scan s to b rest places at → Outcome s from b rest places f)
+  block-passed {from} {to} f e z h r g = let p : from + (to - from) ≡ to = omega arith in (
     rw e (record { least = omega (arith, r .least); most = r .most }),
-    λ b rest l v. through z (rw e (skipped s 16 l g v)),
+    λ b rest l v. through z (rw e (skipped s (to - from) (omega arith) (λ q u m. g q u (omega arith)) (rw p v))),
   )
 
-  pub none-in-block : (from : ℕ) → liveIn (s .uppers) from 16 ≡ 0 → (q : ℕ) → from ≤ q → q < from + 16 → live (s .uppers) q ≡ true → (over s q ≡ false) × (under s q ≡ false)
-  unfolding liveIn
-  none-in-block from e q h l t = absurd (clash (live (s .uppers) q) t (none-live (live (s .uppers)) from 16 e q h l))
+  -- none of the rows below a place is live where none is taken for it
+  pub none-taken : (dense : Bool) {from to : ℕ} → to ≤ from + 16 → takenLive dense (s .uppers) to ≡ 0 → (q : ℕ) → from ≤ q → q < to → live (s .uppers) q ≡ true
+      → (over s q ≡ false) × (under s q ≡ false)
+  unfolding takenLive liveIn
+  none-taken dense {from} {to} h e q u l t = go (ltb to 16) refl dense e
+    where
+      go : (x : Bool) → ltb to 16 ≡ x → (y : Bool) → cond x 1 (cond y 16 (length (filter (live (s .uppers)) (run (to - 16) 16)))) ≡ 0 → (over s q ≡ false) × (under s q ≡ false)
+      go true w y z = absurd (omega arith)
+      go false w true z = absurd (omega arith)
+      go false w false z =
+          let k : 16 ≤ to = ltb-false to 16 w in
+          absurd (clash (live (s .uppers) q) t (none-live (live (s .uppers)) (to - 16) 16 z q (omega arith) (omega arith)))
 
   -- all rows have been gone through
   pub scan-end : {from to : ℕ} {before : List ℕ} {at : ℕ} {places : List ℕ} {i left : ℕ} → Scanning from to before at places i left → i ≤ from → (f : Found)

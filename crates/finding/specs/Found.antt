@@ -1,9 +1,9 @@
 -- What a quote finds among the rows of a table: those that it retires, and the youngest row over it.
 use mathlib.Core.Path.{_≡_}
 use Prim.Native.Nat.{ℕ, zero, suc, _+_, _-_, _*_, _≤_, _<_}
-use mathlib.Core.Bool.{Bool, true, false, _&&_, not}
+use mathlib.Core.Bool.{Bool, true, false, _&&_, not, cond}
 use mathlib.Core.List.{List, _++_}
-use lib.Dec.{eqb}
+use lib.Dec.{ltb, eqb}
 use lib.ListN.{length, getD, take, drop}
 use Rattle.lists.specs.Lists.{filter, any, lastOr, run}
 use Rattle.dominance.specs.Dominance.{noWorse, dominates, someBetter}
@@ -16,6 +16,10 @@ live uppers i = eqb (getD uppers i 0) 0
 -- how many of the k rows from place a on are live
 unfoldable pub liveIn : List ℕ → ℕ → ℕ → ℕ
 liveIn uppers a k = length (filter (live uppers) (run a k))
+
+-- how many of the 16 rows below a place are taken for live: one where there are fewer, all in a dense book, else those that are
+unfoldable pub takenLive : Bool → List ℕ → ℕ → ℕ
+takenLive dense uppers to = cond (ltb to 16) 1 (cond dense 16 (liveIn uppers (to - 16) 16))
 
 -- a table of rows of d columns, the directions, the rows' upper ends, and a quote
 pub record Rows : Type 0 where

@@ -1,11 +1,10 @@
 // What a quote finds among the rows of a table: those that it retires, and the youngest row over it, sought from the youngest row back.
 ghost use mathlib.Core.Path.{_≡_};
-ghost use mathlib.Core.Bool.{cond, _&&_};
+ghost use mathlib.Core.Bool.{cond};
 ghost use Prim.Native.Nat.{ℕ, suc, _+_, _-_, _*_, _≤_, _<_};
 ghost use mathlib.Core.List.{List};
-ghost use lib.Dec.{eqb};
-ghost use lib.ListN.{length, getD, set, drop};
-ghost use Rattle.finding.specs.Found.{liveIn, dullIn, rows, retired, youngest, Fits, Scan, Outcome, Room, Sound, Finds};
+ghost use lib.ListN.{length, set};
+ghost use Rattle.finding.specs.Found.{liveIn, takenLive, dullIn, rows, retired, youngest, Fits, Scan, Outcome, Room, Sound, Finds};
 use dominance::compare;
 
 // What was found: the place in the list of retired rows from which on they are listed, and the number of the youngest row over the
@@ -119,7 +118,7 @@ fn dull_six(directions: u32, columns: &[u32], uppers: &[u32], quote: &[u32], fro
 
 // The same, where the number of columns is one of 01's by a function of its own: the loop over the columns is then unrolled, and rows are
 // compared side by side.
-fn dull_columns(
+pub fn dull_columns(
     directions: u32,
     d: usize,
     columns: &[u32],
@@ -223,51 +222,70 @@ fn scan(
     Found { at: left, last: 0 }
 }
 
-// Goes through the 16 rows from a place on: none where none is live, and where most are, one by one only if one is comparable.
+// Where the rows begin that are gone through at once below a place: 16 rows before it, or at the first one.
+fn block_start(from: usize, to: usize) -> usize
+    requires { ⌜ from < to ⌝ }
+    ensures { λ r. ⌜ (from ≤ r) × (r < to) ⌝ }
+    ensures { λ r. ⌜ to ≤ r + 16 ⌝ }
+{
+    if to - from < 16 { from } else { to - 16 }
+}
+
+// How many of the 16 rows below a place are taken for live: all of them in a dense book, where most rows are, else those that are; one
+// where there are fewer rows below it.
+fn taken_live(dense: bool, uppers: &[u32], to: usize) -> u32
+    requires { ⌜ to ≤ length (now uppers) ⌝ }
+    ensures { λ r. ⌜ r ≡ takenLive dense (now (uppers .entry)) to ⌝ }
+{
+    if to < 16 {
+        return 1;
+    }
+    if dense {
+        return 16;
+    }
+    count_live(uppers, to - 16)
+}
+
+// Goes through the rows from a place on and below another, which are 16 at most: none where none is live, and where most are taken for
+// live, one by one only if one of the 16 rows below that place is comparable.
 fn scan_block(
     directions: u32,
     d: usize,
     columns: &[u32],
     uppers: &[u32],
     quote: &[u32],
+    dense: bool,
     from: usize,
+    to: usize,
     places: &mut [u16],
     at: usize,
 ) -> Found
-    requires { ⌜ Fits (rows d directions (now columns) (now uppers) (now quote)) (from + 16) ⌝ }
-    requires { ⌜ Room (rows d directions (now columns) (now uppers) (now quote)) (from + 16) (now places) at ⌝ }
+    requires { ⌜ (from ≤ to) × (to ≤ from + 16) ⌝ }
+    requires { ⌜ Fits (rows d directions (now columns) (now uppers) (now quote)) to ⌝ }
+    requires { ⌜ Room (rows d directions (now columns) (now uppers) (now quote)) to (now places) at ⌝ }
     ensures { λ r. ⌜ Room (rows d directions (now (columns .entry)) (now (uppers .entry)) (now (quote .entry))) from (now (places .exit)) (r .at) ⌝ }
-    ensures { λ r. ⌜ ((b : ℕ) (rest : List ℕ) → from + 16 ≤ b → Scan (rows d directions (now (columns .entry)) (now (uppers .entry)) (now (quote .entry))) (from + 16) b rest (now (places .entry)) at → Outcome (rows d directions (now (columns .entry)) (now (uppers .entry)) (now (quote .entry))) from b rest (now (places .exit)) r) ⌝ }
+    ensures { λ r. ⌜ ((b : ℕ) (rest : List ℕ) → to ≤ b → Scan (rows d directions (now (columns .entry)) (now (uppers .entry)) (now (quote .entry))) to b rest (now (places .entry)) at → Outcome (rows d directions (now (columns .entry)) (now (uppers .entry)) (now (quote .entry))) from b rest (now (places .exit)) r) ⌝ }
 {
-    let live = count_live(uppers, from);
+    let live = taken_live(dense, uppers, to);
     if live == 0 {
         return Found { at, last: 0 };
     }
     if 8 < live {
-        if dull_columns(directions, d, columns, uppers, quote, from) {
+        if dull_columns(directions, d, columns, uppers, quote, to - 16) {
             return Found { at, last: 0 };
         }
     }
-    scan(
-        directions,
-        d,
-        columns,
-        uppers,
-        quote,
-        from,
-        from + 16,
-        places,
-        at,
-    )
+    scan(directions, d, columns, uppers, quote, from, to, places, at)
 }
 
 // Goes through the rows below a place down to another, by blocks of 16, or down to a live row over the quote.
-fn scan_blocks(
+pub fn scan_blocks(
     directions: u32,
     d: usize,
     columns: &[u32],
     uppers: &[u32],
     quote: &[u32],
+    dense: bool,
     from: usize,
     to: usize,
     places: &mut [u16],
@@ -281,25 +299,38 @@ fn scan_blocks(
 {
     let mut i = to;
     let mut left = at;
-    while 16 <= i - from {
-        i -= 16;
-        let found = scan_block(directions, d, columns, uppers, quote, i, places, left);
+    while from < i {
+        let next = block_start(from, i);
+        let found = scan_block(
+            directions,
+            d,
+            columns,
+            uppers,
+            quote,
+            dense,
+            next,
+            i,
+            places,
+            left,
+        );
         left = found.at;
         if 0 < found.last {
             return found;
         }
+        i = next;
     }
-    scan(directions, d, columns, uppers, quote, from, i, places, left)
+    Found { at: left, last: 0 }
 }
 
 // Finds which of the rows from a place on and below another a quote retires, and the youngest of them over it, where the rows are as
-// calls leave them: no row need be gone through beyond the youngest live one over the quote.
+// calls leave them: no row need be gone through beyond the youngest live one over the quote. In a dense book most rows are live.
 pub fn find_sound(
     directions: u32,
     d: usize,
     columns: &[u32],
     uppers: &[u32],
     quote: &[u32],
+    dense: bool,
     from: usize,
     to: usize,
     places: &mut [u16],
@@ -311,128 +342,16 @@ pub fn find_sound(
     ensures { λ r. ⌜ Finds (rows d directions (now (columns .entry)) (now (uppers .entry)) (now (quote .entry))) from to (now (places .exit)) r ⌝ }
 {
     let end = places.len();
-    scan_blocks(directions, d, columns, uppers, quote, from, to, places, end)
-}
-
-// The number of the youngest of the rows from a place on and below another that is over the quote, counted from 1, or 0.
-fn seek(
-    directions: u32,
-    d: usize,
-    columns: &[u32],
-    uppers: &[u32],
-    quote: &[u32],
-    from: usize,
-    to: usize,
-) -> usize
-    requires { ⌜ from ≤ to ⌝ }
-    requires { ⌜ Fits (rows d directions (now columns) (now uppers) (now quote)) to ⌝ }
-    ensures { λ r. ⌜ r ≡ youngest (rows d directions (now (columns .entry)) (now (uppers .entry)) (now (quote .entry))) from to ⌝ }
-{
-    let mut i = to;
-    while from < i {
-        i -= 1;
-        let c = compare(directions, d, quote, columns, i * d);
-        if c.under_older() {
-            return i + 1;
-        }
-    }
-    0
-}
-
-// The same of the 16 rows from a place on: row by row only where one is comparable.
-fn seek_block(
-    directions: u32,
-    d: usize,
-    columns: &[u32],
-    uppers: &[u32],
-    quote: &[u32],
-    from: usize,
-) -> usize
-    requires { ⌜ Fits (rows d directions (now columns) (now uppers) (now quote)) (from + 16) ⌝ }
-    ensures { λ r. ⌜ r ≡ youngest (rows d directions (now (columns .entry)) (now (uppers .entry)) (now (quote .entry))) from (from + 16) ⌝ }
-{
-    if dull_columns(directions, d, columns, uppers, quote, from) {
-        return 0;
-    }
-    seek(directions, d, columns, uppers, quote, from, from + 16)
-}
-
-// The same of any rows, by blocks of 16.
-fn seek_blocks(
-    directions: u32,
-    d: usize,
-    columns: &[u32],
-    uppers: &[u32],
-    quote: &[u32],
-    from: usize,
-    to: usize,
-) -> usize
-    requires { ⌜ from ≤ to ⌝ }
-    requires { ⌜ Fits (rows d directions (now columns) (now uppers) (now quote)) to ⌝ }
-    ensures { λ r. ⌜ r ≡ youngest (rows d directions (now (columns .entry)) (now (uppers .entry)) (now (quote .entry))) from to ⌝ }
-{
-    let mut i = to;
-    while 16 <= i - from {
-        i -= 16;
-        let number = seek_block(directions, d, columns, uppers, quote, i);
-        if 0 < number {
-            return number;
-        }
-    }
-    seek(directions, d, columns, uppers, quote, from, i)
-}
-
-// Where the rows that are left to go through end: at the row that was found, or at the first.
-fn end_of(last: usize, from: usize) -> usize
-    ensures { λ r. ⌜ r ≡ cond (eqb last 0) from (last - 1) ⌝ }
-{
-    if last == 0 { from } else { last - 1 }
-}
-
-// Lists the rows from a place on and below another that a quote retires. Returns from where on they are listed.
-fn retire(
-    directions: u32,
-    d: usize,
-    columns: &[u32],
-    uppers: &[u32],
-    quote: &[u32],
-    from: usize,
-    to: usize,
-    places: &mut [u16],
-) -> usize
-    requires { ⌜ from ≤ to ⌝ }
-    requires { ⌜ Fits (rows d directions (now columns) (now uppers) (now quote)) to ⌝ }
-    requires { ⌜ to ≤ length (now places) ⌝ }
-    ensures { λ r. ⌜ drop r (now (places .exit)) ≡ retired (rows d directions (now (columns .entry)) (now (uppers .entry)) (now (quote .entry))) from to ⌝ }
-    ensures { λ r. ⌜ r ≤ length (now (places .exit)) ⌝ }
-{
-    let mut end = to;
-    let mut at = places.len();
-    while from < end {
-        let found = scan_blocks(directions, d, columns, uppers, quote, from, end, places, at);
-        at = found.at;
-        end = end_of(found.last, from);
-    }
-    at
-}
-
-// Finds which of the rows from a place on and below another a quote retires, and the youngest of them over it, on any rows.
-pub fn find_any(
-    directions: u32,
-    d: usize,
-    columns: &[u32],
-    uppers: &[u32],
-    quote: &[u32],
-    from: usize,
-    to: usize,
-    places: &mut [u16],
-) -> Found
-    requires { ⌜ from ≤ to ⌝ }
-    requires { ⌜ Fits (rows d directions (now columns) (now uppers) (now quote)) to ⌝ }
-    requires { ⌜ to ≤ length (now places) ⌝ }
-    ensures { λ r. ⌜ Finds (rows d directions (now (columns .entry)) (now (uppers .entry)) (now (quote .entry))) from to (now (places .exit)) r ⌝ }
-{
-    let at = retire(directions, d, columns, uppers, quote, from, to, places);
-    let last = seek_blocks(directions, d, columns, uppers, quote, from, to);
-    Found { at, last }
+    scan_blocks(
+        directions,
+        d,
+        columns,
+        uppers,
+        quote,
+        dense,
+        from,
+        to,
+        places,
+        end,
+    )
 }

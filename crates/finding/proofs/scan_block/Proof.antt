@@ -1,30 +1,32 @@
 -- `scan_block` meets its contract: where no row is live, or none comparable, there is nothing to list and none over the quote.
 use mathlib.Core.Path.{refl, sym, _∙_}
 use native.Mathlib.Omega.{arith}
-use borrow.Author.Needs.{needs}
 use Rattle.finding.proofs.Blocks.{dull-apart}
-use Rattle.finding.proofs.Looping.{block-passed, none-in-block}
+use Rattle.finding.proofs.Looping.{block-passed, none-taken, sixteen-below, fits-at}
 use borrow.Author.Needs.{needs}
 use Rattle.finding.proofs.scan_block.Statement.{statement}
 use Rattle.finding.proofs.scan_block.Tie as tie
 
-count-live-requires : tie.Need-count-live-requires
-count-live-requires c κs = search needs
+taken-live-requires : tie.Need-taken-live-requires
+taken-live-requires c κs = c .before .before .before .before .pre .1 .0 .uppers
 
 returns : tie.Need-returns
-returns c = block-passed _ _ refl refl (c .before .before .before .before .before .before .pre .1) (none-in-block _ _ (sym (c .before .count-live .ensures) ∙ c .if1 .taken))
+returns c = let p = c .before .before .before .before .before .before .pre in block-passed _ _ refl refl (p .0 .0) (p .1 .1) (none-taken _ _ (p .0 .1) (sym (c .before .taken-live .ensures) ∙ c .if1 .taken))
+
+sub-dull-columns : tie.Need-sub-dull-columns
+sub-dull-columns c = sixteen-below _ _ _ (c .before .before .taken-live .ensures) (c .if2 .taken)
 
 dull-columns-requires : tie.Need-dull-columns-requires
-dull-columns-requires c κs = search needs
+dull-columns-requires c κs = fits-at _ (sixteen-below _ _ _ (c .before .before .taken-live .ensures) (c .if2 .taken)) (c .before .before .before .before .before .before .before .pre .1 .0)
 
 returns-2 : tie.Need-returns-2
-returns-2 c = block-passed _ _ refl refl (c .before .before .before .before .before .before .before .before .before .pre .1) (λ q u l t. dull-apart _ _ 16 (sym (c .before .dull-columns .ensures) ∙ c .if3 .taken) q u l)
-
-add-scan : tie.Need-add-scan
-add-scan c = search needs
+returns-2 c =
+    let p = c .before .before .before .before .before .before .before .before .before .pre in
+    let h = sixteen-below _ _ _ (c .before .before .before .before .taken-live .ensures) (c .before .before .if2 .taken) in
+    block-passed _ _ refl refl (p .0 .0) (p .1 .1) (λ q u l t. dull-apart _ _ 16 (sym (c .before .dull-columns .ensures) ∙ c .if3 .taken) q (omega (arith, p .0 .1)) (omega arith))
 
 scan-requires : tie.Need-scan-requires
-scan-requires c κs = search needs
+scan-requires c κs = let p = c .before .before .before .before .before .before .before .before .pre in (p .0 .0, p .1)
 
 same-length : tie.Need-same-length
 same-length c = search needs
@@ -36,11 +38,11 @@ pub scan-block-spec : {M : Type 1} → statement M
 scan-block-spec =
     tie.close
     (tie.spec
-    count-live-requires
+    taken-live-requires
     returns
+    sub-dull-columns
     dull-columns-requires
     returns-2
-    add-scan
     scan-requires
     same-length
     returns-3)

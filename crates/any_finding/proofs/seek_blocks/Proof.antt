@@ -2,11 +2,11 @@
 use Prim.Native.Nat.{_-_}
 use native.Mathlib.Omega.{arith}
 use borrow.Author.Needs.{needs}
 use Rattle.finding.specs.Found.{rows}
 use Rattle.finding.proofs.Looping.{fits-less}
-use Rattle.finding.proofs.Seeking.{Seeking, seek-start, block-over, block-not, seek-rest}
-use Rattle.finding.proofs.seek_blocks.Statement.{statement}
-use Rattle.finding.proofs.seek_blocks.Tie as tie
+use Rattle.any_finding.proofs.Seeking.{Seeking, seek-start, block-over, block-not, seek-rest}
+use Rattle.any_finding.proofs.seek_blocks.Statement.{statement}
+use Rattle.any_finding.proofs.seek_blocks.Tie as tie
 
 abbrev Inv-loop : tie.InvT-loop
 Inv-loop directions d columns uppers quote from to i₀ i = Seeking (rows d directions columns uppers quote) from to i

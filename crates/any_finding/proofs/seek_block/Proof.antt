@@ -2,9 +2,9 @@
 use mathlib.Core.Path.{sym, _∙_}
 use native.Mathlib.Omega.{arith}
 use borrow.Author.Needs.{needs}
-use Rattle.finding.proofs.Seeking.{dull-youngest}
-use Rattle.finding.proofs.seek_block.Statement.{statement}
-use Rattle.finding.proofs.seek_block.Tie as tie
+use Rattle.any_finding.proofs.Seeking.{dull-youngest}
+use Rattle.any_finding.proofs.seek_block.Statement.{statement}
+use Rattle.any_finding.proofs.seek_block.Tie as tie
 
 dull-columns-requires : tie.Need-dull-columns-requires
 dull-columns-requires c κs = search needs

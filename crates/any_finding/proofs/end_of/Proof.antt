@@ -1,8 +1,8 @@
 -- `end_of` meets its contract.
 use borrow.Author.Tests.{eq-eqb, ne-eqb}
 use borrow.Author.Needs.{needs}
-use Rattle.finding.proofs.end_of.Statement.{statement}
-use Rattle.finding.proofs.end_of.Tie as tie
+use Rattle.any_finding.proofs.end_of.Statement.{statement}
+use Rattle.any_finding.proofs.end_of.Tie as tie
 
 sub-result : tie.Need-sub-result
 sub-result c = search needs

@@ -3,11 +3,11 @@ use mathlib.Core.Path.{sym, _∙_}
 use Prim.Native.Nat.{_-_}
 use native.Mathlib.Omega.{arith}
 use borrow.Author.Needs.{needs}
 use Rattle.finding.specs.Found.{rows}
 use Rattle.finding.proofs.Looping.{row-in}
-use Rattle.finding.proofs.Seeking.{Seeking, seek-start, row-over, row-not, seek-end}
-use Rattle.finding.proofs.seek.Statement.{statement}
-use Rattle.finding.proofs.seek.Tie as tie
+use Rattle.any_finding.proofs.Seeking.{Seeking, seek-start, row-over, row-not, seek-end}
+use Rattle.any_finding.proofs.seek.Statement.{statement}
+use Rattle.any_finding.proofs.seek.Tie as tie
 
 abbrev Inv-loop : tie.InvT-loop
 Inv-loop directions d columns uppers quote from to i₀ i = Seeking (rows d directions columns uppers quote) from to i

@@ -3,11 +3,11 @@ use Prim.Native.Nat.{_-_}
 use native.Mathlib.Nat.{le-refl}
 use native.Mathlib.Omega.{arith}
 use borrow.Author.Needs.{needs}
 use Rattle.finding.specs.Found.{rows}
 use Rattle.finding.proofs.Looping.{fits-less}
-use Rattle.finding.proofs.Seeking.{Retiring, retire-start, retire-asked, retire-turn, retire-end}
-use Rattle.finding.proofs.retire.Statement.{statement}
-use Rattle.finding.proofs.retire.Tie as tie
+use Rattle.any_finding.proofs.Seeking.{Retiring, retire-start, retire-asked, retire-turn, retire-end}
+use Rattle.any_finding.proofs.retire.Statement.{statement}
+use Rattle.any_finding.proofs.retire.Tie as tie
 
 abbrev Inv-loop : tie.InvT-loop
 Inv-loop directions d columns uppers quote from to places₀ end₀ at₀ places end at = Retiring (rows d directions columns uppers quote) from to places₀ places at end
@@ -25,10 +25,10 @@ end-of-requires : tie.Need-end-of-requires Inv-loop μ-loop
 end-of-requires c κs = search needs
 
 loop-less : tie.Need-loop-less Inv-loop μ-loop
-loop-less c = retire-turn _ (c .before .before .before .before .before .before .loop .inv) _ _ (c .before .before .before .scan-blocks .ensures .0) (c .before .before .before .scan-blocks .kept .1 .1 .1 .1 .1 .1 .1 .0) (c .before .before .before .scan-blocks .ensures .1 _ _ (le-refl _) (retire-asked _ (c .before .before .before .before .before .before .loop .inv))) (c .end-of .ensures) (c .before .before .before .before .before .loop-test .taken) .1
+loop-less c = retire-turn _ (c .before .before .before .before .before .before .loop .inv) _ _ (c .before .before .before .scan-blocks .ensures .0) (c .before .before .before .scan-blocks .kept .1 .1 .1 .1 .1 .1 .1 .1 .0) (c .before .before .before .scan-blocks .ensures .1 _ _ (le-refl _) (retire-asked _ (c .before .before .before .before .before .before .loop .inv))) (c .end-of .ensures) (c .before .before .before .before .before .loop-test .taken) .1
 
 loop-again : tie.Need-loop-again Inv-loop μ-loop
-loop-again c = retire-turn _ (c .before .before .before .before .before .before .loop .inv) _ _ (c .before .before .before .scan-blocks .ensures .0) (c .before .before .before .scan-blocks .kept .1 .1 .1 .1 .1 .1 .1 .0) (c .before .before .before .scan-blocks .ensures .1 _ _ (le-refl _) (retire-asked _ (c .before .before .before .before .before .before .loop .inv))) (c .end-of .ensures) (c .before .before .before .before .before .loop-test .taken) .0
+loop-again c = retire-turn _ (c .before .before .before .before .before .before .loop .inv) _ _ (c .before .before .before .scan-blocks .ensures .0) (c .before .before .before .scan-blocks .kept .1 .1 .1 .1 .1 .1 .1 .1 .0) (c .before .before .before .scan-blocks .ensures .1 _ _ (le-refl _) (retire-asked _ (c .before .before .before .before .before .before .loop .inv))) (c .end-of .ensures) (c .before .before .before .before .before .loop-test .taken) .0
 
 same-length : tie.Need-same-length Inv-loop μ-loop
 same-length c = c .before .loop .inv .same-length
