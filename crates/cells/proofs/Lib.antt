@@ -3,6 +3,5 @@ pub mod Clearing
 pub mod Pasting
 pub mod Shifting
 pub mod Renaming
-pub mod Blanks
 pub mod Settling
 pub mod Marking

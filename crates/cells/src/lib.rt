@@ -1,13 +1,12 @@
 // Cells of one lent table: rows moved to the front, one row more put behind them, zeros up to a place, and cells stored at listed places.
 ghost use mathlib.Core.Path.{_≡_};
 ghost use mathlib.Core.Bool.{cond};
-ghost use Prim.Native.Nat.{_+_, _-_, _*_, _≤_, _<_, max, min};
-ghost use mathlib.Core.List.{[], _∷_, _++_, map};
-ghost use lib.ListN.{length, getD, take, drop};
+ghost use Prim.Native.Nat.{_+_, _-_, _≤_, _<_, min};
+ghost use mathlib.Core.List.{_++_, map};
+ghost use lib.ListN.{length, take, drop};
 ghost use lib.Seq.{paste};
 ghost use Rattle.lists.specs.Lists.{padded};
 ghost use Rattle.model.specs.Rows.{renamed};
-ghost use Rattle.cells.specs.Blank.{Blank};
 ghost use Rattle.cells.specs.Marked.{marked, Below};
 
 // x if the test passed, else y.
@@ -15,13 +14,6 @@ pub fn chosen(test: bool, x: u32, y: u32) -> u32
     ensures { λ r. ⌜ r ≡ cond test x y ⌝ }
 {
     if test { x } else { y }
-}
-
-// The larger of two numbers.
-fn larger(x: usize, y: usize) -> usize
-    ensures { λ r. ⌜ r ≡ max x y ⌝ }
-{
-    if x < y { y } else { x }
 }
 
 // Zeros the cells from one place up to another.
@@ -38,7 +30,7 @@ pub fn clear(cells: &mut [u32], from: usize, to: usize)
 }
 
 // Puts a row at a place.
-fn put(cells: &mut [u32], at: usize, row: &[u32])
+pub fn put(cells: &mut [u32], at: usize, row: &[u32])
     requires { ⌜ at + length (now row) ≤ length (now cells) ⌝ }
     ensures { λ _. ⌜ now (cells .exit) ≡ paste (now (cells .entry)) at (now (row .entry)) (length (now (row .entry))) ⌝ }
 {
@@ -70,7 +62,7 @@ fn piece(left: usize) -> usize
 }
 
 // Moves the first count cells to the front by so many, which are lost, in pieces of at most 2 KB.
-fn shift(cells: &mut [u32], by: usize, count: usize)
+pub fn shift(cells: &mut [u32], by: usize, count: usize)
     requires { ⌜ by ≤ count ⌝ }
     requires { ⌜ count ≤ length (now cells) ⌝ }
     ensures { λ _. ⌜ now (cells .exit) ≡ paste (now (cells .entry)) 0 (drop by (now (cells .entry))) (count - by) ⌝ }
@@ -88,20 +80,18 @@ fn shift(cells: &mut [u32], by: usize, count: usize)
 }
 
 // Takes one row more into a table: of the first count cells so many at the front are lost, the others move there, the row is put behind
-// them, and the cells from there up to a place are zeros; those from used on are zeros already.
-pub fn enter(cells: &mut [u32], by: usize, count: usize, row: &[u32], used: usize, places: usize)
+// them, and the cells from there up to a place become zeros.
+pub fn enter(cells: &mut [u32], by: usize, count: usize, row: &[u32], places: usize)
     requires { ⌜ by ≤ count ⌝ }
-    requires { ⌜ count ≤ used ⌝ }
+    requires { ⌜ count ≤ places ⌝ }
     requires { ⌜ count - by + length (now row) ≤ places ⌝ }
     requires { ⌜ places ≤ length (now cells) ⌝ }
-    requires { ⌜ Blank used places (now cells) ⌝ }
     ensures { λ _. ⌜ now (cells .exit) ≡ padded places (take (count - by) (drop by (now (cells .entry))) ++ now (row .entry)) (now (cells .entry)) ⌝ }
 {
     shift(cells, by, count);
     let at = count - by;
     put(cells, at, row);
-    let end = at + row.len();
-    clear(cells, end, larger(end, used));
+    clear(cells, at + row.len(), places);
 }
 
 // Zeros those of the first count cells that name the expired position gone; none does where nothing expired.

@@ -1,7 +1,7 @@
 -- What is known of a quote's book: what a quote on one that calls left answers, and whether its rows' ends are as calls leave them.
-use mathlib.Core.Path.{_≡_, sym, ap, _∙_}
+use mathlib.Core.Path.{_≡_, sym, _∙_}
 use Prim.Native.Nat.{ℕ, _≤_}
-use mathlib.Core.Bool.{Bool}
+use mathlib.Core.Bool.{Bool, false}
 use mathlib.Core.List.{List}
 use Rattle.lists.proofs.Booleans.{clash}
 use Rattle.head.specs.declared.Head.{Head}
@@ -11,8 +11,7 @@ use Rattle.model.specs.Calls.{Reached}
 use Rattle.model.specs.Promises.{world}
 use Rattle.model.proofs.Reached.{reached-judged}
 use Rattle.finding.specs.Found.{Rows}
-use Rattle.settling.specs.declared.Knowledge.{Knowledge}
-use Rattle.settling.specs.Findings.{heldRows, knowsAny}
+use Rattle.settling.specs.Findings.{heldRows}
 use Rattle.settling.proofs.Reaching.{reached-live, reached-lasting, reached-behind}
 use Rattle.writing.specs.Bytes.{SoundIf}
 use Rattle.quoting.specs.Answers.{quoteTests, reachedAnswer}
@@ -31,8 +30,5 @@ reached-sound-if sound x r k = record {
 }
 
 -- on any other book nothing is said
-pub any-sound-if : (h : Head) {lowers : List ℕ} {rows : Rows} {knows : Knowledge} → knows ≡ knowsAny h → SoundIf (knows .sound) h lowers rows
-unfolding knowsAny
-any-sound-if h {knows = knows} f =
-    let unsound = ap Knowledge.sound f in
-    record { named = λ e. absurd (clash (knows .sound) e unsound); ends = λ e. absurd (clash (knows .sound) e unsound) }
+pub any-sound-if : {sound : Bool} {h : Head} {lowers : List ℕ} {rows : Rows} → sound ≡ false → SoundIf sound h lowers rows
+any-sound-if {sound} f = record { named = λ e. absurd (clash sound e f); ends = λ e. absurd (clash sound e f) }

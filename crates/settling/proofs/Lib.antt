@@ -2,6 +2,7 @@
 pub mod Reading
 pub mod Numbers
 pub mod Standing
+pub mod Blanks
 pub mod Findings
 pub mod Putting
 pub mod Settled

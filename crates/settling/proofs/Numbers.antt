@@ -5,10 +5,9 @@ use mathlib.Core.Logic.{_⊎_, inl, inr}
 use Prim.Native.Nat.{ℕ, suc, _+_, _-_, _≤_, _<_}
 use native.Mathlib.Nat.{zero-add}
 use native.Mathlib.Omega.{arith}
-use mathlib.Core.Bool.{Bool, true, false, _&&_, not, cond}
-use mathlib.Core.List.{List, [], _∷_, _++_}
-use lib.Dec.{eqb}
-use lib.ListN.{length, getD, drop, length-append, length-drop}
+use mathlib.Core.Bool.{Bool, true, false, _&&_, not}
+use mathlib.Core.List.{List, [], _∷_}
+use lib.ListN.{length, getD, length-append, length-drop}
 use borrow.Author.Tests.{eq-eqb, ne-eqb}
 use Rattle.lists.specs.Lists.{keep, filter, lastOr, run}
 use Rattle.lists.proofs.Filters.{filter-append, length-filter}
@@ -19,9 +18,8 @@ use Rattle.model.specs.Rows.{expiring}
 use Rattle.finding.specs.declared.Found.{Found}
 use Rattle.finding.specs.Found as finding
 use Rattle.finding.specs.Found.{Rows, live, liveIn, over, under, retires, retired, youngest}
-use Rattle.settling.specs.declared.Knowledge.{Knowledge}
 use Rattle.settling.specs.declared.Finding.{Finding}
-use Rattle.settling.specs.Findings.{expiredPlaces, positionOf, heldRows, Findable, Tellable, told, retiredPlaces, youngestOver, Finds, Placed, namedBefore}
+use Rattle.settling.specs.Findings.{expiredPlaces, positionOf, heldRows, Findable, Tellable, told, retiredPlaces, Finds, Placed, namedBefore}
 
 -- those that pass one test, with and without another
 pub split-counted : {A : Type 0} (f g : A → Bool) (l : List A) → length (filter (λ a. f a && not (g a)) l) + length (filter (λ a. f a && g a) l) ≡ length (filter f l)
@@ -110,12 +108,11 @@ module _ {h : Head} {x columns uppers before : List ℕ} (v : Findable h x colum
         }
 
     -- and is what is to be found
-    pub tells : {g : Finding} {knows known : Knowledge} → g ≡ told h uppers knows (r .at) (r .last) (length places - r .at) → knows ≡ known
-        → (g .knows ≡ known) × Finds h x columns uppers places g
-    tells {g} t k =
+    pub tells : {g : Finding} {sound : Bool} → g ≡ told h uppers sound (r .at) (r .last) (length places - r .at) → (g .sound ≡ sound) × Finds h x columns uppers places g
+    tells {g} t =
         let at : g .at ≡ r .at = ap Finding.at t in
-        let same = ap Finding.knows t in (
-          same ∙ k,
+        let same = ap Finding.sound t in (
+          same,
           record {
             listed = rw at (f .listed ∙ rw e);
             most = rw at (f .most);
@@ -129,9 +126,9 @@ module _ {h : Head} {uppers : List ℕ} {last count by n : ℕ} (v : Tellable h 
   pub lost-within : n + count ≤ h .live
   lost-within = rw (l, e) (v .lost)
 
-  pub told-is : (knows : Knowledge) (at : ℕ) {gone lower : ℕ} → gone ≡ expiring (h .newest) (h .capacity) → lower ≡ positionOf h last
-      → record { by = by; gone = gone; at = at; lower = lower; live = h .live - (n + count) + 1; held = h .held - by + 1; knows = knows } ≡ told h uppers knows at last count
-  told-is knows at g p = rw (l, e, g, p)
+  pub told-is : (sound : Bool) (at : ℕ) {gone lower : ℕ} → gone ≡ expiring (h .newest) (h .capacity) → lower ≡ positionOf h last
+      → record { by = by; gone = gone; at = at; lower = lower; live = h .live - (n + count) + 1; held = h .held - by + 1; sound = sound } ≡ told h uppers sound at last count
+  told-is sound at g p = rw (l, e, g, p)
 
 -- ---- where lower ends may name the expired position
 

@@ -1,7 +1,7 @@
 -- Laws of tables that a row is put into: their sizes, and what was renamed or stored before.
 use mathlib.Core.Path.{_≡_, refl, sym, ap, ap₂, _∙_}
-use Prim.Native.Nat.{ℕ, zero, suc, _+_, _-_, _*_, _≤_, _<_}
-use native.Mathlib.Nat.{mul-one, mul-le-mul, mul-le-mul-right, suc-mul, mul-sub, mul-comm, zero-add}
+use Prim.Native.Nat.{ℕ, suc, _+_, _-_, _*_, _≤_, _<_}
+use native.Mathlib.Nat.{le-refl, mul-one, mul-le-mul, mul-le-mul-right, suc-mul, mul-sub, mul-comm, zero-add}
 use native.Mathlib.Decide.{decLt}
 use native.Mathlib.Omega.{arith}
 use mathlib.Core.List.{List, [], _∷_, _++_, map}
@@ -16,40 +16,31 @@ use Rattle.lists.proofs.Storing.{drop-beyond, drop-later, getD-beyond}
 use Rattle.lists.proofs.Writing.{beyond-only}
 use Rattle.head.specs.declared.Head.{Head}
 use Rattle.model.specs.Rows.{renamed}
-use Rattle.cells.specs.Blank.{Blank}
 use Rattle.cells.specs.Marked.{marked, Below}
-use Rattle.cells.proofs.Blanks.{blank-same}
 use Rattle.settling.specs.Settled.{rowsPut, lowersPut, uppersPut, Ready, Unnamed}
 
 -- the rows behind the first ones
 pub rows-less : (m n w : ℕ) → m * w - n * w ≡ (m - n) * w
 rows-less m n w = sym (mul-comm (m - n) w ∙ mul-sub w m n ∙ ap₂ (λ (a b : ℕ). a - b) (mul-comm w m) (mul-comm w n))
 
-module _ {h : Head} {w by used : ℕ} {cells : List ℕ} (v : Ready h w by used cells) where
+module _ {h : Head} {w by : ℕ} {cells : List ℕ} (v : Ready h w by cells) where
   -- the sizes in cells
-  pub sizes : (by * w ≤ h .held * w) × (h .held * w ≤ used * w) × (used * w ≤ h .capacity * w) × (h .capacity * w ≤ 6144)
-  sizes = (
-    mul-le-mul-right w (v .by-held),
-    mul-le-mul-right w (v .held-used),
-    mul-le-mul-right w (v .used-fit),
-    mul-le-mul (v .few) (v .narrow),
-  )
+  pub sizes : (by * w ≤ h .held * w) × (h .held * w ≤ h .capacity * w) × (h .capacity * w ≤ 6144)
+  sizes = (mul-le-mul-right w (v .by-held), mul-le-mul-right w (v .held-fit), mul-le-mul (v .few) (v .narrow))
 
   -- there is room for the row
   pub row-fits : {n : ℕ} → n ≡ w → h .held * w - by * w + n ≤ h .capacity * w
   row-fits e = rw (rows-less (h .held) by w) (omega (arith, suc-mul (h .held - by) w, mul-le-mul-right w (v .room)))
 
-  -- cells that changed only where rows are held
-  pub ready-same : {cells' : List ℕ} → length cells' ≡ length cells → drop (h .held * w) cells' ≡ drop (h .held * w) cells → Ready h w by used cells'
-  ready-same {cells'} n e = record {
+  -- other cells, as many
+  pub ready-same : {cells' : List ℕ} → length cells' ≡ length cells → Ready h w by cells'
+  ready-same n = record {
     narrow = v .narrow;
     few = v .few;
     by-held = v .by-held;
     room = v .room;
-    held-used = v .held-used;
-    used-fit = v .used-fit;
+    held-fit = v .held-fit;
     long = rw n (v .long);
-    blank = blank-same (drop-later cells' cells (h .held * w) (used * w) (sizes .1) e) (v .blank);
   }
 
 -- a table of one cell a row
@@ -59,13 +50,17 @@ put-one h by row cells = rw (mul-one (h .capacity), mul-one (h .held), mul-one b
 
 -- ---- lower ends
 
-module _ {h : Head} {by used gone named : ℕ} {lowers after : List ℕ} (v : Ready h 1 by used lowers) (u : Unnamed gone named (h .held) lowers)
+-- each lower end may name position gone
+pub any-unnamed : (gone n : ℕ) (lowers : List ℕ) → Unnamed gone n n lowers
+any-unnamed gone n lowers = record { within = le-refl n; same = λ i u w. absurd (omega arith) }
+
+module _ {h : Head} {by gone named : ℕ} {lowers after : List ℕ} (v : Ready h 1 by lowers) (u : Unnamed gone named (h .held) lowers)
     (e : after ≡ map (renamed gone) (take named lowers) ++ drop named lowers) where
   abbrev front : List ℕ
   front = map (renamed gone) (take named lowers)
 
   lowers-long : h .held ≤ length lowers
-  lowers-long = omega (arith, v .held-used, v .used-fit, v .long, mul-one (h .capacity))
+  lowers-long = omega (arith, v .held-fit, v .long, mul-one (h .capacity))
 
   pub named-within : named ≤ length lowers
   named-within = omega (arith, lowers-long, u .within)
@@ -76,8 +71,9 @@ module _ {h : Head} {by used gone named : ℕ} {lowers after : List ℕ} (v : Re
   drop-same : (n : ℕ) → named ≤ n → drop n after ≡ drop n lowers
   drop-same n k = rw e (drop-beyond front lowers named n front# k)
 
-  pub lowers-ready : length after ≡ length lowers → Ready h 1 by used after
-  lowers-ready n = ready-same v n (drop-same (h .held * 1) (omega (arith, mul-one (h .held), u .within)))
+  -- behind the rows nothing is renamed
+  pub lowers-behind : drop (h .held) after ≡ drop (h .held) lowers
+  lowers-behind = drop-same (h .held) (u .within)
 
   -- each lower end that is left is renamed
   renamed-at : (i : ℕ) → i < h .held → getD after i 0 ≡ renamed gone (getD lowers i 0)
@@ -102,7 +98,7 @@ module _ {h : Head} {by used gone named : ℕ} {lowers after : List ℕ} (v : Re
       ∙ ap (map (renamed gone)) (cells-part 0 lowers by k room) in
       f ∙ put-one h by (lower ∷ []) after
       ∙ ap (λ (l : List ℕ). padded (h .capacity) (l ++ (lower ∷ [])) after) left
-      ∙ beyond-only (h .capacity) _ after lowers (drop-same (h .capacity) (omega (arith, u .within, v .held-used, v .used-fit)))
+      ∙ beyond-only (h .capacity) _ after lowers (drop-same (h .capacity) (omega (arith, u .within, v .held-fit)))
 
 -- ---- upper ends
 
@@ -112,20 +108,17 @@ drop-marked [] x n cells b = refl
 drop-marked (p ∷ ps) x n cells b =
     drop-marked ps x n (set cells p x) (record { low = λ k l. b .low (suc k) (omega arith) }) ∙ drop-set-lt n cells p x (b .low 0 (omega arith))
 
-module _ {h : Head} {by used : ℕ} {uppers : List ℕ} (v : Ready h 1 by used uppers) {places : List ℕ} (b : Below places (h .held)) where
+module _ {h : Head} {by : ℕ} {uppers : List ℕ} (v : Ready h 1 by uppers) {places : List ℕ} (b : Below places (h .held)) where
   pub places-below : Below places (length uppers)
-  places-below = record { low = λ k l. omega (arith, b .low k l, v .held-used, v .used-fit, v .long, mul-one (h .capacity)) }
+  places-below = record { low = λ k l. omega (arith, b .low k l, v .held-fit, v .long, mul-one (h .capacity)) }
 
   module _ {after : List ℕ} (e : after ≡ marked places (h .newest + 1) uppers) where
-    marked-same : (n : ℕ) → h .held ≤ n → drop n after ≡ drop n uppers
+    pub marked-same : (n : ℕ) → h .held ≤ n → drop n after ≡ drop n uppers
     marked-same n k = rw e (drop-later _ uppers (h .held) n k (drop-marked places (h .newest + 1) (h .held) uppers b))
-
-    pub uppers-ready : length after ≡ length uppers → Ready h 1 by used after
-    uppers-ready n = ready-same v n (marked-same (h .held * 1) (omega (arith, mul-one (h .held))))
 
     pub uppers-put : {end : List ℕ} → end ≡ rowsPut h 1 by (0 ∷ []) after → end ≡ uppersPut h by places uppers
     unfolding uppersPut
     uppers-put f =
         f ∙ put-one h by (0 ∷ []) after
-        ∙ beyond-only (h .capacity) _ after uppers (marked-same (h .capacity) (omega (arith, v .held-used, v .used-fit)))
+        ∙ beyond-only (h .capacity) _ after uppers (marked-same (h .capacity) (v .held-fit))
         ∙ ap (λ (l : List ℕ). padded (h .capacity) (take (h .held - by) (drop by l) ++ (0 ∷ [])) uppers) e

@@ -1,5 +1,5 @@
--- What is known of a book that calls left: which rows need not be gone through, that only the places of its rows are in use, and where
--- lower ends may name the expired position.
+-- What is known of a book that calls left: which rows need not be gone through, that zeros stand behind its rows, and where lower ends may
+-- name the expired position.
 use mathlib.Core.Path.{_≡_, refl, sym, ap, subst, _∙_}
 use mathlib.Core.Logic.{_⊎_, inl, inr}
 use Prim.Native.Nat.{ℕ, suc, _+_, _-_, _*_, _≤_, _<_}
@@ -33,11 +33,11 @@ use Rattle.model.proofs.Sound.{rows-few, rows-wide}
 use Rattle.model.proofs.Simulation.{Invariant, some-capacity, rows-read}
 use Rattle.model.proofs.Sought.{named-before-upper, named-behind-lower, named-live-on}
 use Rattle.model.proofs.Reached.{reached-by}
-use Rattle.cells.specs.Blank.{Blank}
-use Rattle.cells.proofs.Blanks.{blank-padded}
 use Rattle.finding.specs.Found.{Rows, live, over, under, retires, Sound}
-use Rattle.settling.specs.Findings.{expiredPlaces, heldRows, namedBefore, knowsReached}
-use Rattle.settling.specs.Settled.{Unnamed, Known}
+use Rattle.settling.specs.Findings.{expiredPlaces, heldRows, namedBefore}
+use Rattle.settling.specs.Blank.{Blank}
+use Rattle.settling.specs.Settled.{Unnamed, Clear}
+use Rattle.settling.proofs.Blanks.{blank-padded}
 use Rattle.settling.proofs.Reading.{run-at}
 use Rattle.settling.proofs.Numbers.{before-none, before-live, before-upper}
 
@@ -221,16 +221,13 @@ module _ (s : Reference) (l : Lent) (f : Invariant s l) where
       blank-padded (s .capacity * s .dimensions) (length (rowsOf s) * s .dimensions) (flat (map Row.columns (rowsOf s))) (t .columns)
       (omega (arith, cells-counted (s .dimensions) (rowsOf s) (rows-wide s (f .wide)))) (mul-le-mul-right (s .dimensions) few)
 
-  known : Known h (knowsReached h (t .upperEnds)) t
-  unfolding filled headOf knowsReached
-  known = record {
-    held-used = le-refl (h .held);
-    used-fit = few;
+  clear : Clear h t
+  unfolding filled headOf
+  clear = record {
     columns = subst (λ (c : List ℕ). Blank (h .held * h .dimensions) (h .capacity * h .dimensions) c) (ap Tables.columns (f .tables)) blank-columns;
     positions = subst (Blank (h .held) (h .capacity)) (ap Tables.positions (f .tables)) (blank-cells Row.position (t .positions));
     lowerEnds = subst (Blank (h .held) (h .capacity)) (ap Tables.lowerEnds (f .tables)) (blank-cells Row.lowerEnd (t .lowerEnds));
     upperEnds = subst (Blank (h .held) (h .capacity)) (ap Tables.upperEnds (f .tables)) (blank-cells Row.upperEnd (t .upperEnds));
-    unnamed = unnamed;
   }
 
   -- ---- what the ends of rows say of one another
@@ -284,11 +281,18 @@ reached-sound {h} {t} {ws} x =
     reached-by (λ w. 1 ≤ w .head .capacity → Sound (heldRows (w .head) x (w .lent .tables .columns) (w .lent .tables .upperEnds)) (expiredPlaces (w .head)) (w .head .held))
     (λ l k. no-capacity k) (λ s l f k. sound s l f x (expiredPlaces (headOf s)))
 
--- and only the places of its rows are in use, and the rows that name the expired position lie before its upper end
-pub reached-known : {h : Head} {t : Tables} {ws : List ℕ} → Reached (world h t ws) → 1 ≤ h .capacity → Known h (knowsReached h (t .upperEnds)) t
-reached-known {h} {t} {ws} =
-    reached-by (λ w. 1 ≤ w .head .capacity → Known (w .head) (knowsReached (w .head) (w .lent .tables .upperEnds)) (w .lent .tables))
-    (λ l k. no-capacity k) (λ s l f k. known s l f)
+-- zeros stand behind its rows
+pub reached-clear : {h : Head} {t : Tables} {ws : List ℕ} → Reached (world h t ws) → 1 ≤ h .capacity → Clear h t
+reached-clear {h} {t} {ws} = reached-by (λ w. 1 ≤ w .head .capacity → Clear (w .head) (w .lent .tables)) (λ l k. no-capacity k) (λ s l f k. clear s l f)
+
+-- the rows that name the expired position lie before its upper end
+pub reached-unnamed : {h : Head} {t : Tables} {ws : List ℕ} → Reached (world h t ws) → 1 ≤ h .capacity
+    → Unnamed (expiring (h .newest) (h .capacity)) (namedBefore h (t .upperEnds)) (h .held) (t .lowerEnds)
+unfolding headOf
+reached-unnamed {h} {t} {ws} =
+    reached-by
+    (λ w. 1 ≤ w .head .capacity → Unnamed (expiring (w .head .newest) (w .head .capacity)) (namedBefore (w .head) (w .lent .tables .upperEnds)) (w .head .held) (w .lent .tables .lowerEnds))
+    (λ l k. no-capacity k) (λ s l f k. unnamed s l f)
 
 -- and the lower end of a live row, if it is held, is that of a live row
 pub reached-live : {h : Head} {t : Tables} {ws : List ℕ} → Reached (world h t ws) → 1 ≤ h .capacity → LiveNamed h t

@@ -1,14 +1,14 @@
 -- The tables that are settled by what was found hold the rows after the quote.
-use mathlib.Core.Path.{_≡_, refl, sym, ap, _∙_}
+use mathlib.Core.Path.{_≡_, sym, ap, _∙_}
 use mathlib.Core.Logic.{_⊎_, inl, inr}
-use Prim.Native.Nat.{ℕ, suc, _+_, _-_, _*_, _≤_, _<_}
+use Prim.Native.Nat.{ℕ, _+_, _-_, _*_, _≤_, _<_}
 use native.Mathlib.Nat.{le-refl, mul-one}
 use native.Mathlib.Omega.{arith}
-use mathlib.Core.Bool.{Bool, true, _&&_, not, cond}
+use mathlib.Core.Bool.{not}
 use mathlib.Core.List.{List, [], _∷_, _++_, map, append-nil}
 use lib.Dec.{eqb}
 use lib.ListN.{length, getD, take, drop}
-use Rattle.lists.specs.Lists.{filter, contains, flat, run, padded}
+use Rattle.lists.specs.Lists.{filter, flat, run}
 use Rattle.lists.proofs.Cells.{map-run, cells-part}
 use Rattle.lists.proofs.Filters.{map-append, map-map, flat-append, length-filter}
 use Rattle.lists.proofs.Members.{contains-filter, mem-contains, into-map, mem-none}
@@ -21,15 +21,12 @@ use Rattle.model.specs.Rows.{Row, Tables, rowAt, rowsIn, filled, expiring, rena
 use Rattle.model.specs.Book.{bookRows}
 use Rattle.model.specs.Promises.{tables}
 use Rattle.model.proofs.Torn.{upperAstray, upper-place}
-use Rattle.cells.specs.Blank.{Blank}
 use Rattle.cells.specs.Marked.{marked, Below}
-use Rattle.cells.proofs.Blanks.{blank-none}
 use Rattle.cells.proofs.Marking.{length-marked}
 use Rattle.finding.specs.Found.{Rows, live, over, retires, retired}
-use Rattle.settling.specs.declared.Knowledge.{Knowledge}
 use Rattle.settling.specs.declared.Finding.{Finding}
-use Rattle.settling.specs.Findings.{expiredPlaces, heldRows, retiredPlaces, Finds, Placed, knowsAny}
-use Rattle.settling.specs.Settled.{rowsPut, lowersPut, uppersPut, Ready, Unnamed, Known}
+use Rattle.settling.specs.Findings.{expiredPlaces, heldRows, retiredPlaces, Finds, Placed}
+use Rattle.settling.specs.Settled.{rowsPut, lowersPut, uppersPut, Ready}
 use Rattle.settling.proofs.Reading.{rows-part, getD-marked}
 use Rattle.settling.proofs.Standing.{Admitted, within, long, whole, held-is, places, position-at, left-is}
 use Rattle.settling.proofs.Findings.{next-is, found-lower, found-by, found-gone}
@@ -106,44 +103,35 @@ module _ {h : Head} {x : List ℕ} {t : Tables} (a : Admitted h x t) where
         s = heldRows h x (t .columns) (t .upperEnds)
 
     -- the columns may be settled
-    module _ {known : Knowledge} (n : Known h known t) where
-      pub ready-columns : Ready h (h .dimensions) (f .by) (known .used) (t .columns)
-      ready-columns = rw (found-by a v) (record {
-        narrow = within a .few-columns;
-        few = within a .small-capacity;
-        by-held = places a .1;
-        room = places a .3;
-        held-used = n .held-used;
-        used-fit = n .used-fit;
-        long = long a .columns;
-        blank = n .columns;
-      })
+    pub ready-columns : Ready h (h .dimensions) (f .by) (t .columns)
+    ready-columns = rw (found-by a v) (record {
+      narrow = within a .few-columns;
+      few = within a .small-capacity;
+      by-held = places a .1;
+      room = places a .3;
+      held-fit = places a .2;
+      long = long a .columns;
+    })
 
-      -- and a table of one cell a row
-      ready-cells : (cells : List ℕ) → h .capacity ≤ length cells → Blank (known .used) (h .capacity) cells → Ready h 1 (f .by) (known .used) cells
-      ready-cells cells l b = rw (found-by a v) (record {
-        narrow = omega arith;
-        few = within a .small-capacity;
-        by-held = places a .1;
-        room = places a .3;
-        held-used = n .held-used;
-        used-fit = n .used-fit;
-        long = rw mul-one l;
-        blank = rw (mul-one (known .used), mul-one (h .capacity)) b;
-      })
+    -- and a table of one cell a row
+    ready-cells : (cells : List ℕ) → h .capacity ≤ length cells → Ready h 1 (f .by) cells
+    ready-cells cells l = rw (found-by a v) (record {
+      narrow = omega arith;
+      few = within a .small-capacity;
+      by-held = places a .1;
+      room = places a .3;
+      held-fit = places a .2;
+      long = rw mul-one l;
+    })
 
-      pub ready-positions : Ready h 1 (f .by) (known .used) (t .positions)
-      ready-positions = ready-cells (t .positions) (long a .positions) (n .positions)
+    pub ready-positions : Ready h 1 (f .by) (t .positions)
+    ready-positions = ready-cells (t .positions) (long a .positions)
 
-      pub ready-lowers : Ready h 1 (f .by) (known .used) (t .lowerEnds)
-      ready-lowers = ready-cells (t .lowerEnds) (long a .lowerEnds) (n .lowerEnds)
+    pub ready-lowers : Ready h 1 (f .by) (t .lowerEnds)
+    ready-lowers = ready-cells (t .lowerEnds) (long a .lowerEnds)
 
-      pub ready-uppers : Ready h 1 (f .by) (known .used) (t .upperEnds)
-      ready-uppers = ready-cells (t .upperEnds) (long a .upperEnds) (n .upperEnds)
-
-      -- the lower ends from place named on do not name what expired
-      pub unnamed : Unnamed (f .gone) (known .named) (h .held) (t .lowerEnds)
-      unnamed = rw (found-gone a v) (n .unnamed)
+    pub ready-uppers : Ready h 1 (f .by) (t .upperEnds)
+    ready-uppers = ready-cells (t .upperEnds) (long a .upperEnds)
 
     -- the tables hold the rows after the quote
     pub settled : {cs' ps' ls' us' : List ℕ} → cs' ≡ rowsPut h (h .dimensions) (f .by) x (t .columns) → ps' ≡ rowsPut h 1 (f .by) ((h .newest + 1) ∷ []) (t .positions)
@@ -152,19 +140,6 @@ module _ {h : Head} {x : List ℕ} {t : Tables} (a : Admitted h x t) where
     unfolding filled rowsPut lowersPut uppersPut
     settled c p l u =
         rw (c, p ∙ put-one h (f .by) ((h .newest + 1) ∷ []) (t .positions), l, u, next-columns, next-positions, next-lowers, next-uppers, found-by a v, found-gone a v, found-lower a v, v .listed)
-
-  -- on any tables every place may hold anything, and each lower end may name the expired position
-  pub any-known : Known h (knowsAny h) t
-  unfolding knowsAny
-  any-known = record {
-    held-used = places a .2;
-    used-fit = le-refl (h .capacity);
-    columns = blank-none _ _;
-    positions = blank-none _ _;
-    lowerEnds = blank-none _ _;
-    upperEnds = blank-none _ _;
-    unnamed = record { within = le-refl (h .held); same = λ i u w. absurd (omega arith) };
-  }
 
   -- where a position expires its row is the first
   first-row : 0 < g → (0 < h .held) × (g ≡ windowStart (h .newest) (h .capacity) + 0)

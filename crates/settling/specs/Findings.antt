@@ -2,7 +2,7 @@
 use mathlib.Core.Path.{_≡_}
 use mathlib.Core.Logic.{_⊎_}
 use Prim.Native.Nat.{ℕ, suc, _+_, _-_, _≤_, _<_}
-use mathlib.Core.Bool.{true, false, cond}
+use mathlib.Core.Bool.{Bool, cond}
 use mathlib.Core.List.{List}
 use lib.Dec.{eqb}
 use lib.ListN.{length, getD, drop}
@@ -11,7 +11,6 @@ use Rattle.head.specs.declared.Head.{Head}
 use Rattle.head.specs.Heads.{lastPosition}
 use Rattle.model.specs.Rows.{expiring}
 use Rattle.finding.specs.Found.{Rows, rows, liveIn, retired, youngest, Fits}
-use Rattle.settling.specs.declared.Knowledge.{Knowledge}
 use Rattle.settling.specs.declared.Finding.{Finding}
 
 -- how many places at the front expire with the next quote: one where all N hold a row, else none
@@ -49,10 +48,10 @@ pub record Tellable (h : Head) (uppers : List ℕ) (last count : ℕ) : Type 0 w
   pub lost : liveIn uppers 0 (expiredPlaces h) + count ≤ h .live
   pub live-few : h .live ≤ h .held
 
--- what is found, with what is known, from where the retired rows are listed, the number of the youngest row over the quote, and how many
--- are retired
-abbrev pub told : Head → List ℕ → Knowledge → ℕ → ℕ → ℕ → Finding
-told h uppers knows at last count =
+-- what is found, whether the rows' ends are known to be sound, from where the retired rows are listed, the number of the youngest row over
+-- the quote, and how many are retired
+abbrev pub told : Head → List ℕ → Bool → ℕ → ℕ → ℕ → Finding
+told h uppers sound at last count =
     record {
       by = expiredPlaces h;
       gone = expiring (h .newest) (h .capacity);
@@ -60,7 +59,7 @@ told h uppers knows at last count =
       lower = positionOf h last;
       live = h .live - (liveIn uppers 0 (expiredPlaces h) + count) + 1;
       held = h .held - expiredPlaces h + 1;
-      knows = knows;
+      sound = sound;
     }
 
 module _ (h : Head) (x columns uppers : List ℕ) where
@@ -76,7 +75,7 @@ module _ (h : Head) (x columns uppers : List ℕ) where
   pub record Finds (places : List ℕ) (f : Finding) : Type 0 where
     pub listed : drop (f .at) places ≡ retiredPlaces
     pub most : f .at ≤ length places
-    pub tells : f ≡ told h uppers (f .knows) (f .at) youngestOver (length retiredPlaces)
+    pub tells : f ≡ told h uppers (f .sound) (f .at) youngestOver (length retiredPlaces)
 
 -- where a row expires its upper end is 0 or not below its position, and not above the newest
 pub record Placed (h : Head) (uppers : List ℕ) : Type 0 where
@@ -93,11 +92,3 @@ unfoldable pub namedBefore : Head → List ℕ → ℕ
 namedBefore h uppers =
     let g = expiring (h .newest) (h .capacity) in
     cond (eqb g 0) 0 (cond (eqb (getD uppers 0 0) 0) (h .held) (getD uppers 0 0 - g))
-
--- what is known of any book that is not torn: every place may hold anything, and each lower end may name the expired position
-unfoldable pub knowsAny : Head → Knowledge
-knowsAny h = record { sound = false; named = h .held; used = h .capacity }
-
--- what is known of a book that calls left: only the places of its rows are in use
-unfoldable pub knowsReached : Head → List ℕ → Knowledge
-knowsReached h uppers = record { sound = true; named = namedBefore h uppers; used = h .held }

@@ -1,14 +1,13 @@
--- The tables of a book as a quote settles them, and what is known of them before.
+-- The tables of a book as a quote settles them, and what may be known of them before.
 use mathlib.Core.Path.{_≡_}
 use Prim.Native.Nat.{ℕ, _+_, _-_, _*_, _≤_, _<_}
 use mathlib.Core.List.{List, [], _∷_, _++_, map}
 use lib.ListN.{length, getD, take, drop}
 use Rattle.lists.specs.Lists.{padded}
 use Rattle.head.specs.declared.Head.{Head}
-use Rattle.model.specs.Rows.{Tables, expiring, renamed}
-use Rattle.cells.specs.Blank.{Blank}
+use Rattle.model.specs.Rows.{Tables, renamed}
 use Rattle.cells.specs.Marked.{marked}
-use Rattle.settling.specs.declared.Knowledge.{Knowledge}
+use Rattle.settling.specs.Blank.{Blank}
 
 module _ (h : Head) where
   -- a table of so many cells a row once so many rows at the front are lost and a row is put behind the others, with zeros up to
@@ -27,29 +26,23 @@ module _ (h : Head) where
   uppersPut by places cells =
       padded (h .capacity) (take (h .held - by) (drop by (marked places (h .newest + 1) cells)) ++ (0 ∷ [])) cells
 
--- a row may be put into a table of so many cells a row: there is room, and of its places only those below used may hold anything
-pub record Ready (h : Head) (width by used : ℕ) (cells : List ℕ) : Type 0 where
+-- a row may be put into a table of so many cells a row: there is room
+pub record Ready (h : Head) (width by : ℕ) (cells : List ℕ) : Type 0 where
   pub narrow : width ≤ 6
   pub few : h .capacity ≤ 1024
   pub by-held : by ≤ h .held
   pub room : h .held - by < h .capacity
-  pub held-used : h .held ≤ used
-  pub used-fit : used ≤ h .capacity
+  pub held-fit : h .held ≤ h .capacity
   pub long : h .capacity * width ≤ length cells
-  pub blank : Blank (used * width) (h .capacity * width) cells
 
 -- no lower end from one place on and below another names position gone
 pub record Unnamed (gone from to : ℕ) (lowers : List ℕ) : Type 0 where
   pub within : from ≤ to
   pub same : (i : ℕ) → from ≤ i → i < to → renamed gone (getD lowers i 0) ≡ getD lowers i 0
 
--- what is known of a book's tables is so: only the places below used may hold anything, zeros stand from there up to place N, and no
--- lower end from place named on names the expired position
-pub record Known (h : Head) (k : Knowledge) (t : Tables) : Type 0 where
-  pub held-used : h .held ≤ k .used
-  pub used-fit : k .used ≤ h .capacity
-  pub columns : Blank (k .used * h .dimensions) (h .capacity * h .dimensions) (t .columns)
-  pub positions : Blank (k .used) (h .capacity) (t .positions)
-  pub lowerEnds : Blank (k .used) (h .capacity) (t .lowerEnds)
-  pub upperEnds : Blank (k .used) (h .capacity) (t .upperEnds)
-  pub unnamed : Unnamed (expiring (h .newest) (h .capacity)) (k .named) (h .held) (t .lowerEnds)
+-- behind the rows of a book zeros stand, up to place N
+pub record Clear (h : Head) (t : Tables) : Type 0 where
+  pub columns : Blank (h .held * h .dimensions) (h .capacity * h .dimensions) (t .columns)
+  pub positions : Blank (h .held) (h .capacity) (t .positions)
+  pub lowerEnds : Blank (h .held) (h .capacity) (t .lowerEnds)
+  pub upperEnds : Blank (h .held) (h .capacity) (t .upperEnds)

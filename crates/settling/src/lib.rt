@@ -1,31 +1,24 @@
 // What a quote finds among the rows that a book holds, on shared tables, and the tables settled by it, one at a time.
 ghost use mathlib.Core.Path.{_≡_};
 ghost use Prim.Native.Nat.{_+_, _*_, _≤_, _<_};
-ghost use mathlib.Core.List.{[], _∷_};
-ghost use lib.ListN.{length, getD};
+ghost use mathlib.Core.Bool.{true, false};
+ghost use lib.ListN.{length};
 ghost use Rattle.head.specs.Heads.{lastPosition};
 ghost use Rattle.model.specs.Rows.{expiring};
 ghost use Rattle.cells.specs.Marked.{Below};
 ghost use Rattle.finding.specs.Found.{liveIn, Sound};
-ghost use Rattle.settling.specs.Findings.{expiredPlaces, positionOf, heldRows, Findable, Tellable, told, Finds, Placed, namedBefore, knowsAny, knowsReached};
-ghost use Rattle.settling.specs.Settled.{rowsPut, lowersPut, uppersPut, Ready, Unnamed};
+ghost use Rattle.settling.specs.Findings.{expiredPlaces, positionOf, heldRows, Findable, Tellable, told, Finds, Placed, namedBefore};
+ghost use Rattle.settling.specs.Settled.{rowsPut, lowersPut, uppersPut, Ready};
+use any_finding::find_any;
 use cells::enter;
 use cells::rename;
 use cells::store_at;
-use finding::find_any;
 use finding::find_sound;
 use head::Head;
 
-// What is known of a book before a quote changes it: whether the rows' ends are as calls leave them, below which place the lower ends
-// stand that name the expired position, and below which place alone the tables may hold anything.
-pub struct Knowledge {
-    pub sound: bool,
-    pub named: usize,
-    pub used: usize,
-}
-
 // What is found of a quote before anything is written: how many places expire with it, the position that does, from where on the
-// places of the retired rows are listed, the quote's lower end, how many rows are live and held after it, and what is known of the book.
+// places of the retired rows are listed, the quote's lower end, how many rows are live and held after it, and whether the rows' ends are
+// known to be as calls leave them.
 pub struct Finding {
     pub by: usize,
     pub gone: u32,
@@ -33,7 +26,7 @@ pub struct Finding {
     pub lower: u32,
     pub live: u32,
     pub held: u32,
-    pub knows: Knowledge,
+    pub sound: bool,
 }
 
 // How many places expire with the next quote: one where all N hold a row.
@@ -80,18 +73,18 @@ fn expired_live(by: usize, upper_ends: &[u32]) -> u32
     if upper_ends[0] == 0 { 1 } else { 0 }
 }
 
-// What is found, from where the retired rows are listed, the number of the youngest row over the quote, how many are retired, and what is
-// known.
+// What is found, from where the retired rows are listed, the number of the youngest row over the quote, how many are retired, and whether
+// the rows' ends are known to be sound.
 fn tell(
     head: Head,
     upper_ends: &[u32],
     at: usize,
     last: usize,
     retired: usize,
-    knows: Knowledge,
+    sound: bool,
 ) -> Finding
     requires { ⌜ Tellable head (now «upper_ends») last retired ⌝ }
-    ensures { λ r. ⌜ r ≡ told head (now («upper_ends» .entry)) knows at last retired ⌝ }
+    ensures { λ r. ⌜ r ≡ told head (now («upper_ends» .entry)) sound at last retired ⌝ }
 {
     let by = expired_places(head);
     let gone = expired_position(head);
@@ -104,12 +97,12 @@ fn tell(
         lower,
         live: head.live - lost + 1,
         held: head.held - (by as u32) + 1,
-        knows,
+        sound,
     }
 }
 
 // How many places may hold a lower end that names the expired position, in a book that calls left.
-fn named_before(head: Head, upper_ends: &[u32]) -> usize
+pub fn named_before(head: Head, upper_ends: &[u32]) -> usize
     requires { ⌜ Placed head (now «upper_ends») ⌝ }
     ensures { λ r. ⌜ r ≡ namedBefore head (now («upper_ends» .entry)) ⌝ }
 {
@@ -133,7 +126,7 @@ pub fn find(
     places: &mut [u16],
 ) -> Finding
     requires { ⌜ Findable head (now quote) (now columns) (now «upper_ends») (now places) ⌝ }
-    ensures { λ r. ⌜ r .knows ≡ knowsAny head ⌝ }
+    ensures { λ r. ⌜ r .sound ≡ false ⌝ }
     ensures { λ r. ⌜ Finds head (now (quote .entry)) (now (columns .entry)) (now («upper_ends» .entry)) (now (places .exit)) r ⌝ }
 {
     let d = head.dimensions as usize;
@@ -149,18 +142,13 @@ pub fn find(
         held,
         places,
     );
-    let knows = Knowledge {
-        sound: false,
-        named: held,
-        used: head.capacity as usize,
-    };
     tell(
         head,
         upper_ends,
         found.at,
         found.last,
         places.len() - found.at,
-        knows,
+        false,
     )
 }
 
@@ -174,8 +162,7 @@ pub fn find_reached(
 ) -> Finding
     requires { ⌜ Findable head (now quote) (now columns) (now «upper_ends») (now places) ⌝ }
     requires { ⌜ Sound (heldRows head (now quote) (now columns) (now «upper_ends»)) (expiredPlaces head) (head .held) ⌝ }
-    requires { ⌜ Placed head (now «upper_ends») ⌝ }
-    ensures { λ r. ⌜ r .knows ≡ knowsReached head (now («upper_ends» .entry)) ⌝ }
+    ensures { λ r. ⌜ r .sound ≡ true ⌝ }
     ensures { λ r. ⌜ Finds head (now (quote .entry)) (now (columns .entry)) (now («upper_ends» .entry)) (now (places .exit)) r ⌝ }
 {
     let d = head.dimensions as usize;
@@ -187,67 +174,48 @@ pub fn find_reached(
         columns,
         upper_ends,
         quote,
+        head.held / 2 <= head.live,
         by,
         held,
         places,
     );
-    let knows = Knowledge {
-        sound: true,
-        named: named_before(head, upper_ends),
-        used: held,
-    };
     tell(
         head,
         upper_ends,
         found.at,
         found.last,
         places.len() - found.at,
-        knows,
+        true,
     )
 }
 
-// Puts a row into a table of so many cells a row, behind those that are left; of its places only those below used may hold anything.
-pub fn settle(head: Head, width: usize, by: usize, row: &[u32], used: usize, cells: &mut [u32])
-    requires { ⌜ Ready head width by used (now cells) ⌝ }
+// Puts a row into a table of so many cells a row, behind those that are left.
+pub fn settle(head: Head, width: usize, by: usize, row: &[u32], cells: &mut [u32])
+    requires { ⌜ Ready head width by (now cells) ⌝ }
     requires { ⌜ length (now row) ≡ width ⌝ }
     ensures { λ _. ⌜ now (cells .exit) ≡ rowsPut head width by (now (row .entry)) (now (cells .entry)) ⌝ }
 {
     let held = head.held as usize;
     let capacity = head.capacity as usize;
-    enter(
-        cells,
-        by * width,
-        held * width,
-        row,
-        used * width,
-        capacity * width,
-    );
+    enter(cells, by * width, held * width, row, capacity * width);
 }
 
-// Settles the lower ends: those that name the expired position are among the first, so many as may, and the quote's is put behind.
+// Settles the lower ends: those that name the expired position name none, and the quote's is put behind.
 pub fn settle_lower_ends(head: Head, found: Finding, lower_ends: &mut [u32])
-    requires { ⌜ Ready head 1 (found .by) (found .knows .used) (now «lower_ends») ⌝ }
-    requires { ⌜ Unnamed (found .gone) (found .knows .named) (head .held) (now «lower_ends») ⌝ }
+    requires { ⌜ Ready head 1 (found .by) (now «lower_ends») ⌝ }
     ensures { λ _. ⌜ now («lower_ends» .exit) ≡ lowersPut head (found .by) (found .gone) (found .lower) (now («lower_ends» .entry)) ⌝ }
 {
-    rename(lower_ends, found.gone, found.knows.named);
-    settle(
-        head,
-        1,
-        found.by,
-        &[found.lower],
-        found.knows.used,
-        lower_ends,
-    );
+    rename(lower_ends, found.gone, head.held as usize);
+    settle(head, 1, found.by, &[found.lower], lower_ends);
 }
 
 // Settles the upper ends: those of the retired rows name the quote, and the quote has none.
-pub fn settle_upper_ends(head: Head, by: usize, places: &[u16], used: usize, upper_ends: &mut [u32])
-    requires { ⌜ Ready head 1 by used (now «upper_ends») ⌝ }
+pub fn settle_upper_ends(head: Head, by: usize, places: &[u16], upper_ends: &mut [u32])
+    requires { ⌜ Ready head 1 by (now «upper_ends») ⌝ }
     requires { ⌜ head .newest < lastPosition ⌝ }
     requires { ⌜ Below (now places) (head .held) ⌝ }
     ensures { λ _. ⌜ now («upper_ends» .exit) ≡ uppersPut head by (now (places .entry)) (now («upper_ends» .entry)) ⌝ }
 {
     store_at(upper_ends, places, head.newest + 1);
-    settle(head, 1, by, &[0], used, upper_ends);
+    settle(head, 1, by, &[0], upper_ends);
 }

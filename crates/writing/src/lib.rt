@@ -25,11 +25,11 @@ pub fn write(
     out: &mut [u8],
 ) -> usize
     requires { ⌜ Writable head (found .lower) (now retired) (now «lower_ends») (heldRows head (now quote) (now columns) (now «upper_ends»)) watches (length (now out)) ⌝ }
-    requires { ⌜ SoundIf (found .knows .sound) head (now «lower_ends») (heldRows head (now quote) (now columns) (now «upper_ends»)) ⌝ }
+    requires { ⌜ SoundIf (found .sound) head (now «lower_ends») (heldRows head (now quote) (now columns) (now «upper_ends»)) ⌝ }
     ensures { λ r. ⌜ r ≡ length (changeBytes head (found .lower) (now («lower_ends» .entry)) (heldRows head (now (quote .entry)) (now (columns .entry)) (now («upper_ends» .entry))) watches) ⌝ }
     ensures { λ r. ⌜ now (out .exit) ≡ laid (changeBytes head (found .lower) (now («lower_ends» .entry)) (heldRows head (now (quote .entry)) (now (columns .entry)) (now («upper_ends» .entry))) watches) (now (out .entry)) ⌝ }
 {
-    let sound = found.knows.sound;
+    let sound = found.sound;
     let watched = write_all_changes(
         watches,
         head,

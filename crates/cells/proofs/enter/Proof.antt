@@ -1,6 +1,4 @@
 -- `enter` meets its contract: the row put behind those that stay is the last, and zeros follow.
-use native.Mathlib.Omega.{arith}
-use borrow.Author.Needs.{needs}
 use Rattle.cells.proofs.Settling.{entered}
 use borrow.Author.Needs.{needs}
 use Rattle.cells.proofs.enter.Statement.{statement}
@@ -15,11 +13,8 @@ sub-at c = search needs
 put-requires : tie.Need-put-requires
 put-requires c κs = search needs
 
-add-end : tie.Need-add-end
-add-end c = search needs
-
-larger-requires : tie.Need-larger-requires
-larger-requires c κs = search needs
+add-clear : tie.Need-add-clear
+add-clear c = search needs
 
 clear-requires : tie.Need-clear-requires
 clear-requires c κs = search needs
@@ -29,19 +24,11 @@ same-length c = search needs
 
 returns : tie.Need-returns
 returns c =
-    let pre = c .before .before .before .before .before .before .before .before .before .before .before .before .before .before .before .pre in
-    entered _ _ _ _ _ _ _ _ _ (pre .0) (pre .1 .0) (pre .1 .1 .0) (omega (arith, c .before .before .before .before .before .before .before .before .before .before .before .shift .kept, pre)) (pre .1 .1 .1 .1)
-    (omega (arith, pre .1 .1 .1 .1 .within, pre)) (c .before .before .before .before .before .before .before .before .before .before .before .shift .ensures) (c .before .before .before .before .before .before .before .put .ensures) (c .before .before .before .larger .ensures) (c .before .before .clear .ensures)
+    let p = c .before .before .before .before .before .before .before .before .before .before .before .before .before .before .pre in
+    let moved = c .before .before .before .before .before .before .before .before .before .before .shift in
+    entered _ _ _ _ _ _ _ _ (p .0) (p .1 .0) (p .1 .1 .0) (p .1 .1 .1) (moved .ensures) (moved .kept .0) (c .before .before .before .before .before .before .put .ensures) (c .before .before .clear .ensures)
 
 pub enter-spec : {M : Type 1} → statement M
 enter-spec =
     tie.close
-    (tie.spec
-    shift-requires
-    sub-at
-    put-requires
-    add-end
-    larger-requires
-    clear-requires
-    same-length
-    returns)
+    (tie.spec shift-requires sub-at put-requires add-clear clear-requires same-length returns)

@@ -52,7 +52,7 @@ write-requires c κs =
       eight = omega (arith, c .before .before .before .before .before .before .before .before .before .before .before .before .before .before .before .good);
       finds = found .ensures .1;
     } in
-    (writable-in v (omega (arith, found .kept)), any-sound-if _ (found .ensures .0))
+    (writable-in v (omega (arith, found .kept)), any-sound-if (found .ensures .0))
 
 accept-requires : tie.Need-accept-requires
 accept-requires c κs = search needs

@@ -4,7 +4,7 @@ use native.Mathlib.Omega.{arith}
 use lib.ListN.{length}
 use denote.Ref.{now}
 use Rattle.model.specs.Promises.{tables}
-use Rattle.settling.proofs.Settled.{ready-columns, ready-positions, ready-lowers, ready-uppers, unnamed, settled}
+use Rattle.settling.proofs.Settled.{ready-columns, ready-positions, ready-lowers, ready-uppers, settled}
 use Rattle.quoting.proofs.Quotes.{Entering, book, writable, retired-low, uppers-settled, quote-done}
 use borrow.Author.Needs.{needs}
 use Rattle.quoting.proofs.enter.Statement.{statement}
@@ -28,27 +28,27 @@ part-write-end : tie.Need-part-write-end
 part-write-end c = search needs
 
 write-requires : tie.Need-write-requires
-write-requires c κs = let s = c .before .before .before .before .before .before .before .before .before .before .before .before in (writable (entering s), s .pre .1 .1 .1)
+write-requires c κs = let s = c .before .before .before .before .before .before .before .before .before .before .before .before in (writable (entering s), s .pre .1 .1)
 
 cast-d : tie.Need-cast-d
 cast-d c = search needs
 
 settle-requires : tie.Need-settle-requires
-settle-requires c κs = let s = c .before .before .before .before .before .before .before .before .before .before .before .before .before .before .before .before .before in (ready-columns (book (entering s)) (s .pre .1 .0) (s .pre .1 .1 .0), book (entering s) .wide)
+settle-requires c κs = let s = c .before .before .before .before .before .before .before .before .before .before .before .before .before .before .before .before .before in (ready-columns (book (entering s)) (s .pre .1 .0), book (entering s) .wide)
 
-add-t33 : tie.Need-add-t33
-add-t33 c = omega (arith, book (entering (c .before .before .before .before .before .before .before .before .before .before .before .before .before .before .before .before .before .before .before .before .before)) .below)
+add-t32 : tie.Need-add-t32
+add-t32 c = omega (arith, book (entering (c .before .before .before .before .before .before .before .before .before .before .before .before .before .before .before .before .before .before .before .before .before)) .below)
 
 slice-aggregate-settle : tie.Need-slice-aggregate-settle
 slice-aggregate-settle c = search needs
 
 settle-requires-2 : tie.Need-settle-requires-2
-settle-requires-2 c κs = let s = c .before .before .before .before .before .before .before .before .before .before .before .before .before .before .before .before .before .before .before .before .before .before .before in (ready-positions (book (entering s)) (s .pre .1 .0) (s .pre .1 .1 .0), refl)
+settle-requires-2 c κs = let s = c .before .before .before .before .before .before .before .before .before .before .before .before .before .before .before .before .before .before .before .before .before .before .before in (ready-positions (book (entering s)) (s .pre .1 .0), refl)
 
 settle-lower-ends-requires : tie.Need-settle-lower-ends-requires
 settle-lower-ends-requires c κs =
     let s = c .before .before .before .before .before .before .before .before .before .before .before .before .before .before .before .before .before .before .before .before .before .before .before .before .before .before .before in
-    (ready-lowers (book (entering s)) (s .pre .1 .0) (s .pre .1 .1 .0), unnamed (book (entering s)) (s .pre .1 .0) (s .pre .1 .1 .0))
+    ready-lowers (book (entering s)) (s .pre .1 .0)
 
 mul-settle-upper-ends : tie.Need-mul-settle-upper-ends
 mul-settle-upper-ends c = let s = c .before .before .before .before .before .before .before .before .before .before .before .before .before .before .before .before .before .before .before .before .before .before .before .before .before .before .before .before .before .before in omega (arith, s .good, s .pre .1 .0 .most)
@@ -65,7 +65,7 @@ part-settle-upper-ends-end c = search needs
 settle-upper-ends-requires : tie.Need-settle-upper-ends-requires
 settle-upper-ends-requires c κs =
     let s = c .before .before .before .before .before .before .before .before .before .before .before .before .before .before .before .before .before .before .before .before .before .before .before .before .before .before .before .before .before .before .before .before in
-    (ready-uppers (book (entering s)) (s .pre .1 .0) (s .pre .1 .1 .0), (book (entering s) .below, retired-low (entering s)))
+    (ready-uppers (book (entering s)) (s .pre .1 .0), (book (entering s) .below, retired-low (entering s)))
 
 accept-requires : tie.Need-accept-requires
 accept-requires c κs = search needs
@@ -104,7 +104,7 @@ enter-spec =
     write-requires
     cast-d
     settle-requires
-    add-t33
+    add-t32
     slice-aggregate-settle
     settle-requires-2
     settle-lower-ends-requires

@@ -2,7 +2,6 @@
 use native.Mathlib.Omega.{arith}
 use Rattle.head.proofs.Numbers.{accepted-number}
 use Rattle.settling.proofs.Findings.{findable}
-use Rattle.settling.proofs.Settled.{any-known}
 use Rattle.quoting.proofs.Quotes.{taken, few-held, quote-refused}
 use Rattle.quoting.proofs.Reaching.{any-sound-if}
 use borrow.Author.Needs.{needs}
@@ -48,7 +47,7 @@ enter-requires : tie.Need-enter-requires
 enter-requires c κs =
     let accepted = accepted-number _ (c .before .before .before .before .before .before .before .before .before .before .before .before .before .judge-row .ensures) (c .before .before .before .before .before .before .before .before .before .before .before .enum-told .given .1) in
     let found = c .before .before .before .before .before .before .before .find .ensures in
-    (accepted, (found .1, (rw (found .0) (any-known (taken _ _ _ _ _ accepted .admitted)), any-sound-if _ (found .0))))
+    (accepted, (found .1, any-sound-if (found .0)))
 
 same-length-5 : tie.Need-same-length-5
 same-length-5 c = search needs

@@ -1,8 +1,6 @@
 -- `find` meets its contract: what is found among the rows is told.
-use mathlib.Core.Path.{refl}
-use borrow.Author.Needs.{needs}
-use Rattle.settling.specs.Findings.{knowsAny}
 use Rattle.settling.proofs.Numbers.{counts, tellable, tells}
+use borrow.Author.Needs.{needs}
 use Rattle.settling.proofs.find.Statement.{statement}
 use Rattle.settling.proofs.find.Tie as tie
 
@@ -18,21 +16,17 @@ expired-places-requires c κs = counts (c .before .before .before .before .befor
 find-any-requires : tie.Need-find-any-requires
 find-any-requires c κs = (rw (c .before .expired-places .ensures) (counts (c .before .before .before .before .before .before .before .before .pre) .1), (c .before .before .before .before .before .before .before .before .pre .fits, c .before .before .before .before .before .before .before .before .pre .room))
 
-cast-tell : tie.Need-cast-tell
-cast-tell c = search needs
-
 sub-tell : tie.Need-sub-tell
 sub-tell c = search needs
 
 tell-requires : tie.Need-tell-requires
-tell-requires c κs = tellable (c .before .before .before .before .before .before .before .before .before .before .before .before .before .pre) (c .before .before .before .before .before .before .expired-places .ensures) (c .before .before .before .before .find-any .ensures)
+tell-requires c κs = tellable (c .before .before .before .before .before .before .before .before .before .before .before .before .pre) (c .before .before .before .before .before .expired-places .ensures) (c .before .before .before .find-any .ensures)
 
 same-length : tie.Need-same-length
 same-length c = search needs
 
 returns : tie.Need-returns
-unfolding knowsAny
-returns c = tells (c .before .before .before .before .before .before .before .before .before .before .before .before .before .before .pre) (c .before .before .before .before .before .before .before .expired-places .ensures) (c .before .before .before .before .before .find-any .ensures) (c .tell .ensures) refl
+returns c = tells (c .before .before .before .before .before .before .before .before .before .before .before .before .before .pre) (c .before .before .before .before .before .before .expired-places .ensures) (c .before .before .before .before .find-any .ensures) (c .tell .ensures)
 
 pub find-spec : {M : Type 1} → statement M
 find-spec =
@@ -42,7 +36,6 @@ find-spec =
     cast-held
     expired-places-requires
     find-any-requires
-    cast-tell
     sub-tell
     tell-requires
     same-length

@@ -1,7 +1,6 @@
 -- `find_reached` meets its contract: what is found among the rows is told.
-use borrow.Author.Needs.{needs}
-use Rattle.settling.specs.Findings.{knowsReached}
 use Rattle.settling.proofs.Numbers.{counts, tellable, tells}
+use borrow.Author.Needs.{needs}
 use Rattle.settling.proofs.find_reached.Statement.{statement}
 use Rattle.settling.proofs.find_reached.Tie as tie
 
@@ -15,23 +14,22 @@ expired-places-requires : tie.Need-expired-places-requires
 expired-places-requires c κs = counts (c .before .before .before .before .before .before .pre .0) .2
 
 find-sound-requires : tie.Need-find-sound-requires
-find-sound-requires c κs = (rw (c .before .expired-places .ensures) (counts (c .before .before .before .before .before .before .before .before .pre .0) .1), (c .before .before .before .before .before .before .before .before .pre .0 .fits, (c .before .before .before .before .before .before .before .before .pre .0 .room, rw (c .before .expired-places .ensures) (c .before .before .before .before .before .before .before .before .pre .1 .0))))
-
-named-before-requires : tie.Need-named-before-requires
-named-before-requires c κs = c .before .before .before .before .before .before .before .before .before .before .before .pre .1 .1
+find-sound-requires c κs =
+    let p = c .before .before .before .before .before .before .before .before .before .before .pre in
+    let e = c .before .before .before .expired-places .ensures in
+    (rw e (counts (p .0) .1), (p .0 .fits, (p .0 .room, rw e (p .1))))
 
 sub-tell : tie.Need-sub-tell
 sub-tell c = search needs
 
 tell-requires : tie.Need-tell-requires
-tell-requires c κs = tellable (c .before .before .before .before .before .before .before .before .before .before .before .before .before .pre .0) (c .before .before .before .before .before .before .expired-places .ensures) (c .before .before .before .before .find-sound .ensures)
+tell-requires c κs = tellable (c .before .before .before .before .before .before .before .before .before .before .before .before .before .before .pre .0) (c .before .before .before .before .before .before .before .expired-places .ensures) (c .before .before .before .find-sound .ensures)
 
 same-length : tie.Need-same-length
 same-length c = search needs
 
 returns : tie.Need-returns
-unfolding knowsReached
-returns c = tells (c .before .before .before .before .before .before .before .before .before .before .before .before .before .before .pre .0) (c .before .before .before .before .before .before .before .expired-places .ensures) (c .before .before .before .before .before .find-sound .ensures) (c .tell .ensures) (rw (c .before .before .named-before .ensures))
+returns c = tells (c .before .before .before .before .before .before .before .before .before .before .before .before .before .before .before .pre .0) (c .before .before .before .before .before .before .before .before .expired-places .ensures) (c .before .before .before .before .find-sound .ensures) (c .tell .ensures)
 
 pub find-reached-spec : {M : Type 1} → statement M
 find-reached-spec =
@@ -41,7 +39,6 @@ find-reached-spec =
     cast-held
     expired-places-requires
     find-sound-requires
-    named-before-requires
     sub-tell
     tell-requires
     same-length

@@ -1,8 +1,8 @@
 -- `settle` meets its contract.
 use native.Mathlib.Omega.{arith}
-use borrow.Author.Needs.{needs}
 use Rattle.settling.specs.Settled.{rowsPut}
 use Rattle.settling.proofs.Putting.{sizes, row-fits}
+use borrow.Author.Needs.{needs}
 use Rattle.settling.proofs.settle.Statement.{statement}
 use Rattle.settling.proofs.settle.Tie as tie
 
@@ -21,14 +21,11 @@ mul-enter-2 c = omega (arith, sizes (c .before .before .before .before .before .
 mul-enter-3 : tie.Need-mul-enter-3
 mul-enter-3 c = omega (arith, sizes (c .before .before .before .before .before .pre .0))
 
-mul-enter-4 : tie.Need-mul-enter-4
-mul-enter-4 c = omega (arith, sizes (c .before .before .before .before .before .pre .0))
-
 enter-requires : tie.Need-enter-requires
 enter-requires c κs =
-    let v = c .before .before .before .before .before .pre .0 in
-    let z = sizes v in
-    (z .0, (z .1, (row-fits v (c .before .before .before .before .before .pre .1), (v .long, v .blank))))
+    let p = c .before .before .before .before .before .pre in
+    let z = sizes (p .0) in
+    (z .0, (z .1, (row-fits (p .0) (p .1), p .0 .long)))
 
 same-length : tie.Need-same-length
 same-length c = search needs
@@ -46,7 +43,6 @@ settle-spec =
     mul-enter
     mul-enter-2
     mul-enter-3
-    mul-enter-4
     enter-requires
     same-length
     returns)

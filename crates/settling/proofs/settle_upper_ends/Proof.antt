@@ -1,7 +1,7 @@
 -- `settle_upper_ends` meets its contract.
 use mathlib.Core.Path.{refl}
+use Rattle.settling.proofs.Putting.{ready-same, places-below, uppers-put}
 use borrow.Author.Needs.{needs}
-use Rattle.settling.proofs.Putting.{places-below, uppers-ready, uppers-put}
 use Rattle.settling.proofs.settle_upper_ends.Statement.{statement}
 use Rattle.settling.proofs.settle_upper_ends.Tie as tie
 
@@ -15,7 +15,7 @@ slice-aggregate-settle : tie.Need-slice-aggregate-settle
 slice-aggregate-settle c = search needs
 
 settle-requires : tie.Need-settle-requires
-settle-requires c κs = (uppers-ready (c .before .before .before .before .before .before .before .before .before .pre .0) (c .before .before .before .before .before .before .before .before .before .pre .1 .1) (c .before .before .before .before .store-at .ensures) (c .before .before .before .before .store-at .kept .0), refl)
+settle-requires c κs = (ready-same (c .before .before .before .before .before .before .before .before .before .pre .0) (c .before .before .before .before .store-at .kept .0), refl)
 
 same-length : tie.Need-same-length
 same-length c = search needs

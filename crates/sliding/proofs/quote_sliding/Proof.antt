@@ -1,15 +1,15 @@
--- `quote_reached` meets its contract: a book that calls left is answered by the settings, the quote and the output.
+-- `quote_sliding` meets its contract: a book that calls left is answered by the settings, the quote and the output.
 use native.Mathlib.Omega.{arith}
 use Rattle.head.proofs.Numbers.{accepted-number}
 use Rattle.settling.proofs.Standing.{within}
 use Rattle.settling.proofs.Findings.{findable}
-use Rattle.settling.proofs.Settled.{placed}
-use Rattle.settling.proofs.Reaching.{reached-sound, reached-known}
-use Rattle.quoting.proofs.Quotes.{taken, few-held, quote-refused}
-use Rattle.quoting.proofs.Reaching.{reached-answers, reached-sound-if}
+use Rattle.settling.proofs.Reaching.{reached-sound}
+use Rattle.quoting.proofs.Quotes.{taken, few-held}
+use Rattle.quoting.proofs.Reaching.{reached-answers}
+use Rattle.sliding.proofs.Sliding.{slide-refused}
 use borrow.Author.Needs.{needs}
-use Rattle.quoting.proofs.quote_reached.Statement.{statement}
-use Rattle.quoting.proofs.quote_reached.Tie as tie
+use Rattle.sliding.proofs.quote_sliding.Statement.{statement}
+use Rattle.sliding.proofs.quote_sliding.Tie as tie
 
 judge-reached-requires : tie.Need-judge-reached-requires
 judge-reached-requires c κs = search needs
@@ -21,27 +21,26 @@ enum-told-2 : tie.Need-enum-told-2
 enum-told-2 c = search needs
 
 returns : tie.Need-returns
-returns c = quote-refused _ _ _ _ _ (reached-answers _ _ (c .before .before .before .before .before .before .before .before .before .pre) (c .before .before .judge-reached .ensures)) (c .enum-told2 .given .1)
+returns c = slide-refused _ _ _ _ _ (reached-answers _ _ (c .before .before .before .before .before .before .before .before .before .pre .0) (c .before .before .judge-reached .ensures)) (c .enum-told2 .given .1)
 
 slice-aggregate-find-reached : tie.Need-slice-aggregate-find-reached
 slice-aggregate-find-reached c = search needs
 
 find-reached-requires : tie.Need-find-reached-requires
 find-reached-requires c κs =
-    let reached = c .before .before .before .before .before .before .before .before .before .before .before .before .pre in
+    let reached = c .before .before .before .before .before .before .before .before .before .before .before .before .pre .0 in
     let a = taken _ _ _ _ _ (accepted-number _ (reached-answers _ _ reached (c .before .before .before .before .before .judge-reached .ensures)) (c .before .before .before .enum-told .given .1)) .admitted in
-    (findable a (omega (arith, few-held a)), (reached-sound _ reached (within a .some-capacity), placed a))
+    (findable a (omega (arith, few-held a)), reached-sound _ reached (within a .some-capacity))
 
 slice-aggregate-enter : tie.Need-slice-aggregate-enter
 slice-aggregate-enter c = search needs
 
 enter-requires : tie.Need-enter-requires
 enter-requires c κs =
-    let reached = c .before .before .before .before .before .before .before .before .before .before .before .before .before .before .before .before .before .before .before .before .pre in
-    let accepted = accepted-number _ (reached-answers _ _ reached (c .before .before .before .before .before .before .before .before .before .before .before .before .before .judge-reached .ensures)) (c .before .before .before .before .before .before .before .before .before .before .before .enum-told .given .1) in
-    let some = within (taken _ _ _ _ _ accepted .admitted) .some-capacity in
+    let p = c .before .before .before .before .before .before .before .before .before .before .before .before .before .before .before .before .before .before .before .before .pre in
+    let accepted = accepted-number _ (reached-answers _ _ (p .0) (c .before .before .before .before .before .before .before .before .before .before .before .before .before .judge-reached .ensures)) (c .before .before .before .before .before .before .before .before .before .before .before .enum-told .given .1) in
     let found = c .before .before .before .before .before .before .before .find-reached .ensures in
-    (accepted, (found .1, (rw (found .0) (reached-known reached some), reached-sound-if _ _ reached some)))
+    (p .0, (p .1, (accepted, found .1)))
 
 same-length : tie.Need-same-length
 same-length c = search needs
@@ -61,8 +60,8 @@ same-length-5 c = search needs
 returns-2 : tie.Need-returns-2
 returns-2 c = search needs
 
-pub quote-reached-spec : {M : Type 1} → statement M
-quote-reached-spec =
+pub quote-sliding-spec : {M : Type 1} → statement M
+quote-sliding-spec =
     tie.close
     (tie.spec
     judge-reached-requires

@@ -1,7 +1,6 @@
--- Laws of cells that are zeros already: what is left of them further on, and what need not be cleared for them.
-use mathlib.Core.Path.{_≡_, refl, sym, ap, _∙_}
+-- Laws of cells that are zeros: from a later place on, and behind a list.
+use mathlib.Core.Path.{_≡_, sym, ap, _∙_}
 use Prim.Native.Nat.{ℕ, _+_, _-_, _≤_}
-use native.Mathlib.Nat.{le-refl}
 use native.Mathlib.Omega.{arith}
 use mathlib.Core.List.{List, _++_, append-assoc}
 use lib.ListN.{length, drop, replicate, length-replicate, replicate-append-replicate}
@@ -9,11 +8,7 @@ use lib.Seq.{drop-at, drop-append-seam, drop-drop}
 use Rattle.lists.specs.Lists.{padded}
 use Rattle.lists.proofs.Writing.{drop-padded}
 use Rattle.lists.proofs.Storing.{drop-later}
-use Rattle.cells.specs.Blank.{Blank}
-
--- no cell need be
-pub blank-none : (n : ℕ) (cells : List ℕ) → Blank n n cells
-blank-none n cells = record { within = le-refl n; zeros = let e : n - n ≡ 0 = omega arith in rw e }
+use Rattle.settling.specs.Blank.{Blank}
 
 -- zeros in two parts, and what stands behind them
 zeros-split : (k n : ℕ) (rest : List ℕ) → replicate k 0 ++ (replicate n 0 ++ rest) ≡ replicate (k + n) 0 ++ rest
@@ -36,14 +31,6 @@ blank-same {from} {to} {cells} {cells'} e b = record {
   within = b .within;
   zeros = e ∙ b .zeros ∙ ap (λ (l : List ℕ). replicate (to - from) 0 ++ l) (sym (drop-later cells' cells from to (b .within) e));
 }
-
--- zeros behind a list up to where zeros stand
-pub padded-blank : {from to : ℕ} {cells : List ℕ} (l : List ℕ) → length l ≤ from → Blank from to cells → padded from l cells ≡ padded to l cells
-unfolding padded
-padded-blank {from} {to} {cells} l h b =
-    let w = b .within in
-    let n : to - length l ≡ (from - length l) + (to - from) = omega arith in
-    rw (n, b .zeros, zeros-split)
 
 -- zeros that were put behind a list
 pub blank-padded : (n m : ℕ) (l before : List ℕ) → length l ≤ m → m ≤ n → Blank m n (padded n l before)
