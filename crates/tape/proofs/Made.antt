@@ -1,24 +1,26 @@
 -- From the contract of the player to the reference model: whatever its own code prints of a tape, read in whatever pieces, is the reference
 -- model's print of that tape.
-use mathlib.Core.Path.{_≡_, refl, sym, ap, subst, _∙_}
+use mathlib.Core.Path.{_≡_, refl, sym, ap, _∙_}
 use Prim.Native.Nat.{ℕ}
-use mathlib.Core.List.{List, [], _++_}
+use mathlib.Core.List.{List, []}
 use lib.ListN.{length, take, drop, replicate}
 use lib.Seq.{take-append-seam}
 use Rattle.lists.specs.Lists.{laid}
 use Rattle.head.specs.Heads.{freshHead}
 use Rattle.frames.specs.Frames.{readAt}
 use Rattle.model.specs.Rows.{Tables}
-use Rattle.model.specs.Reference.{opened, unopened}
-use Rattle.model.specs.Calls.{lengthsOf}
+use Rattle.model.specs.Reference.{Reference, Lengths, opened, unopened}
+use Rattle.model.specs.Calls.{Lent, Outputs, lengthsOf}
 use Rattle.asking.specs.Asking.{Asked, finished, unread, misplaced, request, asked}
 use Rattle.tape_model.specs.Play.{playAsked, playAt, print, referenceMake, Player, bookMake, begun, bookPlay}
-use Rattle.tape_model.specs.Streams.{Streams, plays, stops, drops, fills}
-use Rattle.tape_model.proofs.Streaming.{streamed-agrees}
+use Rattle.tape_model.specs.Streams.{Streams, drops, fills}
+use Rattle.tape_model.proofs.Agrees.{Alike, at-first}
+use Rattle.tape_model.proofs.Streaming.{printed-in-pieces}
+use Rattle.tape_model.proofs.Sliding.{slide-alike, plays-alike, stops-alike}
 use Rattle.turn_lines.specs.Turns.{player}
 use Rattle.tape.specs.declared.Step.{Step}
 use Rattle.tape.specs.Steps.{Stepped}
-use Rattle.tape.specs.Prints.{left, Prints, goes-on, ends, forgets, reads}
+use Rattle.tape.specs.Prints.{left, Prints, goes-on, ends, forgets, reads, slides}
 
 -- a player keeps its cells for positions
 asked-cells : (a : Asked) (next : ℕ) (k : Player) → playAsked begun bookMake a next k .state .outputs .cells ≡ k .outputs .cells
@@ -44,19 +46,23 @@ module _ {tape before after bytes' : List ℕ} {place : ℕ} {k : Player} {r : S
       rw (m .head, m .watches, m .lent, m .bytes)
       (ap (λ (cells : List ℕ). let p : Player = record { world = next .world; outputs = record { bytes = next .outputs .bytes; cells = cells } } in p) (sym (cells-kept tape place k)))
 
--- what is printed by steps that were made is what the definition prints of the same pieces
-prints-stream : {piece rest text : List ℕ} {place : ℕ} {k : Player} → Prints piece place k rest text → Streams begun bookMake piece place k rest text
-prints-stream (goes-on {piece} {rest} {text} {place = place} {k = k} {r = r} h m o rest-made) =
-    subst (λ (l : List ℕ). Streams begun bookMake piece place k rest (l ++ text)) (sym (its-text m))
-    (plays h (sym (m .over) ∙ o)
-    (subst (λ (p : ℕ). Streams begun bookMake piece p (bookPlay piece place k .state) rest text) (m .next)
-    (subst (λ (s : Player). Streams begun bookMake piece (r .next) s rest text) (its-player m) (prints-stream rest-made))))
-prints-stream (ends {piece} {rest} {place = place} {k = k} h m o) =
-    subst (λ (l : List ℕ). Streams begun bookMake piece place k rest l) (sym (its-text m)) (stops h (sym (m .over) ∙ o))
-prints-stream (forgets played p) = drops played (prints-stream p)
-prints-stream (reads more p) = fills more (prints-stream p)
+-- what is printed by steps that were made is what the reference model prints of the same pieces, on whatever tables that agree in the places
+-- of the book the player goes on
+prints-stream : (lengths : Lengths) {piece rest text : List ℕ} {place : ℕ} {k : Player} → Prints piece place k rest text → (s : Reference) → Alike lengths s k
+    → Streams opened (referenceMake lengths) piece place s rest text
+prints-stream lengths (goes-on {k = k} h m o more) s v =
+    rw (its-text m)
+    (plays-alike lengths s k v h (sym (m .over) ∙ o)
+    (λ next w. rw (← (m .next)) (prints-stream lengths more next (rw (its-player m) w))))
+prints-stream lengths (ends {k = k} h m o) s v = rw (its-text m) (stops-alike lengths s k v h (sym (m .over) ∙ o))
+prints-stream lengths (forgets played p) s v = drops played (prints-stream lengths p s v)
+prints-stream lengths (reads more p) s v = fills more (prints-stream lengths p s v)
+prints-stream lengths (slides {k = k} {u = u} holds same p) s v = prints-stream lengths p s (slide-alike lengths s k v u holds same)
 
 -- from a head of zeros, the lines that the player's steps print of a tape, read in any pieces, are the reference model's print of it
 pub played-agrees : (tape : List ℕ) (t : Tables) (ws bytes : List ℕ) {text : List ℕ} → Prints [] 0 (player (freshHead 0 0 0) t ws bytes) tape text
     → text ≡ print opened (referenceMake (lengthsOf (record { tables = t; watches = ws }) (record { bytes = bytes; cells = replicate 1024 0 }))) tape unopened
-played-agrees tape t ws bytes p = streamed-agrees tape (record { tables = t; watches = ws }) (record { bytes = bytes; cells = replicate 1024 0 }) (prints-stream p)
+played-agrees tape t ws bytes p =
+    let l : Lent = record { tables = t; watches = ws } in
+    let o : Outputs = record { bytes = bytes; cells = replicate 1024 0 } in
+    printed-in-pieces opened (referenceMake (lengthsOf l o)) tape unopened (prints-stream (lengthsOf l o) p unopened (at-first l o))

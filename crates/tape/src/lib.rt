@@ -4,8 +4,10 @@ mod waiting;
 
 use head::Answer;
 use head::Head;
+pub use playing::Wish;
 pub use playing::play;
-pub use playing::play_reached;
+pub use playing::step_of;
+pub use playing::wish_at;
 pub use sizes::CHANGE_BYTES;
 use sizes::CHANGE_FRAME;
 use sizes::PLACES;

@@ -1,11 +1,8 @@
 // The player: reads the frame at a place, judges its place on the tape, makes its call, and lays its lines.
 ghost use mathlib.Core.Path.{_≡_};
-ghost use Prim.Native.Nat.{_≤_};
 ghost use lib.Dec.{eqb};
-ghost use lib.ListN.{length};
-ghost use Rattle.model.specs.Calls.{Reached};
-ghost use Rattle.model.specs.Promises.{tables, world};
-ghost use Rattle.turn_lines.specs.Turns.{textBytes, player};
+ghost use Rattle.model.specs.Promises.{tables};
+ghost use Rattle.turn_lines.specs.Turns.{player};
 ghost use Rattle.tape.specs.Steps.{WishAt, Stepped};
 use crate::CHANGE_BYTES;
 use crate::Step;
@@ -17,14 +14,14 @@ use head::Head;
 use turn_lines::Turn;
 
 // What stands at a place of a tape: what it wants of the player, the columns of its quote, and the place behind it.
-struct Wish {
-    wanted: Wanted,
-    columns: [u32; 6],
-    next: usize,
+pub struct Wish {
+    pub wanted: Wanted,
+    pub columns: [u32; 6],
+    pub next: usize,
 }
 
 // Reads the frame at a place of a tape, and judges its place on the tape.
-fn wish_at(tape: &[u8], place: usize, head: Head) -> Wish
+pub fn wish_at(tape: &[u8], place: usize, head: Head) -> Wish
     ensures { λ r. ⌜ WishAt (now (tape .entry)) place head (r .wanted) (r .columns) (r .next) ⌝ }
 {
     let read = read_at(tape, place);
@@ -38,7 +35,7 @@ fn wish_at(tape: &[u8], place: usize, head: Head) -> Wish
 }
 
 // The step that a turn makes: the tape is over where nothing could be read, and the place stayed.
-fn step(place: usize, next: usize, turn: Turn) -> Step
+pub fn step_of(place: usize, next: usize, turn: Turn) -> Step
     ensures { λ r. ⌜ r ≡ record { answer = turn .answer; over = eqb next place; next = next; count = turn .count; head = turn .head; watches = turn .watches } ⌝ }
 {
     let answer = turn.answer;
@@ -86,63 +83,9 @@ pub fn play(
                 bytes,
             );
             let turn = turn_lines::put_quote(reply, watches, bytes, text);
-            step(place, next, turn)
+            step_of(place, next, turn)
         }
-        _ => step(
-            place,
-            next,
-            turns::make_other(
-                wanted,
-                head,
-                columns,
-                positions,
-                lower_ends,
-                upper_ends,
-                watches,
-                bytes,
-                text,
-            ),
-        ),
-    }
-}
-
-// Plays the frame at a place of a tape, on a book that calls left, into a text that has room for the lines of any frame.
-pub fn play_reached(
-    tape: &[u8],
-    place: usize,
-    head: Head,
-    columns: &mut [u32],
-    positions: &mut [u32],
-    lower_ends: &mut [u32],
-    upper_ends: &mut [u32],
-    watches: [u64; 8],
-    bytes: &mut [u8; CHANGE_BYTES],
-    text: &mut [u8],
-) -> Step
-    requires { ⌜ textBytes ≤ length (now text) ⌝ }
-    requires { ⌜ Reached (world head (tables (now columns) (now positions) (now «lower_ends») (now «upper_ends»)) watches) ⌝ }
-    ensures { λ r. ⌜ Stepped (now (tape .entry)) place (player head (tables (now (columns .entry)) (now (positions .entry)) (now («lower_ends» .entry)) (now («upper_ends» .entry))) watches (now (bytes .entry))) (now (text .entry)) r (tables (now (columns .exit)) (now (positions .exit)) (now («lower_ends» .exit)) (now («upper_ends» .exit))) (now (bytes .exit)) (now (text .exit)) ⌝ }
-{
-    let wish = wish_at(tape, place, head);
-    let next = wish.next;
-    let quote = wish.columns;
-    let wanted = wish.wanted;
-    match wanted {
-        Wanted::Quote(k) => {
-            let reply = quoting::quote_reached(
-                head,
-                &quote[..k as usize],
-                columns,
-                positions,
-                lower_ends,
-                upper_ends,
-                watches,
-                bytes,
-            );
-            let turn = turn_lines::put_quote(reply, watches, bytes, text);
-            step(place, next, turn)
-        }
-        _ => step(
+        _ => step_of(
             place,
             next,
             turns::make_other(

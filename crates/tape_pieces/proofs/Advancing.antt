@@ -14,13 +14,13 @@ use Rattle.frames.proofs.Reading.{Found, beyond, at-end, unknown, cut, whole, f
 use Rattle.asking.specs.Asking.{Asked, finished, unread, misplaced, request, asked}
 use Rattle.tape_model.specs.Play.{playAsked, playAt, Player, bookMake, begun, bookPlay}
 use Rattle.turn_lines.specs.Turns.{textBytes}
-use Rattle.head.specs.declared.Head.{Head}
 use Rattle.model.specs.Rows.{Tables}
-use Rattle.model.specs.Calls.{Reached}
-use Rattle.model.specs.Promises.{tables, world}
+use Rattle.model.specs.Promises.{tables}
 use Rattle.tape.specs.declared.Step.{Step}
 use Rattle.tape.specs.Steps.{Stepped}
-use Rattle.tape_pieces.specs.Stands.{GoesOn, left, Advanced}
+use Rattle.tape_pieces.specs.declared.Stand.{Stand}
+use Rattle.tape_pieces.specs.Starts.{Long}
+use Rattle.tape_pieces.specs.Stands.{GoesOn, left, Advanced, PiecePlayed}
 
 module _ (tape : List ℕ) (place : ℕ) (k : Player) (h : place ≤ length tape) where
   -- what is asked for is played
@@ -62,21 +62,20 @@ module _ {tape : List ℕ} {place : ℕ} {k : Player} {before : List ℕ} {r : S
 
 -- ---- the frames of a piece
 
--- what holds from frame to frame: the lines fit the text, the place stands within the tape, and the book is one that calls left
-pub record Playing (tape : List ℕ) (end : ℕ) (text₀ columns positions lower-ends upper-ends text : List ℕ) (place ended used : ℕ) (head : Head) (watches : List ℕ) : Type 0 where
-  pub long : length text ≡ length text₀
-  pub inside : place ≤ length tape
-  pub same : ended ≡ end
-  pub fits : used ≤ length text
-  pub reached : Reached (world head (tables columns positions lower-ends upper-ends) watches)
+-- what holds from frame to frame: the tables and the text are as long as they were, and what is promised once the piece is played holds of the
+-- frames that were
+pub record Playing (tape : List ℕ) (t₀ : Tables) (text₀ : List ℕ) (now₀ : Stand) (t : Tables) (text : List ℕ) (now : Stand) : Type 0 where
+  pub columns : length (t .columns) ≡ length (t₀ .columns)
+  pub positions : length (t .positions) ≡ length (t₀ .positions)
+  pub lowerEnds : length (t .lowerEnds) ≡ length (t₀ .lowerEnds)
+  pub upperEnds : length (t .upperEnds) ≡ length (t₀ .upperEnds)
+  pub text-long : length text ≡ length text₀
+  pub tables-long : Long t
+  pub played : PiecePlayed (length tape) (length text₀) now₀ now t
 
 -- what fits a text fits one of the same length
 pub fits-as : {n m room : ℕ} → n ≡ m → room ≤ m → room ≤ n
 fits-as e h = omega (arith, e)
-
--- the same head and watches, by other names
-pub same-reached : {h h' : Head} {t : Tables} {ws ws' : List ℕ} → h' ≡ h → ws' ≡ ws → Reached (world h t ws) → Reached (world h' t ws')
-same-reached e f c = rw (e, f) c
 
 -- ---- whether a frame is played
 

@@ -1,11 +1,16 @@
--- Whether a frame of a piece of a tape is played, how much is left to play, and that a step leaves less.
+-- Whether a frame of a piece of a tape is played, how much is left to play, and where a player stands once a frame or the piece is played.
 use mathlib.Core.Path.{_≡_}
 use Prim.Native.Nat.{ℕ, _+_, _-_, _≤_, _<_}
 use mathlib.Core.Bool.{Bool, _&&_, not, cond}
 use mathlib.Core.List.{List}
 use lib.Dec.{leb}
 use lib.ListN.{length}
+use Rattle.model.specs.Rows.{Tables}
+use Rattle.model.specs.Calls.{Reached}
+use Rattle.model.specs.Promises.{world}
 use Rattle.turn_lines.specs.Turns.{textBytes}
+use Rattle.tape_pieces.specs.declared.Stand.{Stand}
+use Rattle.tape_pieces.specs.Starts.{Within, FullOpened, onward}
 
 -- whether a frame is played: the tape is not over, this room is enough for the lines of any frame, and it is ready
 pub record GoesOn (over : Bool) (room : ℕ) (ready result : Bool) : Type 0 where
@@ -19,3 +24,26 @@ left tape place over = cond over 0 (1 + (length tape - place))
 pub record Advanced (tape : List ℕ) (place next : ℕ) (over : Bool) : Type 0 where
   pub inside : next ≤ length tape
   pub less : left tape next over < 1 + (length tape - place)
+
+-- where a player stands once it played a frame of a tape into a text of this length, with tables t
+pub record FramePlayed (tape : List ℕ) (room : ℕ) (s r : Stand) (t : Tables) : Type 0 where
+  pub advanced : Advanced tape (s .place) (r .place) (r .over)
+  pub fits : r .used ≤ room
+  pub same : r .end ≡ s .end
+  pub starts : Within 1024 (r .start)
+  pub opened : FullOpened (r .start) (r .head)
+  pub reached : Reached (world (r .head) (onward (r .start) t) (r .watches))
+
+-- where a player stands once it played the frames of a piece of this length into a text of this length, with tables t
+pub record PiecePlayed (end room : ℕ) (s r : Stand) (t : Tables) : Type 0 where
+  pub inside : r .place ≤ end
+  pub fits : r .used ≤ room
+  pub same : r .end ≡ s .end
+  pub starts : Within 1023 (r .start)
+  pub reached : Reached (world (r .head) (onward (r .start) t) (r .watches))
+
+-- two players stand with the same book, at the same place of the tables
+pub record SameBook (s r : Stand) : Type 0 where
+  pub head : r .head ≡ s .head
+  pub watches : r .watches ≡ s .watches
+  pub start : r .start ≡ s .start

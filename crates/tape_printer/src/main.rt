@@ -2,10 +2,12 @@
 ghost use mathlib.Core.Path.{_≡_};
 ghost use Prim.Native.Nat.{_≤_};
 ghost use lib.ListN.{length};
+ghost use Rattle.tape_pieces.specs.Stands.{SameBook};
 use head::Head;
-use sizes::COLUMN_CELLS;
-use sizes::PLACES;
+use tape_pieces::SLIDING_CELLS;
+use tape_pieces::SLIDING_PLACES;
 use tape_pieces::Stand;
+use tape_pieces::Start;
 use tape_pieces::play_piece;
 
 // How many bytes of text are gathered before they are written out.
@@ -17,7 +19,7 @@ const PIECE: usize = 65536;
 // Writes out the gathered lines; where that fails the tape is over.
 fn flush(stand: Stand, text: &[u8]) -> Stand
     requires { ⌜ stand .used ≤ length (now text) ⌝ }
-    ensures { λ r. ⌜ (r .used ≡ 0) × (r .place ≡ stand .place) × (r .end ≡ stand .end) × (r .head ≡ stand .head) × (r .watches ≡ stand .watches) ⌝ }
+    ensures { λ r. ⌜ (r .used ≡ 0) × (r .place ≡ stand .place) × (r .end ≡ stand .end) × SameBook stand r ⌝ }
 {
     let used = stand.used;
     let mut now = stand;
@@ -32,7 +34,7 @@ fn flush(stand: Stand, text: &[u8]) -> Stand
 // ended or the tape is over.
 fn refill(stand: Stand, tape: &mut [u8]) -> Stand
     requires { ⌜ (stand .place ≤ stand .end) × (stand .end ≤ length (now tape)) ⌝ }
-    ensures { λ r. ⌜ (r .used ≡ stand .used) × (r .place ≤ r .end) × (r .end ≤ length (now (tape .entry))) × (r .head ≡ stand .head) × (r .watches ≡ stand .watches) ⌝ }
+    ensures { λ r. ⌜ (r .used ≡ stand .used) × (r .place ≤ r .end) × (r .end ≤ length (now (tape .entry))) × SameBook stand r ⌝ }
 {
     let mut now = stand;
     let end = now.end;
@@ -49,16 +51,17 @@ fn refill(stand: Stand, tape: &mut [u8]) -> Stand
 }
 
 fn main() {
-    let mut columns = [0u32; COLUMN_CELLS];
-    let mut positions = [0u32; PLACES];
-    let mut lower_ends = [0u32; PLACES];
-    let mut upper_ends = [0u32; PLACES];
+    let mut columns = [0u32; SLIDING_CELLS];
+    let mut positions = [0u32; SLIDING_PLACES];
+    let mut lower_ends = [0u32; SLIDING_PLACES];
+    let mut upper_ends = [0u32; SLIDING_PLACES];
     let mut bytes = [0u8; tape::CHANGE_BYTES];
     let mut tape = [0u8; PIECE];
     let mut text = [0u8; GATHERED + tape::TEXT_BYTES];
     let mut stand = Stand {
         head: Head::fresh(0, 0, 0),
         watches: [0; 8],
+        start: Start { row: 0, cell: 0 },
         place: 0,
         end: 0,
         used: 0,

@@ -1,70 +1,93 @@
--- `play_piece` meets its contract: the lines stay within the text, and the place within the tape.
+-- `play_piece` meets its contract: the lines stay within the text, the place within the tape, and the book is one that calls left.
 use mathlib.Core.Path.{refl, _∙_}
 use native.Mathlib.Omega.{arith}
-use Prim.Native.Nat.{_-_}
-use lib.ListN.{length, length-take, length-drop}
-use borrow.Rule.Slice.PartMut.{same-len-mid}
-use Rattle.tape.proofs.Reached.{step-reached}
+use Rattle.model.specs.Promises.{tables}
 use Rattle.tape_pieces.specs.Stands.{left}
-use Rattle.tape_pieces.proofs.Advancing.{stepped-on, stepped-fits, Playing, fits-as, less-left, lines-room}
-use borrow.Author.Needs.{needs}
+use Rattle.tape_pieces.proofs.Advancing.{Playing, fits-as, less-left, lines-room}
+use Rattle.tape_pieces.proofs.Starting.{long-same}
 use Rattle.tape_pieces.proofs.play_piece.Statement.{statement}
 use Rattle.tape_pieces.proofs.play_piece.Tie as tie
 
 abbrev Inv-loop : tie.InvT-loop
-Inv-loop tape columns₀ positions₀ lower-ends₀ upper-ends₀ bytes₀ text₀ now₀ columns positions lower-ends upper-ends bytes text now = Playing tape (now₀ .end) text₀ columns positions lower-ends upper-ends text (now .place) (now .end) (now .used) (now .head) (now .watches)
+Inv-loop tape columns₀ positions₀ lower-ends₀ upper-ends₀ bytes₀ text₀ now₀ columns positions lower-ends upper-ends bytes text now =
+    Playing tape (tables columns₀ positions₀ lower-ends₀ upper-ends₀) text₀ now₀ (tables columns positions lower-ends upper-ends) text now
 
 abbrev μ-loop : tie.MeasureT-loop
 μ-loop tape columns₀ positions₀ lower-ends₀ upper-ends₀ bytes₀ text₀ now₀ columns positions lower-ends upper-ends bytes text now = left tape (now .place) (now .over)
 
 loop-holds : tie.Need-loop-holds Inv-loop μ-loop
-loop-holds c = let p = c .before .before .pre in record { long = refl; inside = p .1; same = refl; fits = p .0; reached = p .2 }
+loop-holds c =
+    let p = c .before .before .before .before .before .before .pre in
+    record {
+      columns = refl;
+      positions = refl;
+      lowerEnds = refl;
+      upperEnds = refl;
+      text-long = refl;
+      tables-long = p .1 .0;
+      played = record { inside = p .0 .1; fits = p .0 .0; same = refl; starts = p .1 .1 .0; reached = p .1 .1 .1 };
+    }
 
 plays-requires : tie.Need-plays-requires Inv-loop μ-loop
-plays-requires c κs = c .loop .inv .fits
+plays-requires c κs = fits-as (c .loop .inv .text-long) (c .loop .inv .played .fits)
 
-sub-play-reached : tie.Need-sub-play-reached Inv-loop μ-loop
-sub-play-reached c = omega (arith, c .before .before .before .before .before .before .before .before .before .loop .inv .fits)
+play-frame-requires : tie.Need-play-frame-requires Inv-loop μ-loop
+play-frame-requires c κs =
+    let i = c .before .before .before .before .before .before .before .before .loop .inv in
+    let room = lines-room (c .before .before .before .before .before .before .before .plays .ensures) (c .before .before .before .before .before .before .if1 .taken) in
+    ((omega (arith, room, i .played .fits, i .text-long), i .played .inside), (i .tables-long, (i .played .starts, i .played .reached)))
 
-part-play-reached-start : tie.Need-part-play-reached-start Inv-loop μ-loop
-part-play-reached-start c = omega (arith, c .before .before .before .before .before .before .before .before .before .loop .inv .fits)
-
-part-play-reached-end : tie.Need-part-play-reached-end Inv-loop μ-loop
-part-play-reached-end c = search needs
-
-play-reached-requires : tie.Need-play-reached-requires Inv-loop μ-loop
-play-reached-requires c κs = (simp (length-take, length-drop) (omega (arith, lines-room (c .before .before .before .before .before .before .before .before .before .plays .ensures) (c .before .before .before .before .before .before .before .before .if1 .taken))), c .before .before .before .before .before .before .before .before .before .before .loop .inv .reached)
-
-add-now : tie.Need-add-now Inv-loop μ-loop
-add-now c =
-    let made = c .before .before .before .before .before .play-reached in
-    omega (arith, stepped-fits (made .ensures) (made .kept .1 .1 .1 .1 .1 .1 .1 .1 .1 .0), c .before .before .before .before .before .before .play-reached-arg6 .given, c .before .before .before .before .before .before .before .before .before .before .before .before .before .before .before .before .loop .inv .fits, c .before .before .before .before .before .before .before .before .before .before .before .before .before .before .before .before .loop .inv .long, c .before .before .before .before .before .before .before .before .before .before .before .before .before .before .before .before .before .before .before .good .1 .1 .1 .1 .1 .1 .1 .0 .0)
+rewind-requires : tie.Need-rewind-requires Inv-loop μ-loop
+rewind-requires c κs =
+    let i = c .before .before .before .before .before .before .before .before .before .before .before .before .before .before .before .before .before .before .before .before .before .before .before .before .before .loop .inv in
+    let made = c .before .before .before .before .before .before .before .before .before .before .before .before .before .before .before .before .play-frame in
+    (long-same (made .kept .1 .1 .0) (made .kept .1 .1 .1 .0) (made .kept .1 .1 .1 .1 .0) (made .kept .1 .1 .1 .1 .1 .0) (i .tables-long), (made .ensures .starts, made .ensures .opened))
 
 loop-less : tie.Need-loop-less Inv-loop μ-loop
-loop-less c =
-    let i = c .before .before .before .before .before .before .before .before .before .before .before .before .before .before .before .before .loop in
-    less-left (stepped-on (c .before .before .before .before .before .play-reached .ensures) (i .inv .inside)) (c .before .before .before .before .before .before .before .before .before .before .before .before .before .before .before .plays .ensures) (c .before .before .before .before .before .before .before .before .before .before .before .before .before .before .if1 .taken)
+loop-less c = less-left (c .before .before .before .before .before .before .before .before .before .before .before .before .before .before .before .before .before .before .before .before .before .before .before .before .before .play-frame .ensures .advanced) (c .before .before .before .before .before .before .before .before .before .before .before .before .before .before .before .before .before .before .before .before .before .before .before .before .before .before .before .before .before .before .before .before .before .plays .ensures) (c .before .before .before .before .before .before .before .before .before .before .before .before .before .before .before .before .before .before .before .before .before .before .before .before .before .before .before .before .before .before .before .before .if1 .taken)
 
 loop-again : tie.Need-loop-again Inv-loop μ-loop
 loop-again c =
-    let i = c .before .before .before .before .before .before .before .before .before .before .before .before .before .before .before .before .loop in
-    let made = c .before .before .before .before .before .play-reached in
-    let x = i .text in
-    let u = i .now .used in
-    let same = same-len-mid u (length x - u) x (made .last .1 .1 .1 .1 .1 .1 .1 .1 .1 .0) (made .kept .1 .1 .1 .1 .1 .1 .1 .1 .1 .0) in
+    let i = c .before .before .before .before .before .before .before .before .before .before .before .before .before .before .before .before .before .before .before .before .before .before .before .before .before .before .before .before .before .before .before .before .before .before .loop .inv in
+    let made = c .before .before .before .before .before .before .before .before .before .before .before .before .before .before .before .before .before .before .before .before .before .before .before .before .before .play-frame in
+    let wound = c .before .before .before .before .before .before .before .before .rewind in
+    let c# = wound .kept .1 .1 .0 ∙ made .kept .1 .1 .0 in
+    let p# = wound .kept .1 .1 .1 .0 ∙ made .kept .1 .1 .1 .0 in
+    let l# = wound .kept .1 .1 .1 .1 .0 ∙ made .kept .1 .1 .1 .1 .0 in
+    let u# = wound .kept .1 .1 .1 .1 .1 .0 ∙ made .kept .1 .1 .1 .1 .1 .0 in
     record {
-      long = same ∙ i .inv .long;
-      inside = stepped-on (made .ensures) (i .inv .inside) .inside;
-      same = i .inv .same;
-      fits = fits-as same (omega (arith, stepped-fits (made .ensures) (made .kept .1 .1 .1 .1 .1 .1 .1 .1 .1 .0), c .before .before .before .before .before .before .play-reached-arg6 .given, i .inv .fits));
-      reached = step-reached (made .ensures) (i .inv .reached);
+      columns = c# ∙ i .columns;
+      positions = p# ∙ i .positions;
+      lowerEnds = l# ∙ i .lowerEnds;
+      upperEnds = u# ∙ i .upperEnds;
+      text-long = made .kept .1 .1 .1 .1 .1 .1 .1 .0 ∙ i .text-long;
+      tables-long = long-same c# p# l# u# (i .tables-long);
+      played = record {
+        inside = made .ensures .advanced .inside;
+        fits = omega (arith, made .ensures .fits, i .text-long);
+        same = made .ensures .same ∙ i .played .same;
+        starts = wound .ensures .0;
+        reached = wound .ensures .1 _ (made .ensures .reached);
+      };
     }
 
 same-length : tie.Need-same-length Inv-loop μ-loop
-same-length c = c .before .before .loop .inv .long
+same-length c = c .before .before .loop .inv .columns
+
+same-length-2 : tie.Need-same-length-2 Inv-loop μ-loop
+same-length-2 c = c .before .before .loop .inv .positions
+
+same-length-3 : tie.Need-same-length-3 Inv-loop μ-loop
+same-length-3 c = c .before .before .loop .inv .lowerEnds
+
+same-length-4 : tie.Need-same-length-4 Inv-loop μ-loop
+same-length-4 c = c .before .before .loop .inv .upperEnds
+
+same-length-5 : tie.Need-same-length-5 Inv-loop μ-loop
+same-length-5 c = c .before .before .loop .inv .text-long
 
 returns : tie.Need-returns Inv-loop μ-loop
-returns c = let i = c .before .before .loop .inv in (omega (arith, i .fits, i .long), i .inside, i .same, i .reached)
+returns c = c .before .before .loop .inv .played
 
 pub play-piece-spec : {M : Type 1} → statement M
 play-piece-spec =
@@ -74,12 +97,13 @@ play-piece-spec =
     μ-loop
     loop-holds
     plays-requires
-    sub-play-reached
-    part-play-reached-start
-    part-play-reached-end
-    play-reached-requires
-    add-now
+    play-frame-requires
+    rewind-requires
     loop-less
     loop-again
     same-length
+    same-length-2
+    same-length-3
+    same-length-4
+    same-length-5
     returns)

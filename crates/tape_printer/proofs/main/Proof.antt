@@ -1,18 +1,17 @@
--- `main` meets its contract: the lines stand within the text, and what has come of the tape within its buffer.
-use mathlib.Core.Path.{_≡_, refl, sym, _∙_}
-use Prim.Native.Nat.{_≤_}
+-- `main` meets its contract: the lines stand within the text, what has come of the tape within its buffer, and the rows within the tables.
+use mathlib.Core.Path.{refl, sym, _∙_}
 use native.Mathlib.Omega.{arith}
-use lib.ListN.{length, length-take}
-use Rattle.model.specs.Calls.{Reached}
-use Rattle.model.proofs.Reached.{reached-first}
-use Rattle.model.specs.Promises.{tables, world}
-use Rattle.tape_pieces.proofs.Advancing.{same-reached}
+use lib.ListN.{length-take}
+use Rattle.model.specs.Promises.{tables}
+use Rattle.tape_pieces.proofs.Starting.{same-reached, same-starts}
+use Rattle.tape_printer.proofs.Printing.{Printing, slides-through, first-reached}
 use borrow.Author.Needs.{needs}
 use Rattle.tape_printer.proofs.main.Statement.{statement}
 use Rattle.tape_printer.proofs.main.Tie as tie
 
 abbrev Inv-loop : tie.InvT-loop
-Inv-loop columns₀ positions₀ lower-ends₀ upper-ends₀ bytes₀ tape₀ text₀ stand₀ turns₀ columns positions lower-ends upper-ends bytes tape text stand turns = (stand .used ≤ length text) × (stand .place ≤ stand .end) × (stand .end ≤ length tape) × (length tape ≡ 65536) × (length text ≡ 300100) × Reached (world (stand .head) (tables columns positions lower-ends upper-ends) (stand .watches))
+Inv-loop columns₀ positions₀ lower-ends₀ upper-ends₀ bytes₀ tape₀ text₀ stand₀ turns₀ columns positions lower-ends upper-ends bytes tape text stand turns =
+    Printing (tables columns positions lower-ends upper-ends) tape text stand
 
 abbrev μ-loop : tie.MeasureT-loop
 μ-loop columns₀ positions₀ lower-ends₀ upper-ends₀ bytes₀ tape₀ text₀ stand₀ turns₀ columns positions lower-ends upper-ends bytes tape text stand turns = turns
@@ -21,22 +20,35 @@ fresh-requires : tie.Need-fresh-requires Inv-loop μ-loop
 fresh-requires c κs = search needs
 
 loop-holds : tie.Need-loop-holds Inv-loop μ-loop
-loop-holds c = (omega arith, omega arith, omega arith, refl, refl, same-reached (c .fresh .ensures) refl (reached-first _))
+loop-holds c =
+    record {
+      columns = refl;
+      positions = refl;
+      lowerEnds = refl;
+      upperEnds = refl;
+      tape-long = refl;
+      text-long = refl;
+      fits = omega arith;
+      inside = omega arith;
+      come = omega arith;
+      starts = record { few = omega arith; near = omega arith };
+      reached = first-reached _ _ (c .fresh .ensures);
+    }
 
 sub-turns : tie.Need-sub-turns Inv-loop μ-loop
 sub-turns c = search needs
 
 slice-aggregate-flush : tie.Need-slice-aggregate-flush Inv-loop μ-loop
-slice-aggregate-flush c = sym (c .before .before .before .before .loop .inv .4)
+slice-aggregate-flush c = sym (c .before .before .before .before .loop .inv .text-long)
 
 flush-requires : tie.Need-flush-requires Inv-loop μ-loop
-flush-requires c κs = c .before .before .before .before .loop .inv .0
+flush-requires c κs = c .before .before .before .before .loop .inv .fits
 
 slice-aggregate-refill : tie.Need-slice-aggregate-refill Inv-loop μ-loop
-slice-aggregate-refill c = sym (c .before .before .before .before .before .before .loop .inv .3)
+slice-aggregate-refill c = sym (c .before .before .before .before .before .before .loop .inv .tape-long)
 
 refill-requires : tie.Need-refill-requires Inv-loop μ-loop
-refill-requires c κs = let i = c .before .before .before .before .before .before .loop .inv in let f = c .before .flush .ensures in (omega (arith, f .1, f .2, i .1), omega (arith, f .2, i .2))
+refill-requires c κs = let i = c .before .before .before .before .before .before .loop .inv in let f = c .before .flush .ensures in (omega (arith, f .1, f .2, i .inside), omega (arith, f .2, i .come))
 
 array-share-prefix-tape : tie.Need-array-share-prefix-tape Inv-loop μ-loop
 array-share-prefix-tape c = omega (arith, c .before .refill .ensures .2, c .before .refill .kept .1 .0)
@@ -45,22 +57,56 @@ slice-aggregate-play-piece : tie.Need-slice-aggregate-play-piece Inv-loop μ-loo
 slice-aggregate-play-piece c = simp length-take (omega (arith, c .before .before .refill .ensures .2, c .before .before .refill .kept .1 .0))
 
 slice-aggregate-play-piece-2 : tie.Need-slice-aggregate-play-piece-2 Inv-loop μ-loop
-slice-aggregate-play-piece-2 c = sym (c .before .before .before .before .before .before .before .before .before .before .before .before .before .before .before .loop .inv .4)
+slice-aggregate-play-piece-2 c = sym (c .before .before .before .before .before .before .before .before .before .before .loop .inv .columns)
+
+slice-aggregate-play-piece-3 : tie.Need-slice-aggregate-play-piece-3 Inv-loop μ-loop
+slice-aggregate-play-piece-3 c = sym (c .before .before .before .before .before .before .before .before .before .before .before .loop .inv .positions)
+
+slice-aggregate-play-piece-4 : tie.Need-slice-aggregate-play-piece-4 Inv-loop μ-loop
+slice-aggregate-play-piece-4 c = sym (c .before .before .before .before .before .before .before .before .before .before .before .before .loop .inv .lowerEnds)
+
+slice-aggregate-play-piece-5 : tie.Need-slice-aggregate-play-piece-5 Inv-loop μ-loop
+slice-aggregate-play-piece-5 c = sym (c .before .before .before .before .before .before .before .before .before .before .before .before .before .loop .inv .upperEnds)
+
+slice-aggregate-play-piece-6 : tie.Need-slice-aggregate-play-piece-6 Inv-loop μ-loop
+slice-aggregate-play-piece-6 c = sym (c .before .before .before .before .before .before .before .before .before .before .before .before .before .before .before .loop .inv .text-long)
 
 play-piece-requires : tie.Need-play-piece-requires Inv-loop μ-loop
-play-piece-requires c κs = let i = c .before .before .before .before .before .before .before .before .before .before .before .before .before .before .before .loop .inv in let f = c .before .before .before .before .before .before .before .before .before .before .flush .ensures in let r = c .before .before .before .before .before .before .before .before .refill .ensures in (omega (arith, r .0, f .0), simp length-take (omega (arith, r .1, r .2, c .before .before .before .before .before .before .before .before .refill .kept .1 .0)), same-reached (r .3 ∙ f .3) (r .4 ∙ f .4) (i .5))
+play-piece-requires c κs =
+    let i = c .before .before .before .before .before .before .before .before .before .before .before .before .before .before .before .loop .inv in
+    let f = c .before .before .before .before .before .before .before .before .before .before .flush .ensures in
+    let r = c .before .before .before .before .before .before .before .before .refill .ensures in (
+      (omega (arith, r .0, f .0), simp length-take (omega (arith, r .1, r .2, c .before .before .before .before .before .before .before .before .refill .kept .1 .0))),
+      (slides-through i, (same-starts (r .3) (same-starts (f .3) (i .starts)), same-reached _ (r .3) (same-reached _ (f .3) (i .reached)))),
+    )
 
 loop-less : tie.Need-loop-less Inv-loop μ-loop
-loop-less c = omega (arith, c .before .before .before .before .before .before .before .before .before .before .before .before .before .before .before .before .loop-test .taken)
+loop-less c = omega (arith, c .before .before .before .before .before .before .before .before .before .before .before .before .before .before .before .before .before .before .before .before .loop-test .taken)
 
 loop-again : tie.Need-loop-again Inv-loop μ-loop
-loop-again c = let i = c .before .before .before .before .before .before .before .before .before .before .before .before .before .before .before .before .before .loop .inv in let r = c .before .before .before .before .before .before .before .before .before .before .refill in let p = c .before .«play-piece» in (omega (arith, p .ensures .0, p .kept .1 .1 .1 .1 .1 .1 .1 .0), omega (arith, rw length-take at (p .ensures .1), p .ensures .2), omega (arith, p .ensures .2, r .ensures .2, r .kept .1 .0), r .kept .1 .0 ∙ i .3, p .kept .1 .1 .1 .1 .1 .1 .1 .0 ∙ i .4, p .ensures .3)
+loop-again c =
+    let i = c .before .before .before .before .before .before .before .before .before .before .before .before .before .before .before .before .before .before .before .before .before .loop .inv in
+    let r = c .before .before .before .before .before .before .before .before .before .before .before .before .before .before .refill in
+    let p = c .before .before .before .before .before .play-piece in
+    record {
+      columns = p .kept .1 .1 .0 ∙ i .columns;
+      positions = p .kept .1 .1 .1 .0 ∙ i .positions;
+      lowerEnds = p .kept .1 .1 .1 .1 .0 ∙ i .lowerEnds;
+      upperEnds = p .kept .1 .1 .1 .1 .1 .0 ∙ i .upperEnds;
+      tape-long = r .kept .1 .0 ∙ i .tape-long;
+      text-long = p .kept .1 .1 .1 .1 .1 .1 .1 .0 ∙ i .text-long;
+      fits = omega (arith, p .ensures .fits, p .kept .1 .1 .1 .1 .1 .1 .1 .0);
+      inside = omega (arith, rw length-take at (p .ensures .inside), p .ensures .same);
+      come = omega (arith, p .ensures .same, r .ensures .2, r .kept .1 .0);
+      starts = p .ensures .starts;
+      reached = p .ensures .reached;
+    }
 
 slice-aggregate-flush-2 : tie.Need-slice-aggregate-flush-2 Inv-loop μ-loop
-slice-aggregate-flush-2 c = sym (c .before .before .loop .inv .4)
+slice-aggregate-flush-2 c = sym (c .before .before .loop .inv .text-long)
 
 flush-requires-2 : tie.Need-flush-requires-2 Inv-loop μ-loop
-flush-requires-2 c κs = c .before .before .loop .inv .0
+flush-requires-2 c κs = c .before .before .loop .inv .fits
 
 returns : tie.Need-returns Inv-loop μ-loop
 returns c = search needs
@@ -81,6 +127,10 @@ main-spec =
     array-share-prefix-tape
     slice-aggregate-play-piece
     slice-aggregate-play-piece-2
+    slice-aggregate-play-piece-3
+    slice-aggregate-play-piece-4
+    slice-aggregate-play-piece-5
+    slice-aggregate-play-piece-6
     play-piece-requires
     loop-less
     loop-again

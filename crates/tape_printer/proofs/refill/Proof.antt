@@ -1,4 +1,4 @@
--- `refill` meets its contract: what is left of the tape moves to the front, and what comes stands behind it.
+-- `refill` meets its contract.
 use native.Mathlib.Omega.{arith}
 use lib.ListN.{length-take}
 use borrow.Author.Needs.{needs}
@@ -9,7 +9,7 @@ slice-reshare-prefix-ready : tie.Need-slice-reshare-prefix-ready
 slice-reshare-prefix-ready c = search needs
 
 slice-aggregate-ready : tie.Need-slice-aggregate-ready
-slice-aggregate-ready c = simp length-take (omega (arith, c .before .before .before .pre .1))
+slice-aggregate-ready c = simp length-take (omega (arith, c .before .before .before .pre))
 
 ready-requires : tie.Need-ready-requires
 ready-requires c κs = search needs
@@ -53,4 +53,19 @@ returns-2 c = search needs
 pub refill-spec : {M : Type 1} → statement M
 refill-spec =
     tie.close
-    (tie.spec slice-reshare-prefix-ready slice-aggregate-ready ready-requires same-length returns sub-rest to-front-requires sub-take-in part-take-in-start part-take-in-end slice-aggregate-take-in take-in-requires add-now same-length-2 returns-2)
+    (tie.spec
+    slice-reshare-prefix-ready
+    slice-aggregate-ready
+    ready-requires
+    same-length
+    returns
+    sub-rest
+    to-front-requires
+    sub-take-in
+    part-take-in-start
+    part-take-in-end
+    slice-aggregate-take-in
+    take-in-requires
+    add-now
+    same-length-2
+    returns-2)

@@ -1,0 +1,176 @@
+-- Where the rows of a book start: from frame to frame, and once they are moved to the front of the tables.
+use mathlib.Core.Path.{_≡_, sym, ap, _∙_}
+use Prim.Native.Nat.{ℕ, _+_, _-_, _*_, _≤_, _<_}
+use native.Mathlib.Nat.{mul-le-mul, mul-le-mul-right, one-mul, zero-mul, zero-add}
+use native.Mathlib.Decide.{decLt}
+use native.Mathlib.Omega.{arith}
+use mathlib.Core.Bool.{true}
+use mathlib.Core.List.{List, [], _++_, append-nil}
+use lib.ListN.{length, take, drop, length-drop, drop-of-length-le}
+use lib.Seq.{paste, length-paste, length-take-le, take-all, take-paste, drop-at, drop-drop}
+use borrow.Rule.Slice.PartMut.{midOf, putMid}
+use Rattle.head.specs.declared.Head.{Head}
+use Rattle.head.specs.Heads.{settingsHold}
+use Rattle.head.proofs.Settings.{settings-within}
+use Rattle.model.specs.Rows.{Tables}
+use Rattle.model.specs.Places.{SameFront}
+use Rattle.model.specs.Calls.{Reached}
+use Rattle.model.specs.Promises.{tables, world}
+use Rattle.model.proofs.Places.{reached-in-places}
+use Rattle.sliding.specs.Laid.{Roomy}
+use Rattle.sliding.specs.Slid.{later}
+use Rattle.turn_lines.specs.Turns.{player}
+use Rattle.tape_sliding.specs.declared.SlidStep.{SlidStep}
+use Rattle.tape_sliding.specs.Steps.{StepSlid}
+use Rattle.tape_sliding.proofs.Slides.{left-reached, left-few, left-holds}
+use Rattle.tape_pieces.specs.declared.Start.{Start}
+use Rattle.tape_pieces.specs.declared.Stand.{Stand}
+use Rattle.tape_pieces.specs.Stands.{SameBook}
+use Rattle.tape_pieces.specs.Starts.{Long, Within, FullOpened, onward}
+
+-- tables as long as these are long enough
+pub long-same : {t t' : Tables} → length (t' .columns) ≡ length (t .columns) → length (t' .positions) ≡ length (t .positions) → length (t' .lowerEnds) ≡ length (t .lowerEnds)
+    → length (t' .upperEnds) ≡ length (t .upperEnds) → Long t → Long t'
+long-same c p l u k = record {
+  columns = rw c (k .columns);
+  positions = rw p (k .positions);
+  lowerEnds = rw l (k .lowerEnds);
+  upperEnds = rw u (k .upperEnds);
+}
+
+-- players with the same book: it stands for both, and starts as near
+pub same-reached : {s r : Stand} (t : Tables) → SameBook s r → Reached (world (s .head) (onward (s .start) t) (s .watches)) → Reached (world (r .head) (onward (r .start) t) (r .watches))
+same-reached t b c = rw (b .head, b .watches, b .start) c
+
+pub same-starts : {s r : Stand} → SameBook s r → Within 1023 (s .start) → Within 1023 (r .start)
+same-starts b w = rw (b .start) w
+
+-- ---- the part of a table from a place on, lent and come back
+
+abbrev part : ℕ → List ℕ → List ℕ
+part a xs = midOf a (length xs - a) xs
+
+abbrev back : ℕ → List ℕ → List ℕ → List ℕ
+back a xs ys = putMid a (length xs - a) xs ys
+
+part-is : (a : ℕ) (xs : List ℕ) → part a xs ≡ drop a xs
+part-is a xs = take-all (length xs - a) (drop a xs) (omega (arith, length-drop a xs))
+
+back-is : (a b : ℕ) (xs ys : List ℕ) → a ≤ length xs → drop (a + b) (back a xs ys) ≡ drop b ys
+back-is a b xs ys h =
+    let none : drop (length xs - a) (drop a xs) ≡ [] = drop-of-length-le (drop a xs) {i = length xs - a} (omega (arith, length-drop a xs)) in
+    sym (drop-drop b a (back a xs ys))
+    ∙ ap (drop b) (drop-at (take a xs) (ys ++ drop (length xs - a) (drop a xs)) a (length-take-le a xs h) ∙ rw (none, append-nil))
+
+module _ (s : Start) (t : Tables) where
+  -- the tables from where the rows start on
+  abbrev pub parts : Tables
+  parts = tables (part (s .cell) (t .columns)) (part (s .row) (t .positions)) (part (s .row) (t .lowerEnds)) (part (s .row) (t .upperEnds))
+
+  -- the tables once those came back
+  abbrev pub backs : Tables → Tables
+  backs t' = tables (back (s .cell) (t .columns) (t' .columns)) (back (s .row) (t .positions) (t' .positions)) (back (s .row) (t .lowerEnds) (t' .lowerEnds)) (back (s .row) (t .upperEnds) (t' .upperEnds))
+
+  parts-are : parts ≡ onward s t
+  unfolding onward
+  parts-are = rw (part-is (s .cell) (t .columns), part-is (s .row) (t .positions), part-is (s .row) (t .lowerEnds), part-is (s .row) (t .upperEnds))
+
+  module _ (k : Long t) (w : Within 1023 s) where
+    -- they start within the tables
+    pub starts-inside : (s .cell ≤ length (t .columns)) × (s .row ≤ length (t .positions)) × (s .row ≤ length (t .lowerEnds)) × (s .row ≤ length (t .upperEnds))
+    starts-inside = omega (arith, k .columns, k .positions, k .lowerEnds, k .upperEnds, w .few, w .near)
+
+    -- there is room for a row behind them
+    pub parts-roomy : Roomy parts
+    unfolding onward
+    parts-roomy =
+        rw parts-are (record {
+          columns = omega (arith, length-drop (s .cell) (t .columns), k .columns, w .few, w .near);
+          positions = omega (arith, length-drop (s .row) (t .positions), k .positions, w .few);
+          lowerEnds = omega (arith, length-drop (s .row) (t .lowerEnds), k .lowerEnds, w .few);
+          upperEnds = omega (arith, length-drop (s .row) (t .upperEnds), k .upperEnds, w .few);
+        })
+
+    -- the rows so many places on
+    backs-later : (t' : Tables) (by d : ℕ) → onward (record { row = s .row + by; cell = s .cell + by * d }) (backs t') ≡ later d by t'
+    unfolding onward later
+    backs-later t' by d =
+        let i = starts-inside in
+        rw (
+          back-is (s .cell) (by * d) (t .columns) (t' .columns) (i .0),
+          back-is (s .row) by (t .positions) (t' .positions) (i .1),
+          back-is (s .row) by (t .lowerEnds) (t' .lowerEnds) (i .2),
+          back-is (s .row) by (t .upperEnds) (t' .upperEnds) (i .3),
+        )
+
+  -- a book that calls left stands in them
+  pub parts-reached : {h : Head} {ws : List ℕ} → Reached (world h (onward s t) ws) → Reached (world h parts ws)
+  parts-reached c = rw parts-are c
+
+-- ---- a frame is played
+
+-- none or one row of at most six cells
+pub few-cells : {by : ℕ} (d : ℕ) → by ≤ 1 → by * d ≤ d
+few-cells d k = omega (arith, mul-le-mul-right d k, one-mul d)
+
+slid-cells : {by d : ℕ} → by ≤ 1 → Dec (0 < by) → (0 < by → d ≤ 6) → by * d ≤ 6 * by
+slid-cells {by} {d} k (yes l) h = omega (arith, few-cells d k, h l)
+slid-cells {by} {d} k (no n) h = let z : by ≡ 0 = omega arith in omega (arith, few-cells d k, ap (λ (j : ℕ). j * d) z, zero-mul d)
+
+module _ {tape : List ℕ} {place : ℕ} {h : Head} {t : Tables} {ws bytes before : List ℕ} {z : SlidStep} {t' : Tables} {bytes' after : List ℕ}
+    (m : StepSlid tape place (player h t ws bytes) before z t' bytes' after) {s s' : Start} (w : Within 1023 s)
+    (e : s' ≡ record { row = s .row + z .by; cell = s .cell + z .by * z .step .head .dimensions }) where
+  -- only a book that was opened slides
+  six : 0 < z .by → z .step .head .dimensions ≤ 6
+  six l = settings-within _ _ _ (left-holds m l) .few-columns
+
+  -- where the rows start then
+  pub start-within : Within 1024 s'
+  start-within = rw e record {
+    few = omega (arith, w .few, left-few m);
+    near = omega (arith, w .near, slid-cells (left-few m) (decLt 0 (z .by)) six);
+  }
+
+  pub start-opened : FullOpened s' (z .step .head)
+  start-opened = rw e record { opened = λ q. left-holds m (omega (arith, w .few)) }
+
+-- and the book stands there
+pub start-reached : (s : Start) (t : Tables) {tape : List ℕ} {place : ℕ} {h : Head} {ws bytes before : List ℕ} {z : SlidStep} {t' : Tables} {bytes' after : List ℕ} {s' : Start}
+    → StepSlid tape place (player h (parts s t) ws bytes) before z t' bytes' after → Within 1023 s → s' ≡ record { row = s .row + z .by; cell = s .cell + z .by * z .step .head .dimensions }
+    → Long t → Reached (world h (onward s t) ws) → Reached (world (z .step .head) (onward s' (backs s t t')) (z .step .watches))
+start-reached s t {z = z} {t' = t'} m w e k c = rw (e, backs-later s t k w t' (z .by) (z .step .head .dimensions)) (left-reached m (parts-reached s t c))
+
+-- ---- the rows are moved to the front
+
+front-moved : (cells : List ℕ) (by n : ℕ) {after : List ℕ} → by + n ≤ length cells → after ≡ paste cells 0 (drop by cells) (by + n - by) → SameFront n (drop by cells) after
+front-moved cells by n h e =
+    let k : by + n - by ≡ n = omega arith in
+    rw (e, k) record {
+      long = omega (arith, length-paste cells 0 (drop by cells) n (omega (arith, zero-add n)) (omega (arith, length-drop by cells)));
+      same = ap (λ (j : ℕ). take j (paste cells 0 (drop by cells) n)) (sym (zero-add n)) ∙ take-paste cells 0 (drop by cells) n (omega arith) (omega (arith, length-drop by cells));
+    }
+
+module _ {s : Start} {h : Head} {t : Tables} (k : Long t) (w : Within 1024 s) (o : FullOpened s h) (full : 1024 ≤ s .row) where
+  holds : settingsHold (h .dimensions) (h .capacity) (h .directions) ≡ true
+  holds = o .opened (omega (arith, w .few))
+
+  -- the rows stand within the tables
+  pub rows-inside : (s .cell + h .capacity * h .dimensions ≤ 12288) × (s .row + h .capacity ≤ 2048)
+  rows-inside =
+      let v = settings-within _ _ _ holds in
+      omega (arith, w .few, w .near, v .small-capacity, mul-le-mul (v .small-capacity) (v .few-columns))
+
+  -- at the front they are the same book
+  pub rewound : {cs qs ls us : List ℕ} → cs ≡ paste (t .columns) 0 (drop (s .cell) (t .columns)) (s .cell + h .capacity * h .dimensions - s .cell)
+      → qs ≡ paste (t .positions) 0 (drop (s .row) (t .positions)) (s .row + h .capacity - s .row) → ls ≡ paste (t .lowerEnds) 0 (drop (s .row) (t .lowerEnds)) (s .row + h .capacity - s .row)
+      → us ≡ paste (t .upperEnds) 0 (drop (s .row) (t .upperEnds)) (s .row + h .capacity - s .row)
+      → (ws : List ℕ) → Reached (world h (onward s t) ws) → Reached (world h (onward (record { row = 0; cell = 0 }) (tables cs qs ls us)) ws)
+  unfolding onward
+  rewound c q l u ws r =
+      let i = rows-inside in
+      reached-in-places holds r (record {
+        columns = front-moved (t .columns) (s .cell) (h .capacity * h .dimensions) (omega (arith, i .0, k .columns)) c;
+        positions = front-moved (t .positions) (s .row) (h .capacity) (omega (arith, i .1, k .positions)) q;
+        lowerEnds = front-moved (t .lowerEnds) (s .row) (h .capacity) (omega (arith, i .1, k .lowerEnds)) l;
+        upperEnds = front-moved (t .upperEnds) (s .row) (h .capacity) (omega (arith, i .1, k .upperEnds)) u;
+      })

@@ -1,0 +1,141 @@
+-- `play_frame` meets its contract: the tables are lent from where the rows start on, and the text behind the lines that are gathered.
+use mathlib.Core.Path.{refl}
+use Prim.Native.Nat.{_-_}
+use native.Mathlib.Omega.{arith}
+use lib.ListN.{length-take, length-drop}
+use Rattle.tape_pieces.proofs.Advancing.{stepped-on, stepped-fits}
+use Rattle.tape_pieces.proofs.Starting.{parts-roomy, parts-reached, start-within, start-opened, start-reached}
+use Rattle.tape_sliding.proofs.Slides.{left-few}
+use borrow.Author.Needs.{needs}
+use Rattle.tape_pieces.proofs.play_frame.Statement.{statement}
+use Rattle.tape_pieces.proofs.play_frame.Tie as tie
+
+mul-play-sliding : tie.Need-mul-play-sliding
+mul-play-sliding c = search needs
+
+sub-play-sliding : tie.Need-sub-play-sliding
+sub-play-sliding c = search needs
+
+part-play-sliding-start : tie.Need-part-play-sliding-start
+part-play-sliding-start c = search needs
+
+part-play-sliding-end : tie.Need-part-play-sliding-end
+part-play-sliding-end c = search needs
+
+mul-play-sliding-2 : tie.Need-mul-play-sliding-2
+mul-play-sliding-2 c = search needs
+
+sub-play-sliding-2 : tie.Need-sub-play-sliding-2
+sub-play-sliding-2 c = search needs
+
+part-play-sliding-start-2 : tie.Need-part-play-sliding-start-2
+part-play-sliding-start-2 c = search needs
+
+part-play-sliding-end-2 : tie.Need-part-play-sliding-end-2
+part-play-sliding-end-2 c = search needs
+
+mul-play-sliding-3 : tie.Need-mul-play-sliding-3
+mul-play-sliding-3 c = search needs
+
+sub-play-sliding-3 : tie.Need-sub-play-sliding-3
+sub-play-sliding-3 c = search needs
+
+part-play-sliding-start-3 : tie.Need-part-play-sliding-start-3
+part-play-sliding-start-3 c = search needs
+
+part-play-sliding-end-3 : tie.Need-part-play-sliding-end-3
+part-play-sliding-end-3 c = search needs
+
+mul-play-sliding-4 : tie.Need-mul-play-sliding-4
+mul-play-sliding-4 c = search needs
+
+sub-play-sliding-4 : tie.Need-sub-play-sliding-4
+sub-play-sliding-4 c = search needs
+
+part-play-sliding-start-4 : tie.Need-part-play-sliding-start-4
+part-play-sliding-start-4 c = search needs
+
+part-play-sliding-end-4 : tie.Need-part-play-sliding-end-4
+part-play-sliding-end-4 c = search needs
+
+sub-play-sliding-5 : tie.Need-sub-play-sliding-5
+sub-play-sliding-5 c = search needs
+
+part-play-sliding-start-5 : tie.Need-part-play-sliding-start-5
+part-play-sliding-start-5 c = search needs
+
+part-play-sliding-end-5 : tie.Need-part-play-sliding-end-5
+part-play-sliding-end-5 c = search needs
+
+play-sliding-requires : tie.Need-play-sliding-requires
+play-sliding-requires c κs = let p = c .before .before .before .before .before .before .before .before .before .before .before .before .before .before .before .pre in (simp (length-take, length-drop) (omega (arith, p .0 .0)), (parts-reached _ _ (p .1 .1 .1), parts-roomy _ _ (p .1 .0) (p .1 .1 .0)))
+
+slid-requires : tie.Need-slid-requires
+slid-requires c κs = (c .before .before .before .before .before .before .before .before .before .before .before .before .before .before .before .before .before .before .before .before .before .before .before .before .before .before .before .before .before .pre .1 .1 .0, left-few (c .before .before .before .before .before .before .before .before .before .before .before .before .before .play-sliding .ensures))
+
+add-now : tie.Need-add-now
+add-now c =
+    let made = c .before .before .before .before .before .before .before .before .before .before .before .before .before .before .before .play-sliding in
+    omega (arith, stepped-fits (made .ensures .stepped) (made .kept .1 .1 .1 .1 .1 .1 .1 .1 .1 .0), c .before .before .before .before .before .before .before .before .before .before .before .before .before .before .before .before .play-sliding-arg6 .given, c .before .before .before .before .before .before .before .before .before .before .before .before .before .before .before .before .before .before .before .before .before .before .before .before .before .before .before .before .before .before .before .pre .0 .0, c .before .before .before .before .before .before .before .before .before .before .before .before .before .before .before .before .before .before .before .before .before .before .before .before .before .before .before .before .before .before .before .good)
+
+same-length : tie.Need-same-length
+same-length c = search needs
+
+same-length-2 : tie.Need-same-length-2
+same-length-2 c = search needs
+
+same-length-3 : tie.Need-same-length-3
+same-length-3 c = search needs
+
+same-length-4 : tie.Need-same-length-4
+same-length-4 c = search needs
+
+same-length-5 : tie.Need-same-length-5
+same-length-5 c = search needs
+
+returns : tie.Need-returns
+returns c =
+    let made = c .before .before .before .before .before .before .before .before .before .before .before .before .before .before .before .play-sliding in
+    let p = c .before .before .before .before .before .before .before .before .before .before .before .before .before .before .before .before .before .before .before .before .before .before .before .before .before .before .before .before .before .before .before .pre in
+    let begins = c .before .slid .ensures in
+    record {
+      advanced = stepped-on (made .ensures .stepped) (p .0 .1);
+      fits = omega (arith, stepped-fits (made .ensures .stepped) (made .kept .1 .1 .1 .1 .1 .1 .1 .1 .1 .0), c .before .before .before .before .before .before .before .before .before .before .before .before .before .before .before .before .play-sliding-arg6 .given, p .0 .0);
+      same = refl;
+      starts = start-within (made .ensures) (p .1 .1 .0) begins;
+      opened = start-opened (made .ensures) (p .1 .1 .0) begins;
+      reached = start-reached _ _ (made .ensures) (p .1 .1 .0) begins (p .1 .0) (p .1 .1 .1);
+    }
+
+pub play-frame-spec : {M : Type 1} → statement M
+play-frame-spec =
+    tie.close
+    (tie.spec
+    mul-play-sliding
+    sub-play-sliding
+    part-play-sliding-start
+    part-play-sliding-end
+    mul-play-sliding-2
+    sub-play-sliding-2
+    part-play-sliding-start-2
+    part-play-sliding-end-2
+    mul-play-sliding-3
+    sub-play-sliding-3
+    part-play-sliding-start-3
+    part-play-sliding-end-3
+    mul-play-sliding-4
+    sub-play-sliding-4
+    part-play-sliding-start-4
+    part-play-sliding-end-4
+    sub-play-sliding-5
+    part-play-sliding-start-5
+    part-play-sliding-end-5
+    play-sliding-requires
+    slid-requires
+    add-now
+    same-length
+    same-length-2
+    same-length-3
+    same-length-4
+    same-length-5
+    returns)

@@ -1,0 +1,83 @@
+-- `rewind` meets its contract: where the rows find no place more they are moved to the front, table by table.
+use native.Mathlib.Omega.{arith}
+use Rattle.tape_pieces.proofs.Starting.{rows-inside, rewound}
+use borrow.Author.Needs.{needs}
+use Rattle.tape_pieces.proofs.rewind.Statement.{statement}
+use Rattle.tape_pieces.proofs.rewind.Tie as tie
+
+returns : tie.Need-returns
+returns c = let p = c .before .before .before .before .before .pre in (record { few = omega (arith, c .if1 .taken); near = p .1 .0 .near }, λ ws r. r)
+
+cast-n : tie.Need-cast-n
+cast-n c = search needs
+
+cast-d : tie.Need-cast-d
+cast-d c = search needs
+
+mul-shift : tie.Need-mul-shift
+mul-shift c = let p = c .before .before .before .before .before .before .before .before .pre in omega (arith, rows-inside (p .0) (p .1 .0) (p .1 .1) (c .before .before .before .if1 .left) .0)
+
+add-shift : tie.Need-add-shift
+add-shift c = let p = c .before .before .before .before .before .before .before .before .pre in omega (arith, rows-inside (p .0) (p .1 .0) (p .1 .1) (c .before .before .before .if1 .left) .0)
+
+shift-requires : tie.Need-shift-requires
+shift-requires c κs = let p = c .before .before .before .before .before .before .before .before .pre in let i = rows-inside (p .0) (p .1 .0) (p .1 .1) (c .before .before .before .if1 .left) in (omega arith, omega (arith, i .0, p .0 .columns))
+
+add-shift-2 : tie.Need-add-shift-2
+add-shift-2 c = search needs
+
+shift-requires-2 : tie.Need-shift-requires-2
+shift-requires-2 c κs = let p = c .before .before .before .before .before .before .before .before .before .before .before .before .pre in let i = rows-inside (p .0) (p .1 .0) (p .1 .1) (c .before .before .before .before .before .before .before .if1 .left) in (omega arith, omega (arith, i .1, p .0 .positions))
+
+add-shift-3 : tie.Need-add-shift-3
+add-shift-3 c = search needs
+
+shift-requires-3 : tie.Need-shift-requires-3
+shift-requires-3 c κs = let p = c .before .before .before .before .before .before .before .before .before .before .before .before .before .before .before .before .pre in let i = rows-inside (p .0) (p .1 .0) (p .1 .1) (c .before .before .before .before .before .before .before .before .before .before .before .if1 .left) in (omega arith, omega (arith, i .1, p .0 .lowerEnds))
+
+add-shift-4 : tie.Need-add-shift-4
+add-shift-4 c = search needs
+
+shift-requires-4 : tie.Need-shift-requires-4
+shift-requires-4 c κs = let p = c .before .before .before .before .before .before .before .before .before .before .before .before .before .before .before .before .before .before .before .before .pre in let i = rows-inside (p .0) (p .1 .0) (p .1 .1) (c .before .before .before .before .before .before .before .before .before .before .before .before .before .before .before .if1 .left) in (omega arith, omega (arith, i .1, p .0 .upperEnds))
+
+same-length : tie.Need-same-length
+same-length c = search needs
+
+same-length-2 : tie.Need-same-length-2
+same-length-2 c = search needs
+
+same-length-3 : tie.Need-same-length-3
+same-length-3 c = search needs
+
+same-length-4 : tie.Need-same-length-4
+same-length-4 c = search needs
+
+returns-2 : tie.Need-returns-2
+returns-2 c =
+    let p = c .before .before .before .before .before .before .before .before .before .before .before .before .before .before .before .before .before .before .before .before .before .before .before .pre in (
+      record { few = omega arith; near = omega arith },
+      rewound (p .0) (p .1 .0) (p .1 .1) (c .before .before .before .before .before .before .before .before .before .before .before .before .before .before .before .before .before .before .if1 .left) (c .before .before .before .before .before .before .before .before .before .before .before .before .before .before .shift .ensures) (c .before .before .before .before .before .before .before .before .before .before .shift2 .ensures) (c .before .before .before .before .before .before .shift3 .ensures) (c .before .before .shift4 .ensures),
+    )
+
+pub rewind-spec : {M : Type 1} → statement M
+rewind-spec =
+    tie.close
+    (tie.spec
+    returns
+    cast-n
+    cast-d
+    mul-shift
+    add-shift
+    shift-requires
+    add-shift-2
+    shift-requires-2
+    add-shift-3
+    shift-requires-3
+    add-shift-4
+    shift-requires-4
+    same-length
+    same-length-2
+    same-length-3
+    same-length-4
+    returns-2)

@@ -1,0 +1,24 @@
+-- `slid` meets its contract.
+use native.Mathlib.Omega.{arith}
+use Rattle.tape_pieces.proofs.Starting.{few-cells}
+use borrow.Author.Needs.{needs}
+use Rattle.tape_pieces.proofs.slid.Statement.{statement}
+use Rattle.tape_pieces.proofs.slid.Tie as tie
+
+cast-d : tie.Need-cast-d
+cast-d c = search needs
+
+add-t5 : tie.Need-add-t5
+add-t5 c = search needs
+
+mul-t6 : tie.Need-mul-t6
+mul-t6 c = omega (arith, few-cells (c .before .before .args .head .dimensions) (c .before .before .pre .1), c .before .before .good, c .before .before .fits)
+
+add-t7 : tie.Need-add-t7
+add-t7 c = omega (arith, few-cells (c .before .before .before .args .head .dimensions) (c .before .before .before .pre .1), c .before .before .before .pre .0 .few, c .before .before .before .pre .0 .near, c .before .before .before .good, c .before .before .before .fits)
+
+returns : tie.Need-returns
+returns c = search needs
+
+pub slid-spec : {M : Type 1} → statement M
+slid-spec = tie.close (tie.spec cast-d add-t5 mul-t6 add-t7 returns)
