@@ -56,10 +56,10 @@ use Rattle.watches.proofs.store.Met as change-thm
 use Rattle.model.specs.Promises.{tables as lent-tables, Opened}
 use Rattle.lending.specs.declared.Judgement.{Judgement}
 use Rattle.lending.specs.Lent.{OpenJudged}
-use Rattle.book.proofs.Fronts.{open-left, open-emptied}
+use Rattle.changed_records.proofs.Fronts.{open-left, open-emptied}
 use Rattle.shared_records.proofs.Machines.{machines, replied}
-use Rattle.book.proofs.Deciding.{decides, stays-last}
-use Rattle.book.proofs.Calling.{One, one, stores, changes-last}
+use Rattle.changed_records.proofs.Deciding.{decides, stays-last}
+use Rattle.changed_records.proofs.Calling.{One, one, stores, changes-last}
 use Rattle.lending.proofs.Judgement as J
 use Rattle.lending.proofs.Judgement.Laws as J′
 use Rattle.lending.proofs.open_lent as callee

@@ -63,10 +63,10 @@ use Rattle.by_value.proofs.LocalRecords.{recorded, recorded-tells, lend
 use Rattle.by_value.proofs.MadeValues.{made, made-value, is-made}
 use Rattle.by_value.proofs.Made as Md
 use Rattle.by_value.proofs.Made.Laws as Md′
-use Rattle.book.proofs.watch as callee
-use Rattle.book.proofs.watch.Symbol as callee-def
-use Rattle.book.proofs.watch.Symbol.{name as #book·watch}
-use Rattle.book.proofs.watch.Met as callee-thm
+use Rattle.changed_records.proofs.watch as callee
+use Rattle.changed_records.proofs.watch.Symbol as callee-def
+use Rattle.changed_records.proofs.watch.Symbol.{name as #changed_records·watch}
+use Rattle.changed_records.proofs.watch.Met as callee-thm
 use Rattle.by_value.proofs.watch.Key.{name as #by-value·watch}
 use Rattle.by_value.proofs.watch as f
 use Rattle.by_value.proofs.watch.Statement as stated
@@ -144,7 +144,7 @@ module _ {M : Type 1} (𝓤 : URA M) (H : Heap 𝓤) (A : Atoms 𝓤) (W : Given
       nothing ! $ move ! (5 ∷ 0 ∷ []) $ join ! $ move ! (4 ∷ 0 ∷ []) $ join ! $ move ! (3 ∷ 0 ∷ []) $ join ! $ move ! (2 ∷ 0 ∷ []) $ join ! $ move ! (1 ∷ 0 ∷ []) $ join ! $ frame ! $ nothing ! $ move ! (1 ∷ 0 ∷ []) $ fjoin ! $ nothing ! $ fjoin ! $ nothing ! $ fjoin ! $ nothing ! $ fjoin ! $ nothing ! $ fjoin ! $ nothing ! $ fjoin ! $ nothing ! $ fjoin ! $ nothing ! $ fjoin ! $ nothing ! $ fjoin ! $ frame ! $ owned ! Md.the-row (Is Md.the-row) ((LL.makes Md.the-type Md′.the-plain) 𝓤 H A) (made j after) _ (is-made j after is is-after) $ done !
 
   module _ (is-head : Is Hd.the-row head (headed head)) (n-fits : n < 2 ^ 32) (columns-fits : length (columns .now) < 2 ^ 64) (positions-fits : length (positions .now) < 2 ^ 64) (lowerEnds-fits : length (lowerEnds .now) < 2 ^ 64) (upperEnds-fits : length (upperEnds .now) < 2 ^ 64) (is-records : Is (Array T.the-row 8) records (recorded records)) (out-fits : length (out .now) < 2 ^ 64)
-      (C : Calls 𝓤 H) (Λ : Loops 𝓤 H) (fm : FmC 𝓤 H (W .laws) C) (known : Triple 𝓤 (C #book·watch) (Callee 𝓤 H A mem run)) where
+      (C : Calls 𝓤 H) (Λ : Loops 𝓤 H) (fm : FmC 𝓤 H (W .laws) C) (known : Triple 𝓤 (C #changed_records·watch) (Callee 𝓤 H A mem run)) where
     eight : length records ≡ 8
     eight = is-records .1 .0 .1
 
@@ -177,7 +177,7 @@ module _ {M : Type 1} (𝓤 : URA M) (H : Heap 𝓤) (A : Atoms 𝓤) (W : Given
         move ! (42 ∷ 43 ∷ []) $ free1 ! $ move ! (40 ∷ 41 ∷ []) $ free1 ! $ move ! (38 ∷ 39 ∷ []) $ free1 ! $ move ! (36 ∷ 37 ∷ []) $ free1 ! $ move ! (34 ∷ 35 ∷ []) $ free1 ! $ move ! (32 ∷ 33 ∷ []) $ free1 ! $ move ! (30 ∷ 31 ∷ []) $ free1 ! $ move ! (28 ∷ 29 ∷ []) $ free1 ! $ move ! (26 ∷ 27 ∷ []) $ free1 ! $ move ! (24 ∷ 25 ∷ []) $ free1 ! $ move ! (0 ∷ 23 ∷ []) $ free1 ! $ move ! (20 ∷ 21 ∷ []) $ free1 ! $ move ! (18 ∷ 19 ∷ []) $ free1 ! $ move ! (16 ∷ 17 ∷ []) $ free1 ! $ move ! (14 ∷ 15 ∷ []) $ free1 ! $ move ! (12 ∷ 13 ∷ []) $ free1 ! $ move ! (10 ∷ 11 ∷ []) $ free1 ! $ free0 ! $
         keep ! (5 ∷ 4 ∷ 3 ∷ 2 ∷ 1 ∷ 6 ∷ []) $ by ! (exits (zs .1 .1 .1 .1 .1 .1 .1 .1 .0) j (zs .1 .1 .1 .1 .1 .1 .1 .0) (spelled j c has) is-after out-same kept))))))))))))))))))))))))))))
 
-module _ {M : Type 1} (𝓤 : URA M) (H : Heap 𝓤) (A : Atoms 𝓤) (W : Given 𝓤 H A) (mem : Memory → SProp 𝓤) (run : Routine → Fun 𝓤) (𝓣 : Tables 𝓤 H) (known : Triple 𝓤 (𝓣 .C #book·watch) (Callee 𝓤 H A mem run)) where
+module _ {M : Type 1} (𝓤 : URA M) (H : Heap 𝓤) (A : Atoms 𝓤) (W : Given 𝓤 H A) (mem : Memory → SProp 𝓤) (run : Routine → Fun 𝓤) (𝓣 : Tables 𝓤 H) (known : Triple 𝓤 (𝓣 .C #changed_records·watch) (Callee 𝓤 H A mem run)) where
   watch-walks : Walks 𝓤 H A f.ended stayed (WpFn 𝓤 H (𝓣 .C) (𝓣 .Λ) code.function) (f.clauses 𝓤 H A mem run)
   watch-walks =
       walked 𝓤 H A f.ended stayed (f.clauses 𝓤 H A mem run) (WpFn 𝓤 H (𝓣 .C) (𝓣 .Λ) code.function) (λ κs. (headed, (desk-values, (uint-vals w32, (slice-vals, (slice-vals, (slice-vals, (slice-vals, (recorded, (slice-vals, tt))))))))))
@@ -197,4 +197,4 @@ watch-spec 𝓤 H 𝓜 𝓖 𝓡 =
     entered 𝓤 H (tripleOf 𝓤 H (𝓖 .A) f.signature (f.spec 𝓤 H (𝓖 .A) (𝓜 .mem) (𝓡 .run)))
     (tables 𝓤 H 𝓜 𝓡 code.env .C) (tables 𝓤 H 𝓜 𝓡 code.env .Λ) #by-value·watch code.function (code.unfolded 𝓤 H 𝓜 𝓡)
     (watch-meets 𝓤 H (𝓖 .A) (givenOf 𝓤 H 𝓜 𝓖) (𝓜 .mem) (𝓡 .run) (tablesOf 𝓤 H 𝓜 (tables 𝓤 H 𝓜 𝓡 code.env))
-    (cited 𝓤 H (Callee 𝓤 H (𝓖 .A) (𝓜 .mem) (𝓡 .run)) 𝓜 𝓡 code.env #book·watch callee-def.routine code.calls-book·watch (callee-thm.met 𝓤 H 𝓜 𝓖 𝓡)))
+    (cited 𝓤 H (Callee 𝓤 H (𝓖 .A) (𝓜 .mem) (𝓡 .run)) 𝓜 𝓡 code.env #changed_records·watch callee-def.routine code.calls-book·watch (callee-thm.met 𝓤 H 𝓜 𝓖 𝓡)))

@@ -67,20 +67,20 @@ use Rattle.watches.proofs.remove_record.Met as change-thm
 use Rattle.model.specs.Promises.{tables as lent-tables, Ended}
 use Rattle.lending.specs.declared.Judgement.{Judgement}
 use Rattle.lending.specs.Lent.{Judged}
-use Rattle.book.proofs.Fronts.{end-left, end-enough, end-removed}
+use Rattle.changed_records.proofs.Fronts.{end-left, end-enough, end-removed}
 use Rattle.shared_records.proofs.Machines.{headed, machines, replied}
-use Rattle.book.proofs.Deciding.{decides, stays-last}
-use Rattle.book.proofs.Calling.{Two, two, Remove, removes, changes-last}
+use Rattle.changed_records.proofs.Deciding.{decides, stays-last}
+use Rattle.changed_records.proofs.Calling.{Two, two, Remove, removes, changes-last}
 use Rattle.lending.proofs.Judgement as J
 use Rattle.lending.proofs.Judgement.Laws as J′
 use Rattle.lending.proofs.end_lent as callee
 use Rattle.lending.proofs.end_lent.Symbol as callee-def
 use Rattle.lending.proofs.end_lent.Symbol.{name as #lending·end-lent}
 use Rattle.lending.proofs.end_lent.Met as callee-thm
-use Rattle.book.proofs.end.Key.{name as #book·end}
-use Rattle.book.proofs.end as f
-use Rattle.book.proofs.end.Statement as stated
-use Rattle.book.proofs.end.Code as code
+use Rattle.changed_records.proofs.end.Key.{name as #changed_records·end}
+use Rattle.changed_records.proofs.end as f
+use Rattle.changed_records.proofs.end.Statement as stated
+use Rattle.changed_records.proofs.end.Code as code
 
 -- what is had of each parameter at the end: of what is lent for good its last value, of the others nothing
 abbrev stayed : Stays (f.ended .signature .params) (f.ended .kept)
@@ -215,7 +215,7 @@ pub end-spec : {M : Type 1} → stated.statement M
 unfolding code.routine tablesOf
 end-spec 𝓤 H 𝓜 𝓖 𝓡 =
     entered 𝓤 H (tripleOf 𝓤 H (𝓖 .A) f.signature (f.spec 𝓤 H (𝓖 .A) (𝓜 .mem) (𝓡 .run)))
-    (tables 𝓤 H 𝓜 𝓡 code.env .C) (tables 𝓤 H 𝓜 𝓡 code.env .Λ) #book·end code.function (code.unfolded 𝓤 H 𝓜 𝓡)
+    (tables 𝓤 H 𝓜 𝓡 code.env .C) (tables 𝓤 H 𝓜 𝓡 code.env .Λ) #changed_records·end code.function (code.unfolded 𝓤 H 𝓜 𝓡)
     (end-meets 𝓤 H (𝓖 .A) (givenOf 𝓤 H 𝓜 𝓖) (𝓜 .mem) (𝓡 .run) (tablesOf 𝓤 H 𝓜 (tables 𝓤 H 𝓜 𝓡 code.env))
     (cited 𝓤 H (Numbers 𝓤 H (𝓖 .A) (𝓜 .mem) (𝓡 .run)) 𝓜 𝓡 code.env #watches·numbers numbers-def.routine code.calls-watches·numbers (numbers-thm.met 𝓤 H 𝓜 𝓖 𝓡))
     (cited 𝓤 H (Callee 𝓤 H (𝓖 .A) (𝓜 .mem) (𝓡 .run)) 𝓜 𝓡 code.env #lending·end-lent callee-def.routine code.calls-lending·end-lent (callee-thm.met 𝓤 H 𝓜 𝓖 𝓡))
