@@ -127,16 +127,16 @@ module _ (s : Rows) where
     seek-end h = let e : i ≡ from = omega (arith, v .least) in sym (youngest-none from to (rw e at (v .clear)))
 
     -- a block was asked
-    pub block-over : 16 ≤ i - from → {n : ℕ} → n ≡ youngest s (i - 16) (i - 16 + 16) → 0 < n → n ≡ youngest s from to
+    pub block-over : 64 ≤ i - from → {n : ℕ} → n ≡ youngest s (i - 64) (i - 64 + 64) → 0 < n → n ≡ youngest s from to
     block-over h e z =
-        let b : i - 16 + 16 ≡ i = omega arith in
+        let b : i - 64 + 64 ≡ i = omega arith in
         let f = rw b at e in
-        f ∙ sym (youngest-same from (i - 16) i to (omega arith) (omega arith) (v .most) (v .clear) (rw f at z))
+        f ∙ sym (youngest-same from (i - 64) i to (omega arith) (omega arith) (v .most) (v .clear) (rw f at z))
 
-    pub block-not : 16 ≤ i - from → {n : ℕ} → n ≡ youngest s (i - 16) (i - 16 + 16) → n ≤ 0 → Seeking from to (i - 16)
+    pub block-not : 64 ≤ i - from → {n : ℕ} → n ≡ youngest s (i - 64) (i - 64 + 64) → n ≤ 0 → Seeking from to (i - 64)
     block-not h e z =
-        let b : i - 16 + 16 ≡ i = omega arith in
-        seek-turn (i - 16) (omega arith) (omega arith) (rw b at (none-youngest (i - 16) (i - 16 + 16) (rw e at z)))
+        let b : i - 64 + 64 ≡ i = omega arith in
+        seek-turn (i - 64) (omega arith) (omega arith) (rw b at (none-youngest (i - 64) (i - 64 + 64) (rw e at z)))
 
     pub seek-rest : {n : ℕ} → n ≡ youngest s from i → n ≡ youngest s from to
     seek-rest {n} e = go n e
@@ -145,9 +145,9 @@ module _ (s : Rows) where
         go zero f = sym (youngest-none from to (seek-turn from (le-refl from) (v .least) (none-youngest from i (omega (arith, f))) .clear))
         go (suc n) f = f ∙ sym (youngest-same from from i to (le-refl from) (v .least) (v .most) (v .clear) (omega (arith, f)))
 
-  -- 16 rows of which none is comparable
-  pub dull-youngest : (from : ℕ) → dullIn s from 16 ≡ true → 0 ≡ youngest s from (from + 16)
-  dull-youngest from e = sym (youngest-none from (from + 16) (λ q u l. dull-apart s from 16 e q u l .1))
+  -- 64 rows of which none is comparable
+  pub dull-youngest : (from : ℕ) → dullIn s from 64 ≡ true → 0 ≡ youngest s from (from + 64)
+  dull-youngest from e = sym (youngest-none from (from + 64) (λ q u l. dull-apart s from 64 e q u l .1))
 
   -- ---- the rows that are retired
 

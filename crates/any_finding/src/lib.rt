@@ -5,7 +5,7 @@ ghost use Prim.Native.Nat.{_+_, _-_, _≤_};
 ghost use lib.Dec.{eqb};
 ghost use lib.ListN.{length, drop};
 ghost use Rattle.finding.specs.Found.{rows, retired, youngest, Fits, Finds};
-use dominance::compare;
+use dominance::compare_unrolled;
 use finding::Found;
 use finding::dull_columns;
 use finding::scan_blocks;
@@ -27,7 +27,7 @@ fn seek(
     let mut i = to;
     while from < i {
         i -= 1;
-        let c = compare(directions, d, quote, columns, i * d);
+        let c = compare_unrolled(directions, d, quote, columns, i * d);
         if c.under_older() {
             return i + 1;
         }
@@ -35,7 +35,7 @@ fn seek(
     0
 }
 
-// The same of the 16 rows from a place on: row by row only where one is comparable.
+// The same of the 64 rows from a place on: row by row only where one is comparable.
 fn seek_block(
     directions: u32,
     d: usize,
@@ -44,16 +44,16 @@ fn seek_block(
     quote: &[u32],
     from: usize,
 ) -> usize
-    requires { ⌜ Fits (rows d directions (now columns) (now uppers) (now quote)) (from + 16) ⌝ }
-    ensures { λ r. ⌜ r ≡ youngest (rows d directions (now (columns .entry)) (now (uppers .entry)) (now (quote .entry))) from (from + 16) ⌝ }
+    requires { ⌜ Fits (rows d directions (now columns) (now uppers) (now quote)) (from + 64) ⌝ }
+    ensures { λ r. ⌜ r ≡ youngest (rows d directions (now (columns .entry)) (now (uppers .entry)) (now (quote .entry))) from (from + 64) ⌝ }
 {
     if dull_columns(directions, d, columns, uppers, quote, from) {
         return 0;
     }
-    seek(directions, d, columns, uppers, quote, from, from + 16)
+    seek(directions, d, columns, uppers, quote, from, from + 64)
 }
 
-// The same of any rows, by blocks of 16.
+// The same of any rows, by blocks of 64.
 fn seek_blocks(
     directions: u32,
     d: usize,
@@ -68,8 +68,8 @@ fn seek_blocks(
     ensures { λ r. ⌜ r ≡ youngest (rows d directions (now (columns .entry)) (now (uppers .entry)) (now (quote .entry))) from to ⌝ }
 {
     let mut i = to;
-    while 16 <= i - from {
-        i -= 16;
+    while 64 <= i - from {
+        i -= 64;
         let number = seek_block(directions, d, columns, uppers, quote, i);
         if 0 < number {
             return number;

@@ -12,6 +12,7 @@ use lib.ListN.{getD, take, drop}
 use lib.Seq.{getD-take, getD-drop}
 use Rattle.dominance.specs.Dominance.{higher, better, betterAt, noWorse, someBetter, dominates}
 use Rattle.dominance.specs.Compared.{compared}
+use Rattle.dominance.specs.declared.Comparison.{Comparison}
 
 -- the lowest bit by a mask
 pub lowest : (bits : ℕ) → higher bits 0 ≡ eqb (bitAnd bits 1) 1
@@ -101,3 +102,7 @@ compared-take d directions p q =
       some-better-same d directions p p (take d q) q (λ i h. refl) (λ i h. getD-take d q i 0 h),
       some-better-same d directions (take d q) q p p (λ i h. getD-take d q i 0 h) (λ i h. refl),
     )
+
+-- where d is k, what is said of k columns is said of d
+pub compared-at : {d k : ℕ} (directions : ℕ) (p q : List ℕ) {c : Comparison} → d ≡ k → c ≡ compared k directions p q → c ≡ compared d directions p q
+compared-at directions p q e v = rw e v

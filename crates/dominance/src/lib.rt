@@ -72,6 +72,39 @@ pub fn compare(directions: u32, d: usize, quote: &[u32], cells: &[u32], start: u
     Comparison { better, worse }
 }
 
+// The same, where the number of columns is one of 01's by a loop of its own, which is then unrolled.
+pub fn compare_unrolled(
+    directions: u32,
+    d: usize,
+    quote: &[u32],
+    cells: &[u32],
+    start: usize,
+) -> Comparison
+    requires { ⌜ d ≤ length (now quote) ⌝ }
+    requires { ⌜ start + d ≤ length (now cells) ⌝ }
+    ensures { λ r. ⌜ r ≡ compared d directions (now (quote .entry)) (drop start (now (cells .entry))) ⌝ }
+{
+    if d == 1 {
+        return compare(directions, 1, quote, cells, start);
+    }
+    if d == 2 {
+        return compare(directions, 2, quote, cells, start);
+    }
+    if d == 3 {
+        return compare(directions, 3, quote, cells, start);
+    }
+    if d == 4 {
+        return compare(directions, 4, quote, cells, start);
+    }
+    if d == 5 {
+        return compare(directions, 5, quote, cells, start);
+    }
+    if d == 6 {
+        return compare(directions, 6, quote, cells, start);
+    }
+    compare(directions, d, quote, cells, start)
+}
+
 // Whether the first quote dominates the second, over the columns that both have.
 pub fn dominates(directions: u32, first: &[u32], second: &[u32]) -> bool
     ensures { λ r. ⌜ r ≡ dominates (min (length (now (first .entry))) (length (now (second .entry)))) directions (now (first .entry)) (now (second .entry)) ⌝ }

@@ -17,9 +17,9 @@ use Rattle.finding.specs.Found.{live, liveIn, takenLive, dullIn, Rows, r
 use Rattle.finding.specs.declared.Found.{Found}
 use Rattle.finding.proofs.Blocks.{live-more, none-live, dull-none, dull-more, skipped}
 
--- i of 16 rows have been counted
+-- i of 64 rows have been counted
 pub record Counting (uppers : List ℕ) (from count i : ℕ) : Type 0 where
-  pub within : i ≤ 16
+  pub within : i ≤ 64
   pub few : count ≤ i
   pub count≡ : count ≡ liveIn uppers from i
 
@@ -27,7 +27,7 @@ pub count-start : (uppers : List ℕ) (from : ℕ) → Counting uppers from 0 0
 unfolding liveIn filter run
 count-start uppers from = record { within = omega arith; few = omega arith; count≡ = refl }
 
-pub count-turn : {uppers : List ℕ} {from count i : ℕ} → Counting uppers from count i → i < 16 → (n : ℕ) → n ≡ cond (live uppers (from + i)) 1 0 → n ≤ 1
+pub count-turn : {uppers : List ℕ} {from count i : ℕ} → Counting uppers from count i → i < 64 → (n : ℕ) → n ≡ cond (live uppers (from + i)) 1 0 → n ≤ 1
     → Counting uppers from (count + n) (i + 1)
 count-turn {uppers} {from} {count} {i} v h n e o = record {
   within = omega arith;
@@ -35,29 +35,29 @@ count-turn {uppers} {from} {count} {i} v h n e o = record {
   count≡ = rw (live-more uppers from i, ← v .count≡, ← e);
 }
 
--- how many rows are taken for live below a place: one where there are fewer than 16
-pub taken-few : (dense : Bool) (uppers : List ℕ) (to : ℕ) → to < 16 → 1 ≡ takenLive dense uppers to
+-- how many rows are taken for live below a place: one where there are fewer than 64
+pub taken-few : (dense : Bool) (uppers : List ℕ) (to : ℕ) → to < 64 → 1 ≡ takenLive dense uppers to
 unfolding takenLive
-taken-few dense uppers to h = rw (lt-ltb to 16 h)
+taken-few dense uppers to h = rw (lt-ltb to 64 h)
 
--- all 16 in a dense book
-pub taken-dense : (dense : Bool) (uppers : List ℕ) (to : ℕ) → 16 ≤ to → dense ≡ true → 16 ≡ takenLive dense uppers to
+-- all 64 in a dense book
+pub taken-dense : (dense : Bool) (uppers : List ℕ) (to : ℕ) → 64 ≤ to → dense ≡ true → 64 ≡ takenLive dense uppers to
 unfolding takenLive
-taken-dense dense uppers to h e = rw (le-ltb to 16 h, e)
+taken-dense dense uppers to h e = rw (le-ltb to 64 h, e)
 
 -- those that are live in another
-pub taken-counted : (dense : Bool) (uppers : List ℕ) (to : ℕ) → 16 ≤ to → dense ≡ false → {n : ℕ} → n ≡ liveIn uppers (to - 16) 16 → n ≡ takenLive dense uppers to
+pub taken-counted : (dense : Bool) (uppers : List ℕ) (to : ℕ) → 64 ≤ to → dense ≡ false → {n : ℕ} → n ≡ liveIn uppers (to - 64) 64 → n ≡ takenLive dense uppers to
 unfolding takenLive
-taken-counted dense uppers to h e f = f ∙ rw (le-ltb to 16 h, e)
+taken-counted dense uppers to h e f = f ∙ rw (le-ltb to 64 h, e)
 
--- where more than one is, there are 16 rows
-pub sixteen-below : (dense : Bool) (uppers : List ℕ) (to : ℕ) {n : ℕ} → n ≡ takenLive dense uppers to → 8 < n → 16 ≤ to
+-- where more than one is, there are 64 rows
+pub block-below : (dense : Bool) (uppers : List ℕ) (to : ℕ) {n : ℕ} → n ≡ takenLive dense uppers to → 32 < n → 64 ≤ to
 unfolding takenLive
-sixteen-below dense uppers to {n} e h = go (ltb to 16) refl e
+block-below dense uppers to {n} e h = go (ltb to 64) refl e
   where
-    go : (x : Bool) → ltb to 16 ≡ x → n ≡ cond x 1 (cond dense 16 (liveIn uppers (to - 16) 16)) → 16 ≤ to
+    go : (x : Bool) → ltb to 64 ≡ x → n ≡ cond x 1 (cond dense 64 (liveIn uppers (to - 64) 64)) → 64 ≤ to
     go true w f = absurd (omega arith)
-    go false w f = ltb-false to 16 w
+    go false w f = ltb-false to 64 w
 
 -- the cells of a row lie within those of the rows below b
 pub row-in : (i b d : ℕ) → i < b → i * d + d ≤ b * d
@@ -74,20 +74,20 @@ module _ (s : Rows) where
       let m : a * s .d ≤ b * s .d = mul-le-mul-right (s .d) h in
       record { quoted = v .quoted; columns = omega (arith, v .columns); uppers = omega (arith, v .uppers); few = omega (arith, v .few) }
 
-  -- the 16 rows below a place lie within the table if the rows below it do
-  pub fits-at : {b : ℕ} → 16 ≤ b → Fits s b → Fits s (b - 16 + 16)
-  fits-at {b} h v = let e : b - 16 + 16 ≡ b = omega arith in rw e v
+  -- the 64 rows below a place lie within the table if the rows below it do
+  pub fits-at : {b : ℕ} → 64 ≤ b → Fits s b → Fits s (b - 64 + 64)
+  fits-at {b} h v = let e : b - 64 + 64 ≡ b = omega arith in rw e v
 
-  -- i of 16 rows have been compared
+  -- i of 64 rows have been compared
   pub record Comparing (from : ℕ) (all : Bool) (start i : ℕ) : Type 0 where
-    pub within : i ≤ 16
+    pub within : i ≤ 64
     pub start≡ : start ≡ (from + i) * s .d
     pub all≡ : all ≡ dullIn s from i
 
   pub compare-start : (from : ℕ) → Comparing from true (from * s .d) 0
   compare-start from = record { within = omega arith; start≡ = rw add-zero; all≡ = sym (dull-none s from) }
 
-  pub compare-turn : {from : ℕ} {all : Bool} {start i : ℕ} → Comparing from all start i → i < 16 → (c : Comparison)
+  pub compare-turn : {from : ℕ} {all : Bool} {start i : ℕ} → Comparing from all start i → i < 64 → (c : Comparison)
       → c ≡ compared (s .d) (s .directions) (s .quote) (drop start (s .columns)) → Comparing from (all && c .better && c .worse) (start + s .d) (i + 1)
   compare-turn {from} {all} {start} {i} v h c e = record {
     within = omega arith;
@@ -152,17 +152,17 @@ module _ (s : Rows) where
   )
 
   -- none of the rows below a place is live where none is taken for it
-  pub none-taken : (dense : Bool) {from to : ℕ} → to ≤ from + 16 → takenLive dense (s .uppers) to ≡ 0 → (q : ℕ) → from ≤ q → q < to → live (s .uppers) q ≡ true
+  pub none-taken : (dense : Bool) {from to : ℕ} → to ≤ from + 64 → takenLive dense (s .uppers) to ≡ 0 → (q : ℕ) → from ≤ q → q < to → live (s .uppers) q ≡ true
       → (over s q ≡ false) × (under s q ≡ false)
   unfolding takenLive liveIn
-  none-taken dense {from} {to} h e q u l t = go (ltb to 16) refl dense e
+  none-taken dense {from} {to} h e q u l t = go (ltb to 64) refl dense e
     where
-      go : (x : Bool) → ltb to 16 ≡ x → (y : Bool) → cond x 1 (cond y 16 (length (filter (live (s .uppers)) (run (to - 16) 16)))) ≡ 0 → (over s q ≡ false) × (under s q ≡ false)
+      go : (x : Bool) → ltb to 64 ≡ x → (y : Bool) → cond x 1 (cond y 64 (length (filter (live (s .uppers)) (run (to - 64) 64)))) ≡ 0 → (over s q ≡ false) × (under s q ≡ false)
       go true w y z = absurd (omega arith)
       go false w true z = absurd (omega arith)
       go false w false z =
-          let k : 16 ≤ to = ltb-false to 16 w in
-          absurd (clash (live (s .uppers) q) t (none-live (live (s .uppers)) (to - 16) 16 z q (omega arith) (omega arith)))
+          let k : 64 ≤ to = ltb-false to 64 w in
+          absurd (clash (live (s .uppers) q) t (none-live (live (s .uppers)) (to - 64) 64 z q (omega arith) (omega arith)))
 
   -- all rows have been gone through
   pub scan-end : {from to : ℕ} {before : List ℕ} {at : ℕ} {places : List ℕ} {i left : ℕ} → Scanning from to before at places i left → i ≤ from → (f : Found)
@@ -179,5 +179,5 @@ pub dull-asked-at : {d k directions : ℕ} {columns uppers quote : List ℕ} {n 
 dull-asked-at e v = rw (← e) v
 
 pub dull-said-at : {d k : ℕ} (directions : ℕ) (columns uppers quote : List ℕ) (from : ℕ) {r : Bool} → d ≡ k
-    → r ≡ dullIn (rows k directions columns uppers quote) from 16 → r ≡ dullIn (rows d directions columns uppers quote) from 16
+    → r ≡ dullIn (rows k directions columns uppers quote) from 64 → r ≡ dullIn (rows d directions columns uppers quote) from 64
 dull-said-at directions columns uppers quote from e v = rw e v

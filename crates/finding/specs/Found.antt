@@ -17,9 +17,9 @@ live uppers i = eqb (getD uppers i 0) 0
 unfoldable pub liveIn : List ℕ → ℕ → ℕ → ℕ
 liveIn uppers a k = length (filter (live uppers) (run a k))
 
--- how many of the 16 rows below a place are taken for live: one where there are fewer, all in a dense book, else those that are
+-- how many of the 64 rows below a place are taken for live: one where there are fewer, all in a dense book, else those that are
 unfoldable pub takenLive : Bool → List ℕ → ℕ → ℕ
-takenLive dense uppers to = cond (ltb to 16) 1 (cond dense 16 (liveIn uppers (to - 16) 16))
+takenLive dense uppers to = cond (ltb to 64) 1 (cond dense 64 (liveIn uppers (to - 64) 64))
 
 -- a table of rows of d columns, the directions, the rows' upper ends, and a quote
 pub record Rows : Type 0 where

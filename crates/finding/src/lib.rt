@@ -6,6 +6,7 @@ ghost use mathlib.Core.List.{List};
 ghost use lib.ListN.{length, set};
 ghost use Rattle.finding.specs.Found.{liveIn, takenLive, dullIn, rows, retired, youngest, Fits, Scan, Outcome, Room, Sound, Finds};
 use dominance::compare;
+use dominance::compare_unrolled;
 
 // What was found: the place in the list of retired rows from which on they are listed, and the number of the youngest row over the
 // quote, counted from 1, or 0.
@@ -29,21 +30,21 @@ fn one(test: bool) -> u32
     if test { 1 } else { 0 }
 }
 
-// How many of the 16 rows from a place on are live.
+// How many of the 64 rows from a place on are live.
 fn count_live(uppers: &[u32], from: usize) -> u32
-    requires { ⌜ from + 16 ≤ length (now uppers) ⌝ }
-    ensures { λ r. ⌜ r ≡ liveIn (now (uppers .entry)) from 16 ⌝ }
+    requires { ⌜ from + 64 ≤ length (now uppers) ⌝ }
+    ensures { λ r. ⌜ r ≡ liveIn (now (uppers .entry)) from 64 ⌝ }
 {
     let mut count: u32 = 0;
     let mut i = 0;
-    while i < 16 {
+    while i < 64 {
         count += one(uppers[from + i] == 0);
         i += 1;
     }
     count
 }
 
-// Whether the quote is better than each of the 16 rows from a place on in some column, and worse in another. It is without branches, so
+// Whether the quote is better than each of the 64 rows from a place on in some column, and worse in another. It is without branches, so
 // that rows can be compared side by side.
 fn dull(
     directions: u32,
@@ -53,13 +54,13 @@ fn dull(
     quote: &[u32],
     from: usize,
 ) -> bool
-    requires { ⌜ Fits (rows d directions (now columns) (now uppers) (now quote)) (from + 16) ⌝ }
-    ensures { λ r. ⌜ r ≡ dullIn (rows d directions (now (columns .entry)) (now (uppers .entry)) (now (quote .entry))) from 16 ⌝ }
+    requires { ⌜ Fits (rows d directions (now columns) (now uppers) (now quote)) (from + 64) ⌝ }
+    ensures { λ r. ⌜ r ≡ dullIn (rows d directions (now (columns .entry)) (now (uppers .entry)) (now (quote .entry))) from 64 ⌝ }
 {
     let mut all = true;
     let mut start = from * d;
     let mut i: usize = 0;
-    while i < 16 {
+    while i < 64 {
         let c = compare(directions, d, quote, columns, start);
         all = all & c.better & c.worse;
         start += d;
@@ -70,48 +71,48 @@ fn dull(
 
 // The same of rows of one column.
 fn dull_one(directions: u32, columns: &[u32], uppers: &[u32], quote: &[u32], from: usize) -> bool
-    requires { ⌜ Fits (rows 1 directions (now columns) (now uppers) (now quote)) (from + 16) ⌝ }
-    ensures { λ r. ⌜ r ≡ dullIn (rows 1 directions (now (columns .entry)) (now (uppers .entry)) (now (quote .entry))) from 16 ⌝ }
+    requires { ⌜ Fits (rows 1 directions (now columns) (now uppers) (now quote)) (from + 64) ⌝ }
+    ensures { λ r. ⌜ r ≡ dullIn (rows 1 directions (now (columns .entry)) (now (uppers .entry)) (now (quote .entry))) from 64 ⌝ }
 {
     dull(directions, 1, columns, uppers, quote, from)
 }
 
 // The same of rows of two columns.
 fn dull_two(directions: u32, columns: &[u32], uppers: &[u32], quote: &[u32], from: usize) -> bool
-    requires { ⌜ Fits (rows 2 directions (now columns) (now uppers) (now quote)) (from + 16) ⌝ }
-    ensures { λ r. ⌜ r ≡ dullIn (rows 2 directions (now (columns .entry)) (now (uppers .entry)) (now (quote .entry))) from 16 ⌝ }
+    requires { ⌜ Fits (rows 2 directions (now columns) (now uppers) (now quote)) (from + 64) ⌝ }
+    ensures { λ r. ⌜ r ≡ dullIn (rows 2 directions (now (columns .entry)) (now (uppers .entry)) (now (quote .entry))) from 64 ⌝ }
 {
     dull(directions, 2, columns, uppers, quote, from)
 }
 
 // The same of rows of three columns.
 fn dull_three(directions: u32, columns: &[u32], uppers: &[u32], quote: &[u32], from: usize) -> bool
-    requires { ⌜ Fits (rows 3 directions (now columns) (now uppers) (now quote)) (from + 16) ⌝ }
-    ensures { λ r. ⌜ r ≡ dullIn (rows 3 directions (now (columns .entry)) (now (uppers .entry)) (now (quote .entry))) from 16 ⌝ }
+    requires { ⌜ Fits (rows 3 directions (now columns) (now uppers) (now quote)) (from + 64) ⌝ }
+    ensures { λ r. ⌜ r ≡ dullIn (rows 3 directions (now (columns .entry)) (now (uppers .entry)) (now (quote .entry))) from 64 ⌝ }
 {
     dull(directions, 3, columns, uppers, quote, from)
 }
 
 // The same of rows of four columns.
 fn dull_four(directions: u32, columns: &[u32], uppers: &[u32], quote: &[u32], from: usize) -> bool
-    requires { ⌜ Fits (rows 4 directions (now columns) (now uppers) (now quote)) (from + 16) ⌝ }
-    ensures { λ r. ⌜ r ≡ dullIn (rows 4 directions (now (columns .entry)) (now (uppers .entry)) (now (quote .entry))) from 16 ⌝ }
+    requires { ⌜ Fits (rows 4 directions (now columns) (now uppers) (now quote)) (from + 64) ⌝ }
+    ensures { λ r. ⌜ r ≡ dullIn (rows 4 directions (now (columns .entry)) (now (uppers .entry)) (now (quote .entry))) from 64 ⌝ }
 {
     dull(directions, 4, columns, uppers, quote, from)
 }
 
 // The same of rows of five columns.
 fn dull_five(directions: u32, columns: &[u32], uppers: &[u32], quote: &[u32], from: usize) -> bool
-    requires { ⌜ Fits (rows 5 directions (now columns) (now uppers) (now quote)) (from + 16) ⌝ }
-    ensures { λ r. ⌜ r ≡ dullIn (rows 5 directions (now (columns .entry)) (now (uppers .entry)) (now (quote .entry))) from 16 ⌝ }
+    requires { ⌜ Fits (rows 5 directions (now columns) (now uppers) (now quote)) (from + 64) ⌝ }
+    ensures { λ r. ⌜ r ≡ dullIn (rows 5 directions (now (columns .entry)) (now (uppers .entry)) (now (quote .entry))) from 64 ⌝ }
 {
     dull(directions, 5, columns, uppers, quote, from)
 }
 
 // The same of rows of six columns.
 fn dull_six(directions: u32, columns: &[u32], uppers: &[u32], quote: &[u32], from: usize) -> bool
-    requires { ⌜ Fits (rows 6 directions (now columns) (now uppers) (now quote)) (from + 16) ⌝ }
-    ensures { λ r. ⌜ r ≡ dullIn (rows 6 directions (now (columns .entry)) (now (uppers .entry)) (now (quote .entry))) from 16 ⌝ }
+    requires { ⌜ Fits (rows 6 directions (now columns) (now uppers) (now quote)) (from + 64) ⌝ }
+    ensures { λ r. ⌜ r ≡ dullIn (rows 6 directions (now (columns .entry)) (now (uppers .entry)) (now (quote .entry))) from 64 ⌝ }
 {
     dull(directions, 6, columns, uppers, quote, from)
 }
@@ -126,8 +127,8 @@ pub fn dull_columns(
     quote: &[u32],
     from: usize,
 ) -> bool
-    requires { ⌜ Fits (rows d directions (now columns) (now uppers) (now quote)) (from + 16) ⌝ }
-    ensures { λ r. ⌜ r ≡ dullIn (rows d directions (now (columns .entry)) (now (uppers .entry)) (now (quote .entry))) from 16 ⌝ }
+    requires { ⌜ Fits (rows d directions (now columns) (now uppers) (now quote)) (from + 64) ⌝ }
+    ensures { λ r. ⌜ r ≡ dullIn (rows d directions (now (columns .entry)) (now (uppers .entry)) (now (quote .entry))) from 64 ⌝ }
 {
     if d == 1 {
         return dull_one(directions, columns, uppers, quote, from);
@@ -183,7 +184,7 @@ fn step(
     if uppers[place] != 0 {
         return Found { at, last: 0 };
     }
-    let c = compare(directions, d, quote, columns, place * d);
+    let c = compare_unrolled(directions, d, quote, columns, place * d);
     let next = push(places, at, place, c.over_older());
     Found {
         at: next,
@@ -222,32 +223,32 @@ fn scan(
     Found { at: left, last: 0 }
 }
 
-// Where the rows begin that are gone through at once below a place: 16 rows before it, or at the first one.
+// Where the rows begin that are gone through at once below a place: 64 rows before it, or at the first one.
 fn block_start(from: usize, to: usize) -> usize
     requires { ⌜ from < to ⌝ }
     ensures { λ r. ⌜ (from ≤ r) × (r < to) ⌝ }
-    ensures { λ r. ⌜ to ≤ r + 16 ⌝ }
+    ensures { λ r. ⌜ to ≤ r + 64 ⌝ }
 {
-    if to - from < 16 { from } else { to - 16 }
+    if to - from < 64 { from } else { to - 64 }
 }
 
-// How many of the 16 rows below a place are taken for live: all of them in a dense book, where most rows are, else those that are; one
+// How many of the 64 rows below a place are taken for live: all of them in a dense book, where most rows are, else those that are; one
 // where there are fewer rows below it.
 fn taken_live(dense: bool, uppers: &[u32], to: usize) -> u32
     requires { ⌜ to ≤ length (now uppers) ⌝ }
     ensures { λ r. ⌜ r ≡ takenLive dense (now (uppers .entry)) to ⌝ }
 {
-    if to < 16 {
+    if to < 64 {
         return 1;
     }
     if dense {
-        return 16;
+        return 64;
     }
-    count_live(uppers, to - 16)
+    count_live(uppers, to - 64)
 }
 
-// Goes through the rows from a place on and below another, which are 16 at most: none where none is live, and where most are taken for
-// live, one by one only if one of the 16 rows below that place is comparable.
+// Goes through the rows from a place on and below another, which are 64 at most: none where none is live, and where most are taken for
+// live, one by one only if one of the 64 rows below that place is comparable.
 fn scan_block(
     directions: u32,
     d: usize,
@@ -260,7 +261,7 @@ fn scan_block(
     places: &mut [u16],
     at: usize,
 ) -> Found
-    requires { ⌜ (from ≤ to) × (to ≤ from + 16) ⌝ }
+    requires { ⌜ (from ≤ to) × (to ≤ from + 64) ⌝ }
     requires { ⌜ Fits (rows d directions (now columns) (now uppers) (now quote)) to ⌝ }
     requires { ⌜ Room (rows d directions (now columns) (now uppers) (now quote)) to (now places) at ⌝ }
     ensures { λ r. ⌜ Room (rows d directions (now (columns .entry)) (now (uppers .entry)) (now (quote .entry))) from (now (places .exit)) (r .at) ⌝ }
@@ -270,15 +271,15 @@ fn scan_block(
     if live == 0 {
         return Found { at, last: 0 };
     }
-    if 8 < live {
-        if dull_columns(directions, d, columns, uppers, quote, to - 16) {
+    if 32 < live {
+        if dull_columns(directions, d, columns, uppers, quote, to - 64) {
             return Found { at, last: 0 };
         }
     }
     scan(directions, d, columns, uppers, quote, from, to, places, at)
 }
 
-// Goes through the rows below a place down to another, by blocks of 16, or down to a live row over the quote.
+// Goes through the rows below a place down to another, by blocks of 64, or down to a live row over the quote.
 pub fn scan_blocks(
     directions: u32,
     d: usize,

@@ -12,7 +12,7 @@ abbrev Inv-loop : tie.InvT-loop
 Inv-loop uppers from count₀ i₀ count i = Counting uppers from count i
 
 abbrev μ-loop : tie.MeasureT-loop
-μ-loop uppers from count₀ i₀ count i = 16 - i
+μ-loop uppers from count₀ i₀ count i = 64 - i
 
 loop-holds : tie.Need-loop-holds Inv-loop μ-loop
 loop-holds c = count-start _ _

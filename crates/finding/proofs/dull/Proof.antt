@@ -12,19 +12,19 @@ abbrev Inv-loop : tie.InvT-loop
 Inv-loop directions d columns uppers quote from all₀ start₀ i₀ all start i = Comparing (rows d directions columns uppers quote) from all start i
 
 abbrev μ-loop : tie.MeasureT-loop
-μ-loop directions d columns uppers quote from all₀ start₀ i₀ all start i = 16 - i
+μ-loop directions d columns uppers quote from all₀ start₀ i₀ all start i = 64 - i
 
 mul-start : tie.Need-mul-start Inv-loop μ-loop
-mul-start c = omega (arith, c .before .before .before .pre .columns, row-in (c .before .before .before .args .from) (c .before .before .before .args .from + 16) (c .before .before .before .args .d) (omega arith), c .before .before .before .fits)
+mul-start c = omega (arith, c .before .before .before .pre .columns, row-in (c .before .before .before .args .from) (c .before .before .before .args .from + 64) (c .before .before .before .args .d) (omega arith), c .before .before .before .fits)
 
 loop-holds : tie.Need-loop-holds Inv-loop μ-loop
 loop-holds c = compare-start _ _
 
 compare-requires : tie.Need-compare-requires Inv-loop μ-loop
-compare-requires c κs = omega (arith, c .before .before .before .before .before .pre .quoted, c .before .before .before .before .before .pre .columns, c .before .loop .inv .start≡, row-in (c .before .before .before .before .before .args .from + c .before .loop .i) (c .before .before .before .before .before .args .from + 16) (c .before .before .before .before .before .args .d) (omega (arith, c .loop-test .taken)))
+compare-requires c κs = omega (arith, c .before .before .before .before .before .pre .quoted, c .before .before .before .before .before .pre .columns, c .before .loop .inv .start≡, row-in (c .before .before .before .before .before .args .from + c .before .loop .i) (c .before .before .before .before .before .args .from + 64) (c .before .before .before .before .before .args .d) (omega (arith, c .loop-test .taken)))
 
 add-start : tie.Need-add-start Inv-loop μ-loop
-add-start c = omega (arith, c .before .before .before .before .before .before .before .before .pre .columns, c .before .before .before .before .loop .inv .start≡, row-in (c .before .before .before .before .before .before .before .before .args .from + c .before .before .before .before .loop .i) (c .before .before .before .before .before .before .before .before .args .from + 16) (c .before .before .before .before .before .before .before .before .args .d) (omega (arith, c .before .before .before .loop-test .taken)), c .before .before .before .before .before .before .before .before .fits)
+add-start c = omega (arith, c .before .before .before .before .before .before .before .before .pre .columns, c .before .before .before .before .loop .inv .start≡, row-in (c .before .before .before .before .before .before .before .before .args .from + c .before .before .before .before .loop .i) (c .before .before .before .before .before .before .before .before .args .from + 64) (c .before .before .before .before .before .before .before .before .args .d) (omega (arith, c .before .before .before .loop-test .taken)), c .before .before .before .before .before .before .before .before .fits)
 
 add-i : tie.Need-add-i Inv-loop μ-loop
 add-i c = search needs

@@ -2,7 +2,7 @@
 use mathlib.Core.Path.{refl, sym, _∙_}
 use native.Mathlib.Omega.{arith}
 use Rattle.finding.proofs.Blocks.{dull-apart}
-use Rattle.finding.proofs.Looping.{block-passed, none-taken, sixteen-below, fits-at}
+use Rattle.finding.proofs.Looping.{block-passed, none-taken, block-below, fits-at}
 use borrow.Author.Needs.{needs}
 use Rattle.finding.proofs.scan_block.Statement.{statement}
 use Rattle.finding.proofs.scan_block.Tie as tie
@@ -14,16 +14,16 @@ returns : tie.Need-returns
 returns c = let p = c .before .before .before .before .before .before .pre in block-passed _ _ refl refl (p .0 .0) (p .1 .1) (none-taken _ _ (p .0 .1) (sym (c .before .taken-live .ensures) ∙ c .if1 .taken))
 
 sub-dull-columns : tie.Need-sub-dull-columns
-sub-dull-columns c = sixteen-below _ _ _ (c .before .before .taken-live .ensures) (c .if2 .taken)
+sub-dull-columns c = block-below _ _ _ (c .before .before .taken-live .ensures) (c .if2 .taken)
 
 dull-columns-requires : tie.Need-dull-columns-requires
-dull-columns-requires c κs = fits-at _ (sixteen-below _ _ _ (c .before .before .taken-live .ensures) (c .if2 .taken)) (c .before .before .before .before .before .before .before .pre .1 .0)
+dull-columns-requires c κs = fits-at _ (block-below _ _ _ (c .before .before .taken-live .ensures) (c .if2 .taken)) (c .before .before .before .before .before .before .before .pre .1 .0)
 
 returns-2 : tie.Need-returns-2
 returns-2 c =
     let p = c .before .before .before .before .before .before .before .before .before .pre in
-    let h = sixteen-below _ _ _ (c .before .before .before .before .taken-live .ensures) (c .before .before .if2 .taken) in
-    block-passed _ _ refl refl (p .0 .0) (p .1 .1) (λ q u l t. dull-apart _ _ 16 (sym (c .before .dull-columns .ensures) ∙ c .if3 .taken) q (omega (arith, p .0 .1)) (omega arith))
+    let h = block-below _ _ _ (c .before .before .before .before .taken-live .ensures) (c .before .before .if2 .taken) in
+    block-passed _ _ refl refl (p .0 .0) (p .1 .1) (λ q u l t. dull-apart _ _ 64 (sym (c .before .dull-columns .ensures) ∙ c .if3 .taken) q (omega (arith, p .0 .1)) (omega arith))
 
 scan-requires : tie.Need-scan-requires
 scan-requires c κs = let p = c .before .before .before .before .before .before .before .before .pre in (p .0 .0, p .1)
