@@ -1,3 +1,2 @@
 -- The laws of the crate.
-pub mod Advancing
-pub mod Starting
+pub mod Playing

@@ -1,46 +1,15 @@
-// What has come of a tape, played: frame by frame, each with its lines behind those that are gathered, on a book that calls left, whose rows
-// slide through tables of twice the places that it needs.
-ghost use mathlib.Core.Path.{_≡_};
-ghost use mathlib.Core.List.{List};
-ghost use Prim.Native.Nat.{ℕ, _+_, _-_, _*_, _≤_};
+// What has come of a tape, played: frame by frame, each with its lines behind those that are gathered, on a book that calls left.
+ghost use Prim.Native.Nat.{_-_, _≤_};
 ghost use mathlib.Core.Bool.{_||_};
 ghost use lib.ListN.{length};
 ghost use Rattle.model.specs.Calls.{Reached};
 ghost use Rattle.model.specs.Promises.{tables, world};
-ghost use Rattle.turn_lines.specs.Turns.{textBytes};
 ghost use Rattle.tape_model.specs.Streams.{ready};
-ghost use Rattle.tape_pieces.specs.Stands.{GoesOn, FramePlayed, PiecePlayed};
-ghost use Rattle.tape_pieces.specs.Starts.{Long, Within, FullOpened, onward};
-use cells::shift;
-use head::Head;
-use sizes::COLUMN_CELLS;
-use sizes::PLACES;
-use tape_sliding::play_sliding;
-
-// Places of the tables that the rows slide through.
-pub const SLIDING_PLACES: usize = 2 * PLACES;
-
-// Cells of their columns.
-pub const SLIDING_CELLS: usize = 2 * COLUMN_CELLS;
-
-// Where the rows of the book start: at which place of the tables, and at which cell of the columns.
-pub struct Start {
-    pub row: usize,
-    pub cell: usize,
-}
-
-// Where a player of a tape stands: the head and the watches of the book, where its rows start, the place of the next frame and the end of
-// what has come of the tape, how many bytes of text are gathered, whether the input has ended, and whether the tape is over.
-pub struct Stand {
-    pub head: Head,
-    pub watches: [u64; 8],
-    pub start: Start,
-    pub place: usize,
-    pub end: usize,
-    pub used: usize,
-    pub ended: bool,
-    pub over: bool,
-}
+ghost use Rattle.tape_stands.specs.Starts.{Long, Within, onward};
+ghost use Rattle.tape_pieces.specs.Pieces.{GoesOn, PiecePlayed};
+use tape_stands::Stand;
+use tape_stands::play_frame;
+use tape_stands::rewind;
 
 // Whether a frame is played: its lines have room behind those that are gathered, and it has come whole, or nothing more comes.
 fn plays(stand: Stand, tape: &[u8], room: usize) -> bool
@@ -57,95 +26,6 @@ fn plays(stand: Stand, tape: &[u8], room: usize) -> bool
         return true;
     }
     tape::ready(tape, stand.place)
-}
-
-// Where the rows start once they slid by none or one place.
-fn slid(start: Start, by: usize, head: Head) -> Start
-    requires { ⌜ Within 1023 start × (by ≤ 1) ⌝ }
-    ensures { λ r. ⌜ r ≡ record { row = start .row + by; cell = start .cell + by * head .dimensions } ⌝ }
-{
-    let d = head.dimensions as usize;
-    Start {
-        row: start.row + by,
-        cell: start.cell + by * d,
-    }
-}
-
-// Plays the frame at which a player stands.
-fn play_frame(
-    stand: Stand,
-    tape: &[u8],
-    columns: &mut [u32],
-    positions: &mut [u32],
-    lower_ends: &mut [u32],
-    upper_ends: &mut [u32],
-    bytes: &mut [u8; tape::CHANGE_BYTES],
-    text: &mut [u8],
-) -> Stand
-    requires { ⌜ (stand .used + textBytes ≤ length (now text)) × (stand .place ≤ length (now tape)) ⌝ }
-    requires { ⌜ Long (tables (now columns) (now positions) (now «lower_ends») (now «upper_ends»)) ⌝ }
-    requires { ⌜ Within 1023 (stand .start) ⌝ }
-    requires { ⌜ Reached (world (stand .head) (onward (stand .start) (tables (now columns) (now positions) (now «lower_ends») (now «upper_ends»))) (stand .watches)) ⌝ }
-    ensures { λ r. ⌜ FramePlayed (now (tape .entry)) (length (now (text .entry))) stand r (tables (now (columns .exit)) (now (positions .exit)) (now («lower_ends» .exit)) (now («upper_ends» .exit))) ⌝ }
-{
-    let head = stand.head;
-    let watches = stand.watches;
-    let used = stand.used;
-    let start = stand.start;
-    let row = start.row;
-    let cell = start.cell;
-    let played = play_sliding(
-        tape,
-        stand.place,
-        head,
-        &mut columns[cell..],
-        &mut positions[row..],
-        &mut lower_ends[row..],
-        &mut upper_ends[row..],
-        watches,
-        bytes,
-        &mut text[used..],
-    );
-    let step = played.step;
-    let next_head = step.head;
-    let next_watches = step.watches;
-    let next_start = slid(start, played.by, next_head);
-    let mut now = stand;
-    now.head = next_head;
-    now.watches = next_watches;
-    now.start = next_start;
-    now.place = step.next;
-    now.used = used + step.count;
-    now.over = step.over;
-    now
-}
-
-// Moves the rows to the front of the tables where they may find no place behind them for one row more.
-fn rewind(
-    start: Start,
-    head: Head,
-    columns: &mut [u32],
-    positions: &mut [u32],
-    lower_ends: &mut [u32],
-    upper_ends: &mut [u32],
-) -> Start
-    requires { ⌜ Long (tables (now columns) (now positions) (now «lower_ends») (now «upper_ends»)) ⌝ }
-    requires { ⌜ Within 1024 start × FullOpened start head ⌝ }
-    ensures { λ r. ⌜ Within 1023 r ⌝ }
-    ensures { λ r. ⌜ ((ws : List ℕ) → Reached (world head (onward start (tables (now (columns .entry)) (now (positions .entry)) (now («lower_ends» .entry)) (now («upper_ends» .entry)))) ws) → Reached (world head (onward r (tables (now (columns .exit)) (now (positions .exit)) (now («lower_ends» .exit)) (now («upper_ends» .exit)))) ws)) ⌝ }
-{
-    let row = start.row;
-    if row < PLACES {
-        return start;
-    }
-    let cell = start.cell;
-    let n = head.capacity as usize;
-    let d = head.dimensions as usize;
-    shift(columns, cell, cell + n * d);
-    shift(positions, row, row + n);
-    shift(lower_ends, row, row + n);
-    shift(upper_ends, row, row + n);
-    Start { row: 0, cell: 0 }
 }
 
 // Plays the frames of this piece of the tape, until one has not come whole or its lines may find no room.

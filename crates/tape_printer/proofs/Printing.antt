@@ -10,8 +10,8 @@ use Rattle.head.specs.declared.Head.{Head}
 use Rattle.head.specs.Heads.{freshHead}
 use Rattle.model.specs.Promises.{world}
 use Rattle.model.proofs.Reached.{reached-first}
-use Rattle.tape_pieces.specs.declared.Stand.{Stand}
-use Rattle.tape_pieces.specs.Starts.{Long, Within, onward}
+use Rattle.tape_stands.specs.declared.Stand.{Stand}
+use Rattle.tape_stands.specs.Starts.{Long, Within, onward}
 
 -- the buffers are as long as they are declared, the lines stand within the text and what has come of the tape within its buffer, and the book is
 -- one that calls left

@@ -2,13 +2,13 @@
 ghost use mathlib.Core.Path.{_≡_};
 ghost use Prim.Native.Nat.{_≤_};
 ghost use lib.ListN.{length};
-ghost use Rattle.tape_pieces.specs.Stands.{SameBook};
+ghost use Rattle.tape_stands.specs.Stands.{SameBook};
 use head::Head;
-use tape_pieces::SLIDING_CELLS;
-use tape_pieces::SLIDING_PLACES;
-use tape_pieces::Stand;
-use tape_pieces::Start;
 use tape_pieces::play_piece;
+use tape_stands::SLIDING_CELLS;
+use tape_stands::SLIDING_PLACES;
+use tape_stands::Stand;
+use tape_stands::Start;
 
 // How many bytes of text are gathered before they are written out.
 const GATHERED: usize = 65536;

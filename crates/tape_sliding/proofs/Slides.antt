@@ -1,10 +1,11 @@
 -- One frame played while the rows slide: what it wants, its call, and the book that it leaves.
 use mathlib.Core.Path.{_≡_, refl, sym, ap, _∙_}
+use mathlib.Core.Logic.{_⊎_}
 use Prim.Native.Nat.{ℕ, _≤_, _<_}
 use native.Mathlib.Nat.{zero-mul}
 use native.Mathlib.Omega.{arith}
-use mathlib.Core.Bool.{true}
-use mathlib.Core.List.{List, [], _∷_}
+use mathlib.Core.Bool.{true, false}
+use mathlib.Core.List.{List, [], _∷_, _++_}
 use lib.Dec.{eqb}
 use lib.ListN.{length, take}
 use types.Run.{OneOf}
@@ -23,11 +24,13 @@ use Rattle.asking.specs.declared.Wanted.{Wanted}
 use Rattle.asking.specs.declared.Wanted.the-variants.{Quote}
 use Rattle.asking.proofs.Wanted.{the-type}
 use Rattle.tape_model.specs.Play.{Player, bookMake}
+use Rattle.tape_model.specs.Streams.{ready}
 use Rattle.turn_lines.specs.declared.Turn.{Turn}
 use Rattle.turn_lines.specs.Turns.{player, made, Turned}
 use Rattle.turns.specs.Wishes.{unquoted}
 use Rattle.tape.specs.declared.Step.{Step}
 use Rattle.tape.specs.Steps.{WishAt, Stepped}
+use Rattle.tape.specs.Prints.{left, Prints, goes-on, slides}
 use Rattle.tape.proofs.Plays.{quote-played, other-played}
 use Rattle.tape.proofs.Reached.{step-reached}
 use Rattle.tape_sliding.specs.declared.SlidStep.{SlidStep}
@@ -103,3 +106,19 @@ module _ {tape : List ℕ} {place : ℕ} {h : Head} {t : Tables} {ws bytes befor
 
   pub left-holds : 0 < s .by → settingsHold (s .step .head .dimensions) (s .step .head .capacity) (s .step .head .directions) ≡ true
   left-holds = slid-holds (m .slides)
+
+-- ---- what is printed
+
+-- the player that a step leaves goes on from where its book stands
+slid-prints : (k : Player) (r : Step) {piece rest text bytes' : List ℕ} {place : ℕ} {t u : Tables} {by : ℕ} → Slid (r .head) t u by
+    → Prints piece place (left k r (later (r .head .dimensions) by u) bytes') rest text → Prints piece place (left k r t bytes') rest text
+unfolding later
+slid-prints k r (stayed e) p = rw (e, zero-mul (r .head .dimensions)) at p
+slid-prints k r (slid few holds same) p = slides holds same p
+
+-- so a step that was made while the rows slide is one by which a player prints
+pub slid-goes-on : {piece rest text before after bytes' : List ℕ} {place : ℕ} {k : Player} {s : SlidStep} {t' : Tables} → (ready piece place ≡ true) ⊎ (rest ≡ [])
+    → StepSlid piece place k before s t' bytes' after → s .step .over ≡ false
+    → Prints piece (s .step .next) (left k (s .step) (later (s .step .head .dimensions) (s .by) t') bytes') rest text
+    → Prints piece place k rest (take (s .step .count) after ++ text)
+slid-goes-on {k = k} {s = s} h m o p = goes-on h (m .stepped) o (slid-prints k (s .step) (m .slides) p)

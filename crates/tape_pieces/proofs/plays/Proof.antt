@@ -1,6 +1,6 @@
 -- `plays` meets its contract, by the tests it makes.
 use borrow.Author.Needs.{needs}
-use Rattle.tape_pieces.proofs.Advancing.{no-room, some-room, none-over}
+use Rattle.tape_pieces.proofs.Playing.{no-room, some-room, none-over}
 use Rattle.tape_pieces.proofs.plays.Statement.{statement}
 use Rattle.tape_pieces.proofs.plays.Tie as tie
 

@@ -3,7 +3,7 @@ use mathlib.Core.Path.{refl, sym, _∙_}
 use native.Mathlib.Omega.{arith}
 use lib.ListN.{length-take}
 use Rattle.model.specs.Promises.{tables}
-use Rattle.tape_pieces.proofs.Starting.{same-reached, same-starts}
+use Rattle.tape_stands.proofs.Starting.{same-reached, same-starts}
 use Rattle.tape_printer.proofs.Printing.{Printing, slides-through, first-reached}
 use borrow.Author.Needs.{needs}
 use Rattle.tape_printer.proofs.main.Statement.{statement}

@@ -1,26 +1,18 @@
 -- Where a step leaves the place: within the tape, and behind the frame that stood there, unless the tape is over.
-use mathlib.Core.Path.{_≡_, sym, ap, _∙_}
+use mathlib.Core.Path.{_≡_, ap}
 use Prim.Native.Nat.{ℕ, _+_, _≤_, _<_}
 use native.Mathlib.Omega.{arith}
-use mathlib.Core.Bool.{Bool, true, false, _&&_, not, true≢false}
 use mathlib.Core.List.{List}
-use lib.Dec.{leb}
 use lib.ListN.{length, getD, drop, length-append, length-drop}
-use borrow.Author.Tests.{leb-true, le-leb, lt-leb}
 use Rattle.lists.specs.Lists.{laid}
-use Rattle.lists.proofs.Booleans.{and-left, and-right}
 use Rattle.frames.specs.Frames.{messageAt, columnsAt, told, Reading, stays, readAt}
 use Rattle.frames.proofs.Reading.{Found, beyond, at-end, unknown, cut, whole, found}
 use Rattle.asking.specs.Asking.{Asked, finished, unread, misplaced, request, asked}
 use Rattle.tape_model.specs.Play.{playAsked, playAt, Player, bookMake, begun, bookPlay}
-use Rattle.turn_lines.specs.Turns.{textBytes}
 use Rattle.model.specs.Rows.{Tables}
-use Rattle.model.specs.Promises.{tables}
 use Rattle.tape.specs.declared.Step.{Step}
 use Rattle.tape.specs.Steps.{Stepped}
-use Rattle.tape_pieces.specs.declared.Stand.{Stand}
-use Rattle.tape_pieces.specs.Starts.{Long}
-use Rattle.tape_pieces.specs.Stands.{GoesOn, left, Advanced, PiecePlayed}
+use Rattle.tape_stands.specs.Stands.{left, Advanced}
 
 module _ (tape : List ℕ) (place : ℕ) (k : Player) (h : place ≤ length tape) where
   -- what is asked for is played
@@ -59,46 +51,3 @@ module _ {tape : List ℕ} {place : ℕ} {k : Player} {before : List ℕ} {r : S
   stepped-fits e =
       let l : List ℕ = bookPlay tape place k .text in
       omega (arith, s .count, ap length (s .text), e, length-append l (drop (length l) before), length-drop (length l) before)
-
--- ---- the frames of a piece
-
--- what holds from frame to frame: the tables and the text are as long as they were, and what is promised once the piece is played holds of the
--- frames that were
-pub record Playing (tape : List ℕ) (t₀ : Tables) (text₀ : List ℕ) (now₀ : Stand) (t : Tables) (text : List ℕ) (now : Stand) : Type 0 where
-  pub columns : length (t .columns) ≡ length (t₀ .columns)
-  pub positions : length (t .positions) ≡ length (t₀ .positions)
-  pub lowerEnds : length (t .lowerEnds) ≡ length (t₀ .lowerEnds)
-  pub upperEnds : length (t .upperEnds) ≡ length (t₀ .upperEnds)
-  pub text-long : length text ≡ length text₀
-  pub tables-long : Long t
-  pub played : PiecePlayed (length tape) (length text₀) now₀ now t
-
--- what fits a text fits one of the same length
-pub fits-as : {n m room : ℕ} → n ≡ m → room ≤ m → room ≤ n
-fits-as e h = omega (arith, e)
-
--- ---- whether a frame is played
-
--- one whose lines may find no room is not
-pub no-room : {over ready : Bool} {room : ℕ} → over ≡ false → room < textBytes → GoesOn over room ready false
-no-room {room = room} e h = record { is = rw (e, lt-leb textBytes room h) }
-
--- where they find room, it is played if it is ready
-pub some-room : {over ready result : Bool} {room : ℕ} → over ≡ false → textBytes ≤ room → result ≡ ready → GoesOn over room ready result
-some-room {room = room} e h r = record { is = r ∙ rw (e, le-leb textBytes room h) }
-
--- nor is one where the tape is over
-pub none-over : {over ready : Bool} {room : ℕ} → over ≡ true → GoesOn over room ready false
-none-over e = record { is = rw e }
-
--- the lines of a frame that is played have room
-pub lines-room : {over ready result : Bool} {room : ℕ} → GoesOn over room ready result → result ≡ true → textBytes ≤ room
-lines-room {over} {ready} {room = room} g t =
-    leb-true textBytes room (and-left (leb textBytes room) ready (and-right (not over) (leb textBytes room && ready) (sym (g .is) ∙ t)))
-
--- and less is left behind it
-pub less-left : {over ready result : Bool} {room : ℕ} {tape : List ℕ} {place next : ℕ} {over' : Bool} → Advanced tape place next over' → GoesOn over room ready result → result ≡ true
-    → left tape next over' < left tape place over
-unfolding left
-less-left {over = true} a g t = absurd (true≢false (sym t ∙ g .is))
-less-left {over = false} a g t = a .less

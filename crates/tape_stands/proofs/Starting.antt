@@ -23,10 +23,10 @@ use Rattle.turn_lines.specs.Turns.{player}
 use Rattle.tape_sliding.specs.declared.SlidStep.{SlidStep}
 use Rattle.tape_sliding.specs.Steps.{StepSlid}
 use Rattle.tape_sliding.proofs.Slides.{left-reached, left-few, left-holds}
-use Rattle.tape_pieces.specs.declared.Start.{Start}
-use Rattle.tape_pieces.specs.declared.Stand.{Stand}
-use Rattle.tape_pieces.specs.Stands.{SameBook}
-use Rattle.tape_pieces.specs.Starts.{Long, Within, FullOpened, onward}
+use Rattle.tape_stands.specs.declared.Start.{Start}
+use Rattle.tape_stands.specs.declared.Stand.{Stand}
+use Rattle.tape_stands.specs.Stands.{SameBook}
+use Rattle.tape_stands.specs.Starts.{Long, Within, FullOpened, onward}
 
 -- tables as long as these are long enough
 pub long-same : {t t' : Tables} → length (t' .columns) ≡ length (t .columns) → length (t' .positions) ≡ length (t .positions) → length (t' .lowerEnds) ≡ length (t .lowerEnds)

@@ -1,20 +1,14 @@
--- Whether a frame of a piece of a tape is played, how much is left to play, and where a player stands once a frame or the piece is played.
+-- How much of a piece of a tape is left to play, and where a player stands once it played a frame of it.
 use mathlib.Core.Path.{_≡_}
 use Prim.Native.Nat.{ℕ, _+_, _-_, _≤_, _<_}
-use mathlib.Core.Bool.{Bool, _&&_, not, cond}
+use mathlib.Core.Bool.{Bool, cond}
 use mathlib.Core.List.{List}
-use lib.Dec.{leb}
 use lib.ListN.{length}
 use Rattle.model.specs.Rows.{Tables}
 use Rattle.model.specs.Calls.{Reached}
 use Rattle.model.specs.Promises.{world}
-use Rattle.turn_lines.specs.Turns.{textBytes}
-use Rattle.tape_pieces.specs.declared.Stand.{Stand}
-use Rattle.tape_pieces.specs.Starts.{Within, FullOpened, onward}
-
--- whether a frame is played: the tape is not over, this room is enough for the lines of any frame, and it is ready
-pub record GoesOn (over : Bool) (room : ℕ) (ready result : Bool) : Type 0 where
-  pub is : result ≡ (not over && (leb textBytes room && ready))
+use Rattle.tape_stands.specs.declared.Stand.{Stand}
+use Rattle.tape_stands.specs.Starts.{Within, FullOpened, onward}
 
 -- the bytes from a place on, and one for the end; nothing once the tape is over
 unfoldable pub left : List ℕ → ℕ → Bool → ℕ
@@ -32,14 +26,6 @@ pub record FramePlayed (tape : List ℕ) (room : ℕ) (s r : Stand) (t : Tables)
   pub same : r .end ≡ s .end
   pub starts : Within 1024 (r .start)
   pub opened : FullOpened (r .start) (r .head)
-  pub reached : Reached (world (r .head) (onward (r .start) t) (r .watches))
-
--- where a player stands once it played the frames of a piece of this length into a text of this length, with tables t
-pub record PiecePlayed (end room : ℕ) (s r : Stand) (t : Tables) : Type 0 where
-  pub inside : r .place ≤ end
-  pub fits : r .used ≤ room
-  pub same : r .end ≡ s .end
-  pub starts : Within 1023 (r .start)
   pub reached : Reached (world (r .head) (onward (r .start) t) (r .watches))
 
 -- two players stand with the same book, at the same place of the tables
