@@ -6,7 +6,7 @@ use native.Mathlib.Numerals.{add-one}
 use native.Mathlib.Decide.{decLe}
 use native.Mathlib.Omega.{arith}
 use mathlib.Core.Bool.{Bool, true, false, _&&_, _||_, not, cond}
-use mathlib.Core.List.{List, [], _∷_, _++_}
+use mathlib.Core.List.{List, []}
 use lib.ListN.{length, drop, length-append}
 use borrow.Author.Tests.{not-true, not-false}
 use Rattle.lists.specs.Lists.{keep, filter, any, run}
@@ -78,10 +78,10 @@ module _ (s : Rows) where
 
   -- ---- k rows passed at once
 
-  pub skipped : {a b : ℕ} {rest places : List ℕ} {at : ℕ} (k : ℕ) → a + k ≤ b
-      → ((q : ℕ) → a ≤ q → q < a + k → live (s .uppers) q ≡ true → (over s q ≡ false) × (under s q ≡ false)) → Scan s (a + k) b rest places at → Scan s a b rest places at
+  pub skipped : {a b : ℕ} {places : List ℕ} {at : ℕ} (k : ℕ) → a + k ≤ b
+      → ((q : ℕ) → a ≤ q → q < a + k → live (s .uppers) q ≡ true → (over s q ≡ false) × (under s q ≡ false)) → Scan s (a + k) b places at → Scan s a b places at
   unfolding retired retires
-  skipped {a} {b} {rest} {places} {at} k h f v = record {
+  skipped {a} {b} {places} {at} k h f v = record {
     listed =
         let e : b - a ≡ k + (b - (a + k)) = omega arith in
         let same : retired s a b ≡ retired s (a + k) b = rw e (filter-from (retires s) a k (b - (a + k)) (λ q u l. gone q u l (live (s .uppers) q) refl)) in

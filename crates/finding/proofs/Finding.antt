@@ -6,7 +6,7 @@ use native.Mathlib.Nat.{le-refl}
 use native.Mathlib.Decide.{decLe}
 use native.Mathlib.Omega.{arith}
 use mathlib.Core.Bool.{Bool, true, false}
-use mathlib.Core.List.{List, [], append-nil}
+use mathlib.Core.List.{List}
 use lib.ListN.{length, drop}
 use lib.Seq.{drop-length}
 use Rattle.lists.specs.Lists.{filter, lastOr, run}
@@ -17,7 +17,7 @@ use Rattle.finding.specs.declared.Found.{Found}
 
 module _ (s : Rows) where
   -- before any row is gone through
-  pub scan-none : (b : ℕ) (places : List ℕ) → Scan s b b [] places (length places)
+  pub scan-none : (b : ℕ) (places : List ℕ) → Scan s b b places (length places)
   unfolding retired filter run
   scan-none b places = record {
     listed = let e : b - b ≡ 0 = omega arith in rw (e, drop-length);
@@ -43,10 +43,10 @@ module _ (s : Rows) where
     none-retired : (j : ℕ) → a ≤ j → j < b → under s j ≡ true → (q : ℕ) → a ≤ q → q < suc j → retires s q ≡ false
     none-retired j h l t q u m = refute (retires s q) (λ e. let k = w .younger q j u (omega arith) e h l t in absurd (omega arith))
 
-    pub finds : {places : List ℕ} {r : Found} → Room s a places (r .at) → Outcome s a b [] places r → Finds s a b places r
+    pub finds : {places : List ℕ} {r : Found} → Room s a places (r .at) → Outcome s a b places r → Finds s a b places r
     unfolding youngest retired
     finds {places} {r} m (through z v) = record {
-      listed = v .listed ∙ append-nil (retired s a b);
+      listed = v .listed;
       last = z ∙ sym (last-none (λ n. under s (n - 1)) 0 (suc a) (b - a) (λ q h l. none-under a (le-refl a) (v .none) (q - 1) (omega arith) (omega arith)));
       most = m .most;
     }
@@ -56,7 +56,7 @@ module _ (s : Rows) where
           let f : a + (suc j - a) ≡ suc j = omega arith in
           let same : filter (retires s) (run a (suc j - a + (b - suc j))) ≡ filter (retires s) (run (a + (suc j - a)) (b - suc j)) =
           filter-from (retires s) a (suc j - a) (b - suc j) (λ q u n. none-retired j h l t q u (omega arith)) in
-          v .listed ∙ append-nil (retired s (suc j) b) ∙ sym (rw (← e, f) at same);
+          v .listed ∙ sym (rw (← e, f) at same);
       last =
           z ∙ sym (last-at (λ n. under s (n - 1)) 0 (suc a) (b - a) (suc j) (record {
             low = omega arith;

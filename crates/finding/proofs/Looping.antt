@@ -101,13 +101,13 @@ module _ (s : Rows) where
     pub most : i ≤ to
     pub room : Room s i places left
     pub same-length : length places ≡ length before
-    pub scanned : (b : ℕ) (rest : List ℕ) → to ≤ b → Scan s to b rest before at → Scan s i b rest places left
+    pub scanned : (b : ℕ) → to ≤ b → Scan s to b before at → Scan s i b places left
 
   pub scan-start : {from to : ℕ} {places : List ℕ} {at : ℕ} → from ≤ to → Room s to places at → Scanning from to places at places to at
-  scan-start {to = to} h r = record { least = h; most = le-refl to; room = r; same-length = refl; scanned = λ b rest l v. v }
+  scan-start {to = to} h r = record { least = h; most = le-refl to; room = r; same-length = refl; scanned = λ b l v. v }
 
   module _ {from to : ℕ} {before : List ℕ} {at : ℕ} {places : List ℕ} {i left k : ℕ} (v : Scanning from to before at places i left) (h : from ≤ k) (l : k ≤ i)
-      (places' : List ℕ) (f : Found) (r : Room s k places' (f .at)) (o : (b : ℕ) (rest : List ℕ) → i ≤ b → Scan s i b rest places left → Outcome s k b rest places' f) where
+      (places' : List ℕ) (f : Found) (r : Room s k places' (f .at)) (o : (b : ℕ) → i ≤ b → Scan s i b places left → Outcome s k b places' f) where
     -- nothing was found down to place k
     pub scan-turn : length places' ≡ length places → f .last ≤ 0 → Scanning from to before at places' k (f .at)
     scan-turn e z = record {
@@ -115,23 +115,23 @@ module _ (s : Rows) where
       most = omega (arith, v .most);
       room = r;
       same-length = e ∙ v .same-length;
-      scanned = λ b rest m w. go b rest (o b rest (omega (arith, v .most)) (v .scanned b rest m w));
+      scanned = λ b m w. go b (o b (omega (arith, v .most)) (v .scanned b m w));
     }
       where
-        go : (b : ℕ) (rest : List ℕ) → Outcome s k b rest places' f → Scan s k b rest places' (f .at)
-        go b rest (through a w) = w
-        go b rest (stopped j a c d t u o' w) = absurd (omega arith)
+        go : (b : ℕ) → Outcome s k b places' f → Scan s k b places' (f .at)
+        go b (through a w) = w
+        go b (stopped j a c d t u o' w) = absurd (omega arith)
 
     room-less : Room s from places' (f .at)
     room-less = record { least = omega (arith, r .least); most = r .most }
 
     -- a live row over the quote was found
-    pub scan-found : 0 < f .last → Room s from places' (f .at) × ((b : ℕ) (rest : List ℕ) → to ≤ b → Scan s to b rest before at → Outcome s from b rest places' f)
-    scan-found z = (room-less, λ b rest m w. go b rest (o b rest (omega (arith, v .most)) (v .scanned b rest m w)))
+    pub scan-found : 0 < f .last → Room s from places' (f .at) × ((b : ℕ) → to ≤ b → Scan s to b before at → Outcome s from b places' f)
+    scan-found z = (room-less, λ b m w. go b (o b (omega (arith, v .most)) (v .scanned b m w)))
       where
-        go : (b : ℕ) (rest : List ℕ) → Outcome s k b rest places' f → Outcome s from b rest places' f
-        go b rest (through a w) = absurd (omega arith)
-        go b rest (stopped j a c d t u o' w) = stopped j a (omega arith) d t u o' w
+        go : (b : ℕ) → Outcome s k b places' f → Outcome s from b places' f
+        go b (through a w) = absurd (omega arith)
+        go b (stopped j a c d t u o' w) = stopped j a (omega arith) d t u o' w
 
   -- the list has room once a place more is listed
   pub room-pushed : {i at : ℕ} {places places' : List ℕ} → Room s (suc i) places at → (next : ℕ) → (at - 1 ≤ next) × (next ≤ at) → length places' ≡ length places → Room s i places' next
@@ -139,16 +139,16 @@ module _ (s : Rows) where
 
   -- what one row more says
   pub row-below : {i left : ℕ} {places places' : List ℕ} {f : Found} → 0 < i
-      → ((b : ℕ) (rest : List ℕ) → i - 1 < b → Scan s (suc (i - 1)) b rest places left → Outcome s (i - 1) b rest places' f) → (b : ℕ) (rest : List ℕ) → i ≤ b → Scan s i b rest places left → Outcome s (i - 1) b rest places' f
-  row-below {i} h o b rest l v = let e : suc (i - 1) ≡ i = omega arith in o b rest (omega arith) (rw e v)
+      → ((b : ℕ) → i - 1 < b → Scan s (suc (i - 1)) b places left → Outcome s (i - 1) b places' f) → (b : ℕ) → i ≤ b → Scan s i b places left → Outcome s (i - 1) b places' f
+  row-below {i} h o b l v = let e : suc (i - 1) ≡ i = omega arith in o b (omega arith) (rw e v)
 
   -- a block of rows need not be gone through
   pub block-passed : {from to at : ℕ} {places : List ℕ} (f : Found) → f .at ≡ at → f .last ≡ 0 → from ≤ to → Room s to places at
       → ((q : ℕ) → from ≤ q → q < to → live (s .uppers) q ≡ true → (over s q ≡ false) × (under s q ≡ false))
-      → Room s from places (f .at) × ((b : ℕ) (rest : List ℕ) → to ≤ b → Scan s to b rest places at → Outcome s from b rest places f)
+      → Room s from places (f .at) × ((b : ℕ) → to ≤ b → Scan s to b places at → Outcome s from b places f)
   block-passed {from} {to} f e z h r g = let p : from + (to - from) ≡ to = omega arith in (
     rw e (record { least = omega (arith, r .least); most = r .most }),
-    λ b rest l v. through z (rw e (skipped s (to - from) (omega arith) (λ q u m. g q u (omega arith)) (rw p v))),
+    λ b l v. through z (rw e (skipped s (to - from) (omega arith) (λ q u m. g q u (omega arith)) (rw p v))),
   )
 
   -- none of the rows below a place is live where none is taken for it
@@ -166,11 +166,11 @@ module _ (s : Rows) where
 
   -- all rows have been gone through
   pub scan-end : {from to : ℕ} {before : List ℕ} {at : ℕ} {places : List ℕ} {i left : ℕ} → Scanning from to before at places i left → i ≤ from → (f : Found)
-      → f .at ≡ left → f .last ≡ 0 → Room s from places (f .at) × ((b : ℕ) (rest : List ℕ) → to ≤ b → Scan s to b rest before at → Outcome s from b rest places f)
+      → f .at ≡ left → f .last ≡ 0 → Room s from places (f .at) × ((b : ℕ) → to ≤ b → Scan s to b before at → Outcome s from b places f)
   scan-end {from} {i = i} v h f a z =
       let e : i ≡ from = omega (arith, v .least) in (
         rw (a, ← e) (v .room),
-        λ b rest m w. through z (rw (a, ← e) (v .scanned b rest m w)),
+        λ b m w. through z (rw (a, ← e) (v .scanned b m w)),
       )
 
 -- where d is k, what is asked and said of rows of d columns is asked and said of rows of k

@@ -6,7 +6,7 @@ use native.Mathlib.Numerals.{add-one}
 use native.Mathlib.Decide.{decLe}
 use native.Mathlib.Omega.{arith}
 use mathlib.Core.Bool.{Bool, true, false, _&&_, not, cond}
-use mathlib.Core.List.{List, [], _∷_, _++_}
+use mathlib.Core.List.{List}
 use lib.Dec.{eqb}
 use lib.ListN.{length, getD, set, take, drop, length-set}
 use lib.Seq.{drop-set-lt, drop-cons, getD-set-same}
@@ -43,7 +43,7 @@ module _ (s : Rows) where
   unfolding under rowAt
   under-by i c e = rw (dominated-by, compared-take, ← e)
 
-  module _ {i b : ℕ} {rest places : List ℕ} {at : ℕ} (h : i < b) (v : Scan s (suc i) b rest places at) where
+  module _ {i b : ℕ} {places : List ℕ} {at : ℕ} (h : i < b) (v : Scan s (suc i) b places at) where
     -- no row from place i on that is live is over the quote, if that at place i is not
     none-more : (live (s .uppers) i ≡ true → under s i ≡ false) → (j : ℕ) → i ≤ j → j < b → live (s .uppers) j ≡ true → under s j ≡ false
     none-more f j k l = go (decLe (suc i) j)
@@ -53,7 +53,7 @@ module _ (s : Rows) where
         go (no m) = let e : j ≡ i = omega arith in rw e f
 
     -- a row that is not live
-    pub retired-passed : live (s .uppers) i ≡ false → Scan s i b rest places at
+    pub retired-passed : live (s .uppers) i ≡ false → Scan s i b places at
     unfolding retires
     retired-passed f = record {
       listed = v .listed ∙ sym (rw (retired-cons i b h, f));
@@ -62,7 +62,7 @@ module _ (s : Rows) where
 
     module _ (r : Room s (suc i) places at) (c : Comparison) (e : c ≡ compared (s .d) (s .directions) (s .quote) (drop (i * s .d) (s .columns))) (l : live (s .uppers) i ≡ true) where
       -- a live row was compared: its place is listed if the quote is over it
-      listed-more : (t : Bool) → over s i ≡ t → drop (cond t (at - 1) at) (set places (at - 1) i) ≡ retired s i b ++ rest
+      listed-more : (t : Bool) → over s i ≡ t → drop (cond t (at - 1) at) (set places (at - 1) i) ≡ retired s i b
       unfolding retires
       listed-more true f =
           let m = r .most in
@@ -77,10 +77,10 @@ module _ (s : Rows) where
 
       -- it is over the quote, or the rows are gone through down to it
       pub compared-row : (f : Found) → f .at ≡ cond (not (c .worse)) (at - 1) at → f .last ≡ cond (c .worse && not (c .better)) (i + 1) 0
-          → Outcome s i b rest (set places (at - 1) i) f
+          → Outcome s i b (set places (at - 1) i) f
       compared-row f a k = go (c .better) (c .worse) refl refl
         where
-          go : (x y : Bool) → c .better ≡ x → c .worse ≡ y → Outcome s i b rest (set places (at - 1) i) f
+          go : (x y : Bool) → c .better ≡ x → c .worse ≡ y → Outcome s i b (set places (at - 1) i) f
           go b false p q = through (k ∙ rw q) (record { listed = rw (a, q) (listed-more true (over-by i c e ∙ rw q)); none = none-more (λ _. under-by i c e ∙ rw q) })
           go true true p q = through (k ∙ rw (p, q)) (record { listed = rw (a, q) (listed-more false (over-by i c e ∙ rw q)); none = none-more (λ _. under-by i c e ∙ rw (p, q)) })
           go false true p q =

@@ -2,7 +2,7 @@
 use mathlib.Core.Path.{_≡_}
 use Prim.Native.Nat.{ℕ, zero, suc, _+_, _-_, _*_, _≤_, _<_}
 use mathlib.Core.Bool.{Bool, true, false, _&&_, not, cond}
-use mathlib.Core.List.{List, _++_}
+use mathlib.Core.List.{List}
 use lib.Dec.{ltb, eqb}
 use lib.ListN.{length, getD, take, drop}
 use Rattle.lists.specs.Lists.{filter, any, lastOr, run}
@@ -72,17 +72,17 @@ module _ (s : Rows) where
     pub uppers : b ≤ length (s .uppers)
     pub few : b ≤ 1024
 
-  -- the rows from place i on and below b have been gone through: those retired are listed from at on, in front of the rest, and no
+  -- the rows from place i on and below b have been gone through: those retired are listed from at on, and no
   -- live row is over the quote
-  pub record Scan (i b : ℕ) (rest places : List ℕ) (at : ℕ) : Type 0 where
-    pub listed : drop at places ≡ retired i b ++ rest
+  pub record Scan (i b : ℕ) (places : List ℕ) (at : ℕ) : Type 0 where
+    pub listed : drop at places ≡ retired i b
     pub none : (j : ℕ) → i ≤ j → j < b → live (s .uppers) j ≡ true → under j ≡ false
 
   -- the rows have been gone through down to place i, or down to a live row over the quote, whose number was found
-  pub data Outcome (i b : ℕ) (rest places : List ℕ) (r : Found) : Type 0 where
-    through : r .last ≡ 0 → Scan i b rest places (r .at) → Outcome i b rest places r
-    stopped : (j : ℕ) → r .last ≡ suc j → i ≤ j → j < b → live (s .uppers) j ≡ true → under j ≡ true → suc j ≤ r .at → Scan (suc j) b rest places (r .at)
-        → Outcome i b rest places r
+  pub data Outcome (i b : ℕ) (places : List ℕ) (r : Found) : Type 0 where
+    through : r .last ≡ 0 → Scan i b places (r .at) → Outcome i b places r
+    stopped : (j : ℕ) → r .last ≡ suc j → i ≤ j → j < b → live (s .uppers) j ≡ true → under j ≡ true → suc j ≤ r .at → Scan (suc j) b places (r .at)
+        → Outcome i b places r
 
   -- there is room in the list for the places below i
   pub record Room (i : ℕ) (places : List ℕ) (at : ℕ) : Type 0 where

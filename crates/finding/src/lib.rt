@@ -2,7 +2,6 @@
 ghost use mathlib.Core.Path.{_≡_};
 ghost use mathlib.Core.Bool.{cond};
 ghost use Prim.Native.Nat.{ℕ, suc, _+_, _-_, _*_, _≤_, _<_};
-ghost use mathlib.Core.List.{List};
 ghost use lib.ListN.{length, set};
 ghost use Rattle.finding.specs.Found.{liveIn, takenLive, dullIn, rows, retired, youngest, Fits, Scan, Outcome, Room, Sound, Finds};
 use dominance::compare;
@@ -16,7 +15,7 @@ pub struct Found {
 }
 
 // x if the test passed, else y.
-fn chosen(test: bool, x: usize, y: usize) -> usize
+pub fn chosen(test: bool, x: usize, y: usize) -> usize
     ensures { λ r. ⌜ r ≡ cond test x y ⌝ }
 {
     if test { x } else { y }
@@ -152,7 +151,7 @@ pub fn dull_columns(
 }
 
 // Lists a place in front of those listed from at on, if the test passed. Returns from where on they are listed.
-fn push(places: &mut [u16], at: usize, place: usize, test: bool) -> usize
+pub fn push(places: &mut [u16], at: usize, place: usize, test: bool) -> usize
     requires { ⌜ 0 < at ⌝ }
     requires { ⌜ at ≤ length (now places) ⌝ }
     requires { ⌜ place < 65536 ⌝ }
@@ -179,7 +178,7 @@ fn step(
     requires { ⌜ Fits (rows d directions (now columns) (now uppers) (now quote)) (suc place) ⌝ }
     requires { ⌜ Room (rows d directions (now columns) (now uppers) (now quote)) (suc place) (now places) at ⌝ }
     ensures { λ r. ⌜ Room (rows d directions (now (columns .entry)) (now (uppers .entry)) (now (quote .entry))) place (now (places .exit)) (r .at) ⌝ }
-    ensures { λ r. ⌜ ((b : ℕ) (rest : List ℕ) → place < b → Scan (rows d directions (now (columns .entry)) (now (uppers .entry)) (now (quote .entry))) (suc place) b rest (now (places .entry)) at → Outcome (rows d directions (now (columns .entry)) (now (uppers .entry)) (now (quote .entry))) place b rest (now (places .exit)) r) ⌝ }
+    ensures { λ r. ⌜ ((b : ℕ) → place < b → Scan (rows d directions (now (columns .entry)) (now (uppers .entry)) (now (quote .entry))) (suc place) b (now (places .entry)) at → Outcome (rows d directions (now (columns .entry)) (now (uppers .entry)) (now (quote .entry))) place b (now (places .exit)) r) ⌝ }
 {
     if uppers[place] != 0 {
         return Found { at, last: 0 };
@@ -208,7 +207,7 @@ fn scan(
     requires { ⌜ Fits (rows d directions (now columns) (now uppers) (now quote)) to ⌝ }
     requires { ⌜ Room (rows d directions (now columns) (now uppers) (now quote)) to (now places) at ⌝ }
     ensures { λ r. ⌜ Room (rows d directions (now (columns .entry)) (now (uppers .entry)) (now (quote .entry))) from (now (places .exit)) (r .at) ⌝ }
-    ensures { λ r. ⌜ ((b : ℕ) (rest : List ℕ) → to ≤ b → Scan (rows d directions (now (columns .entry)) (now (uppers .entry)) (now (quote .entry))) to b rest (now (places .entry)) at → Outcome (rows d directions (now (columns .entry)) (now (uppers .entry)) (now (quote .entry))) from b rest (now (places .exit)) r) ⌝ }
+    ensures { λ r. ⌜ ((b : ℕ) → to ≤ b → Scan (rows d directions (now (columns .entry)) (now (uppers .entry)) (now (quote .entry))) to b (now (places .entry)) at → Outcome (rows d directions (now (columns .entry)) (now (uppers .entry)) (now (quote .entry))) from b (now (places .exit)) r) ⌝ }
 {
     let mut i = to;
     let mut left = at;
@@ -224,7 +223,7 @@ fn scan(
 }
 
 // Where the rows begin that are gone through at once below a place: 64 rows before it, or at the first one.
-fn block_start(from: usize, to: usize) -> usize
+pub fn block_start(from: usize, to: usize) -> usize
     requires { ⌜ from < to ⌝ }
     ensures { λ r. ⌜ (from ≤ r) × (r < to) ⌝ }
     ensures { λ r. ⌜ to ≤ r + 64 ⌝ }
@@ -234,7 +233,7 @@ fn block_start(from: usize, to: usize) -> usize
 
 // How many of the 64 rows below a place are taken for live: all of them in a dense book, where most rows are, else those that are; one
 // where there are fewer rows below it.
-fn taken_live(dense: bool, uppers: &[u32], to: usize) -> u32
+pub fn taken_live(dense: bool, uppers: &[u32], to: usize) -> u32
     requires { ⌜ to ≤ length (now uppers) ⌝ }
     ensures { λ r. ⌜ r ≡ takenLive dense (now (uppers .entry)) to ⌝ }
 {
@@ -265,7 +264,7 @@ fn scan_block(
     requires { ⌜ Fits (rows d directions (now columns) (now uppers) (now quote)) to ⌝ }
     requires { ⌜ Room (rows d directions (now columns) (now uppers) (now quote)) to (now places) at ⌝ }
     ensures { λ r. ⌜ Room (rows d directions (now (columns .entry)) (now (uppers .entry)) (now (quote .entry))) from (now (places .exit)) (r .at) ⌝ }
-    ensures { λ r. ⌜ ((b : ℕ) (rest : List ℕ) → to ≤ b → Scan (rows d directions (now (columns .entry)) (now (uppers .entry)) (now (quote .entry))) to b rest (now (places .entry)) at → Outcome (rows d directions (now (columns .entry)) (now (uppers .entry)) (now (quote .entry))) from b rest (now (places .exit)) r) ⌝ }
+    ensures { λ r. ⌜ ((b : ℕ) → to ≤ b → Scan (rows d directions (now (columns .entry)) (now (uppers .entry)) (now (quote .entry))) to b (now (places .entry)) at → Outcome (rows d directions (now (columns .entry)) (now (uppers .entry)) (now (quote .entry))) from b (now (places .exit)) r) ⌝ }
 {
     let live = taken_live(dense, uppers, to);
     if live == 0 {
@@ -280,7 +279,7 @@ fn scan_block(
 }
 
 // Goes through the rows below a place down to another, by blocks of 64, or down to a live row over the quote.
-pub fn scan_blocks(
+fn scan_blocks(
     directions: u32,
     d: usize,
     columns: &[u32],
@@ -296,7 +295,7 @@ pub fn scan_blocks(
     requires { ⌜ Fits (rows d directions (now columns) (now uppers) (now quote)) to ⌝ }
     requires { ⌜ Room (rows d directions (now columns) (now uppers) (now quote)) to (now places) at ⌝ }
     ensures { λ r. ⌜ Room (rows d directions (now (columns .entry)) (now (uppers .entry)) (now (quote .entry))) from (now (places .exit)) (r .at) ⌝ }
-    ensures { λ r. ⌜ ((b : ℕ) (rest : List ℕ) → to ≤ b → Scan (rows d directions (now (columns .entry)) (now (uppers .entry)) (now (quote .entry))) to b rest (now (places .entry)) at → Outcome (rows d directions (now (columns .entry)) (now (uppers .entry)) (now (quote .entry))) from b rest (now (places .exit)) r) ⌝ }
+    ensures { λ r. ⌜ ((b : ℕ) → to ≤ b → Scan (rows d directions (now (columns .entry)) (now (uppers .entry)) (now (quote .entry))) to b (now (places .entry)) at → Outcome (rows d directions (now (columns .entry)) (now (uppers .entry)) (now (quote .entry))) from b (now (places .exit)) r) ⌝ }
 {
     let mut i = to;
     let mut left = at;

@@ -138,6 +138,7 @@ pub fn find(
         columns,
         upper_ends,
         quote,
+        head.held / 2 <= head.live,
         by,
         held,
         places,

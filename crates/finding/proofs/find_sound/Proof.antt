@@ -1,5 +1,4 @@
 -- `find_sound` meets its contract: no row beyond the youngest live one over the quote need be gone through.
-use mathlib.Core.List.{[]}
 use native.Mathlib.Nat.{le-refl}
 use borrow.Author.Needs.{needs}
 use Rattle.finding.proofs.Finding.{scan-none, finds}
@@ -13,7 +12,7 @@ same-length : tie.Need-same-length
 same-length c = search needs
 
 returns : tie.Need-returns
-returns c = finds _ (c .before .before .before .before .before .before .before .before .pre .1 .1 .1) (c .before .before .scan-blocks .ensures .0) (c .before .before .scan-blocks .ensures .1 _ [] (le-refl _) (scan-none _ _ _))
+returns c = finds _ (c .before .before .before .before .before .before .before .before .pre .1 .1 .1) (c .before .before .scan-blocks .ensures .0) (c .before .before .scan-blocks .ensures .1 _ (le-refl _) (scan-none _ _ _))
 
 pub find-sound-spec : {M : Type 1} → statement M
 find-sound-spec = tie.close (tie.spec scan-blocks-requires same-length returns)

@@ -17,7 +17,7 @@ shared-slice-read-if1 : tie.Need-shared-slice-read-if1
 shared-slice-read-if1 c = search needs
 
 returns : tie.Need-returns
-returns c = (record { least = omega (arith, c .before .before .before .before .before .before .pre .1 .least); most = c .before .before .before .before .before .before .pre .1 .most }, λ b rest l v. through refl (retired-passed _ l v (live-not _ _ (c .if1 .taken))))
+returns c = (record { least = omega (arith, c .before .before .before .before .before .before .pre .1 .least); most = c .before .before .before .before .before .before .pre .1 .most }, λ b l v. through refl (retired-passed _ l v (live-not _ _ (c .if1 .taken))))
 
 mul-compare-unrolled : tie.Need-mul-compare-unrolled
 mul-compare-unrolled c = omega (arith, c .before .before .before .before .before .before .pre .0 .columns, row-in (c .before .before .before .before .before .before .args .place) (suc (c .before .before .before .before .before .before .args .place)) (c .before .before .before .before .before .before .args .d) (omega arith), c .before .before .before .before .before .before .fits)
@@ -44,7 +44,7 @@ same-length : tie.Need-same-length
 same-length c = search needs
 
 returns-2 : tie.Need-returns-2
-returns-2 c = (room-pushed _ (c .before .before .before .before .before .before .before .before .before .before .before .before .before .before .pre .1) _ (c .before .before .before .before .push .ensures .1 .0) (c .before .before .before .before .push .kept .0), λ b rest l v. rw (c .before .before .before .before .push .ensures .1 .1) (compared-row _ l v (c .before .before .before .before .before .before .before .before .before .before .before .before .before .before .pre .1) _ (c .before .before .before .before .before .before .before .compare-unrolled .ensures) (live-zero _ _ (c .before .before .before .before .before .before .before .before .if1 .left)) _ (c .before .before .before .before .push .ensures .0 ∙ rw (c .before .before .before .before .before .over-older .ensures)) (c .chosen .ensures ∙ rw (c .before .under-older .ensures))))
+returns-2 c = (room-pushed _ (c .before .before .before .before .before .before .before .before .before .before .before .before .before .before .pre .1) _ (c .before .before .before .before .push .ensures .1 .0) (c .before .before .before .before .push .kept .0), λ b l v. rw (c .before .before .before .before .push .ensures .1 .1) (compared-row _ l v (c .before .before .before .before .before .before .before .before .before .before .before .before .before .before .pre .1) _ (c .before .before .before .before .before .before .before .compare-unrolled .ensures) (live-zero _ _ (c .before .before .before .before .before .before .before .before .if1 .left)) _ (c .before .before .before .before .push .ensures .0 ∙ rw (c .before .before .before .before .before .over-older .ensures)) (c .chosen .ensures ∙ rw (c .before .under-older .ensures))))
 
 pub step-spec : {M : Type 1} → statement M
 step-spec =

@@ -14,19 +14,21 @@ expired-places-requires : tie.Need-expired-places-requires
 expired-places-requires c κs = counts (c .before .before .before .before .before .before .pre) .2
 
 find-any-requires : tie.Need-find-any-requires
-find-any-requires c κs = (rw (c .before .expired-places .ensures) (counts (c .before .before .before .before .before .before .before .before .pre) .1), (c .before .before .before .before .before .before .before .before .pre .fits, c .before .before .before .before .before .before .before .before .pre .room))
+find-any-requires c κs =
+    let p = c .before .before .before .before .before .before .before .before .before .before .pre in
+    (rw (c .before .before .before .expired-places .ensures) (counts p .1), (p .fits, p .room))
 
 sub-tell : tie.Need-sub-tell
 sub-tell c = search needs
 
 tell-requires : tie.Need-tell-requires
-tell-requires c κs = tellable (c .before .before .before .before .before .before .before .before .before .before .before .before .pre) (c .before .before .before .before .before .expired-places .ensures) (c .before .before .before .find-any .ensures)
+tell-requires c κs = tellable (c .before .before .before .before .before .before .before .before .before .before .before .before .before .before .pre) (c .before .before .before .before .before .before .before .expired-places .ensures) (c .before .before .before .find-any .ensures)
 
 same-length : tie.Need-same-length
 same-length c = search needs
 
 returns : tie.Need-returns
-returns c = tells (c .before .before .before .before .before .before .before .before .before .before .before .before .before .pre) (c .before .before .before .before .before .before .expired-places .ensures) (c .before .before .before .before .find-any .ensures) (c .tell .ensures)
+returns c = tells (c .before .before .before .before .before .before .before .before .before .before .before .before .before .before .before .pre) (c .before .before .before .before .before .before .before .before .expired-places .ensures) (c .before .before .before .before .find-any .ensures) (c .tell .ensures)
 
 pub find-spec : {M : Type 1} → statement M
 find-spec =

@@ -1,0 +1,52 @@
+-- `go_down` meets its contract: each turn goes through one row.
+use Prim.Native.Nat.{_-_}
+use native.Mathlib.Omega.{arith}
+use Rattle.finding.specs.Found.{rows}
+use Rattle.finding.proofs.Looping.{fits-less}
+use Rattle.any_finding.proofs.GoingDown.{Going, going-start, going-turn, going-end, row-next}
+use borrow.Author.Needs.{needs}
+use Rattle.any_finding.proofs.go_down.Statement.{statement}
+use Rattle.any_finding.proofs.go_down.Tie as tie
+
+abbrev Inv-loop : tie.InvT-loop
+Inv-loop directions d columns uppers quote from to places₀ i₀ so-far₀ places i so-far = Going (rows d directions columns uppers quote) from to places₀ so-far₀ places i so-far
+
+abbrev μ-loop : tie.MeasureT-loop
+μ-loop directions d columns uppers quote from to places₀ i₀ so-far₀ places i so-far = i
+
+loop-holds : tie.Need-loop-holds Inv-loop μ-loop
+loop-holds c = going-start _ (c .before .before .before .before .pre .0) (c .before .before .before .before .pre .1 .1)
+
+sub-i : tie.Need-sub-i Inv-loop μ-loop
+sub-i c = search needs
+
+go-through-requires : tie.Need-go-through-requires Inv-loop μ-loop
+go-through-requires c κs = let i = c .before .before .loop .inv in
+    (fits-less _ (omega (arith, i .most)) (c .before .before .before .before .before .before .before .pre .1 .0), record { least = omega (arith, i .room .least, c .before .loop-test .taken); most = i .room .most })
+
+loop-less : tie.Need-loop-less Inv-loop μ-loop
+loop-less c = search needs
+
+loop-again : tie.Need-loop-again Inv-loop μ-loop
+loop-again c = let t = c .before .before .before .before .loop-test .taken in let g = c .before .before .go-through in
+    going-turn _ (c .before .before .before .before .before .loop .inv) _ (omega (arith, t)) (omega arith) _ _ (g .ensures .0) (g .kept .1 .1 .1 .1 .1 .1 .0) (row-next _ (omega (arith, t)) (g .ensures .1))
+
+same-length : tie.Need-same-length Inv-loop μ-loop
+same-length c = c .before .loop .inv .same-length
+
+returns : tie.Need-returns Inv-loop μ-loop
+returns c = going-end _ (c .before .loop .inv) (c .loop-test .left)
+
+pub go-down-spec : {M : Type 1} → statement M
+go-down-spec =
+    tie.close
+    (tie.spec
+    Inv-loop
+    μ-loop
+    loop-holds
+    sub-i
+    go-through-requires
+    loop-less
+    loop-again
+    same-length
+    returns)

@@ -1,0 +1,51 @@
+-- `go_down_block` meets its contract: where no row is live and one over the quote is found, or none is comparable, there is no more to find.
+use mathlib.Core.Path.{sym, _∙_}
+use mathlib.Core.Logic.{inl}
+use native.Mathlib.Omega.{arith}
+use Rattle.finding.proofs.Blocks.{dull-apart}
+use Rattle.finding.proofs.Looping.{block-below, fits-at}
+use Rattle.any_finding.proofs.GoingDown.{block-gone, dead-block}
+use borrow.Author.Needs.{needs}
+use Rattle.any_finding.proofs.go_down_block.Statement.{statement}
+use Rattle.any_finding.proofs.go_down_block.Tie as tie
+
+taken-live-requires : tie.Need-taken-live-requires
+taken-live-requires c κs = c .before .before .before .before .pre .1 .0 .uppers
+
+returns : tie.Need-returns
+returns c = let p = c .before .before .before .before .before .before .before .pre in dead-block _ _ (p .0 .0) (p .0 .1) (p .1 .1) (c .before .before .taken-live .ensures) (c .if1 .taken)
+
+sub-dull-columns : tie.Need-sub-dull-columns
+sub-dull-columns c = block-below _ _ _ (c .before .before .before .taken-live .ensures) (c .if2 .taken)
+
+dull-columns-requires : tie.Need-dull-columns-requires
+dull-columns-requires c κs = fits-at _ (block-below _ _ _ (c .before .before .before .taken-live .ensures) (c .if2 .taken)) (c .before .before .before .before .before .before .before .before .pre .1 .0)
+
+returns-2 : tie.Need-returns-2
+returns-2 c =
+    let p = c .before .before .before .before .before .before .before .before .before .before .pre in
+    let h = block-below _ _ _ (c .before .before .before .before .before .taken-live .ensures) (c .before .before .if2 .taken) in
+    let d = sym (c .before .dull-columns .ensures) ∙ c .if3 .taken in
+    block-gone _ (p .0 .0) (p .1 .1) (λ q u l w. dull-apart _ _ 64 d q (omega (arith, p .0 .1)) (omega arith) .0) (inl (λ q u l. dull-apart _ _ 64 d q (omega (arith, p .0 .1)) (omega arith) .1))
+
+go-down-requires : tie.Need-go-down-requires
+go-down-requires c κs = let p = c .before .before .before .before .before .before .before .before .before .pre in (p .0 .0, p .1)
+
+same-length : tie.Need-same-length
+same-length c = search needs
+
+returns-3 : tie.Need-returns-3
+returns-3 c = search needs
+
+pub go-down-block-spec : {M : Type 1} → statement M
+go-down-block-spec =
+    tie.close
+    (tie.spec
+    taken-live-requires
+    returns
+    sub-dull-columns
+    dull-columns-requires
+    returns-2
+    go-down-requires
+    same-length
+    returns-3)
