@@ -8,12 +8,12 @@ use lib.Dec.{eqb}
 use lib.ListN.{length, getD, take, replicate, length-take, length-replicate}
 use borrow.Author.Tests.{eq-eqb, ne-eqb}
 use Rattle.head.specs.declared.Desk.the-variants.{One, Two}
-use Rattle.frames.specs.declared.Shape.{Shape}
-use Rattle.frames.specs.declared.Shape.the-variants.{Columns, Size, SizePosition, SizePair, Bare, Position, Settings, Unknown}
+use Rattle.frame_kinds.specs.declared.Shape.{Shape}
+use Rattle.frame_kinds.specs.declared.Shape.the-variants.{Columns, Size, SizePosition, SizePair, Bare, Position, Settings, Unknown}
 use Rattle.frames.specs.declared.Read.{Read}
-use Rattle.frames.specs.Kinds.{lookKind, watchKind, unwatchKind, watchTwoKind, unwatchTwoKind, pairKind, unpairKind, pastKind, shapeOf, bodyLength}
+use Rattle.frame_kinds.specs.Kinds.{lookKind, watchKind, unwatchKind, watchTwoKind, unwatchTwoKind, pairKind, unpairKind, pastKind, shapeOf, bodyLength}
 use Rattle.frames.specs.Frames.{messageBy, messageAt, Saying, told, saying, Reading, reading, stays, readAt}
-use Rattle.frames.proofs.Shapes.{KnownShape, Known, quote-kinds}
+use Rattle.frame_kinds.proofs.Shapes.{KnownShape, Known, quote-kinds}
 use Rattle.frames.proofs.Reading.{read-says, Found, beyond, at-end, unknown, cut, whole, found}
 use Rattle.model.specs.Calls.{Call}
 use Rattle.asking.specs.declared.Wanted.{Wanted}

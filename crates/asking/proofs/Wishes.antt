@@ -7,7 +7,7 @@ use borrow.Author.Tests.{ne-eqb}
 use Rattle.head.specs.declared.Desk.the-variants.{One, Two}
 use Rattle.frames.specs.declared.Message.{Message}
 use Rattle.frames.specs.declared.Message.the-variants as Message
-use Rattle.frames.specs.Kinds.{lookKind, watchKind, unwatchKind, watchTwoKind, unwatchTwoKind, pairKind, unpairKind, pastKind}
+use Rattle.frame_kinds.specs.Kinds.{lookKind, watchKind, unwatchKind, watchTwoKind, unwatchTwoKind, pairKind, unpairKind, pastKind}
 use Rattle.frames.specs.Frames.{saying}
 use Rattle.asking.specs.declared.Wanted.{Wanted}
 use Rattle.asking.specs.declared.Wanted.the-variants.{Quote, Look, Past, Watch, End, Pair, Unpair, Open, Nothing, Refused, Misplaced}

@@ -8,7 +8,7 @@ use Rattle.head.specs.declared.Desk.the-variants.{One, Two}
 use Rattle.head.specs.Refusals.{number}
 use Rattle.frames.specs.declared.Message.{Message}
 use Rattle.frames.specs.declared.Message.the-variants as Message
-use Rattle.frames.specs.Kinds.{lookKind, watchKind, unwatchKind, watchTwoKind, unwatchTwoKind, pairKind, unpairKind, pastKind}
+use Rattle.frame_kinds.specs.Kinds.{lookKind, watchKind, unwatchKind, watchTwoKind, unwatchTwoKind, pairKind, unpairKind, pastKind}
 use Rattle.frames.specs.Frames.{Saying, told, ended, refused}
 use Rattle.model.specs.Calls.{Call}
 

@@ -7,13 +7,13 @@ use lib.ListN.{length, getD}
 use borrow.Author.Tests.{lt-ltb, le-ltb, eq-eqb, ne-eqb}
 use Rattle.head.specs.declared.Refusal.the-variants.{UnknownKind, CutFrame}
 use Rattle.octets.specs.Bytes.{number2, number4}
-use Rattle.frames.specs.declared.Shape.{Shape}
-use Rattle.frames.specs.declared.Shape.the-variants as Shape
+use Rattle.frame_kinds.specs.declared.Shape.{Shape}
+use Rattle.frame_kinds.specs.declared.Shape.the-variants as Shape
 use Rattle.frames.specs.declared.Message.{Message}
 use Rattle.frames.specs.declared.Message.the-variants.{Quote, Sized, Change, Pair, Bare, Position, Open, End, Refused}
-use Rattle.frames.specs.Kinds.{shapeOf, bodyLength}
+use Rattle.frame_kinds.specs.Kinds.{shapeOf, bodyLength}
 use Rattle.frames.specs.Frames.{messageBy, messageAt, columnsAt, told, saying, reading, stays, readAt}
-use Rattle.frames.proofs.Shapes.{KnownShape, Known, quote-shape}
+use Rattle.frame_kinds.proofs.Shapes.{KnownShape, Known, quote-shape}
 
 module _ (tape : List ℕ) (place : ℕ) where
   pub beyond : length tape < place → stays (saying (Refused CutFrame)) place ≡ readAt tape place

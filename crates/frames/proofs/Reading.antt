@@ -16,12 +16,12 @@ use Rattle.lists.proofs.Filters.{map-append}
 use Rattle.lists.proofs.Runs.{run-append}
 use Rattle.lists.proofs.Cells.{map-run, map-one}
 use Rattle.octets.specs.Bytes.{number2, number4}
-use Rattle.frames.specs.declared.Shape.{Shape}
-use Rattle.frames.specs.declared.Shape.the-variants.{Columns, Size, SizePosition, SizePair, Bare, Position, Settings, Unknown}
+use Rattle.frame_kinds.specs.declared.Shape.{Shape}
+use Rattle.frame_kinds.specs.declared.Shape.the-variants.{Columns, Size, SizePosition, SizePair, Bare, Position, Settings, Unknown}
 use Rattle.frames.specs.declared.Read.{Read}
-use Rattle.frames.specs.Kinds.{within, shapeOf, bodyLength}
+use Rattle.frame_kinds.specs.Kinds.{within, shapeOf, bodyLength}
 use Rattle.frames.specs.Frames.{messageBy, messageAt, columnsAt, told, ended, refused, saying, Reading, reading, stays, readAt, toldFirst, messagesFrom}
-use Rattle.frames.proofs.Shapes.{Known, kind-known}
+use Rattle.frame_kinds.proofs.Shapes.{Known, kind-known}
 
 -- ---- the parts of what was read
 

@@ -16,16 +16,16 @@ use Rattle.lists.proofs.Cells.{cells-part, map-run, map-one}
 use Rattle.octets.specs.Bytes.{bytes2, bytes4, number2, number4}
 use Rattle.octets.proofs.Numbers.{two-bytes, four-bytes, bytes2-again, bytes4-again}
 use Rattle.octets.proofs.Cells.{length-cells, cell-again, cells-again}
-use Rattle.frames.specs.declared.Shape.{Shape}
-use Rattle.frames.specs.declared.Shape.the-variants as Shape
+use Rattle.frame_kinds.specs.declared.Shape.{Shape}
+use Rattle.frame_kinds.specs.declared.Shape.the-variants as Shape
 use Rattle.frames.specs.declared.Message.{Message}
 use Rattle.frames.specs.declared.Message.the-variants.{Quote, Sized, Change, Pair, Bare, Position, Open, End, Refused}
-use Rattle.frames.specs.Kinds.{leaveKind, joinKind, pairLeaveKind, pairJoinKind, openKind, kinds, shapeIn, shapeOf, codeOf, hasShape, lengthOf, bodyLength}
+use Rattle.frame_kinds.specs.Kinds.{leaveKind, joinKind, pairLeaveKind, pairJoinKind, openKind, kinds, shapeIn, shapeOf, codeOf, hasShape, lengthOf, bodyLength}
 use Rattle.frames.specs.Frames.{framed, frame, messageBy, messageAt, columnsAt, Saying, told, ended, refused, Reading, stays, readAt}
 use Rattle.frames.specs.Messages.{columnCount, columnsOf, Typed, Writable, Exact}
-use Rattle.frames.proofs.Shapes.{KnownShape, Known, quote-kinds, open-kind, open-shape, no-quote, shape-told, shape-tells, body-by, quote-body, known-body}
+use Rattle.frame_kinds.proofs.Shapes.{KnownShape, Known, quote-kinds, open-kind, open-shape, no-quote, shape-told, shape-tells, body-by, quote-body, known-body}
 use Rattle.frames.proofs.Reading.{message-drop, columns-drop, quote-columns, Found, beyond, at-end, unknown, cut, whole, found}
-use Rattle.frames.proofs.WriteCases.{column-range}
+use Rattle.frames.proofs.FrameSizes.{column-range}
 
 -- a message that has a frame can be written with any six cells
 pub six-writable : (m : Message) (cs : List ℕ) → framed m ≡ true → Typed m → length cs ≡ 6 → ((i : ℕ) → getD cs i 0 < 4294967296) → Writable m cs

@@ -8,12 +8,12 @@ use Rattle.lists.specs.Lists.{flat, run}
 use Rattle.head.specs.declared.Refusal.the-variants.{UnknownKind, CutFrame}
 use Rattle.head.specs.Refusals.{number}
 use Rattle.octets.specs.Bytes.{bytes2, bytes4, number2, number4}
-use Rattle.frames.specs.declared.Shape.{Shape}
-use Rattle.frames.specs.declared.Shape.the-variants as Shape
+use Rattle.frame_kinds.specs.declared.Shape.{Shape}
+use Rattle.frame_kinds.specs.declared.Shape.the-variants as Shape
 use Rattle.frames.specs.declared.Message.{Message}
 use Rattle.frames.specs.declared.Message.the-variants.{Quote, Sized, Change, Pair, Bare, Position, Open, End, Refused}
 use Rattle.frames.specs.declared.Read.{Read}
-use Rattle.frames.specs.Kinds.{within, openKind, shapeOf, hasShape, bodyLength}
+use Rattle.frame_kinds.specs.Kinds.{within, openKind, shapeOf, hasShape, bodyLength}
 
 -- the message is one that has a frame: its kind is known and has the message's shape
 unfoldable pub framed : Message → Bool
@@ -26,6 +26,18 @@ framed (Position k p) = hasShape Shape.Position k
 framed (Open d N directions) = true
 framed End = false
 framed (Refused k) = false
+
+-- the kind of a message; 0 for one that is no frame's
+abbrev pub kindOf : Message → ℕ
+kindOf (Quote k) = k
+kindOf (Sized k n) = k
+kindOf (Change k n p) = k
+kindOf (Pair k n1 n2) = k
+kindOf (Bare k) = k
+kindOf (Position k p) = k
+kindOf (Open d N directions) = openKind
+kindOf End = 0
+kindOf (Refused k) = 0
 
 -- the frame of a message: its kind, then its body; a quote's columns stand beside it
 unfoldable pub frame : Message → List ℕ → List ℕ

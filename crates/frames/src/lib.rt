@@ -1,44 +1,26 @@
-// Frames: reading a message from a tape, at a place or by a lent one, and writing one into a lent output.
-mod kinds;
-mod lengths;
+// Frames: the message of a frame, and reading one from a tape, at a place or by a lent one.
 mod places;
 mod reader;
-mod writer;
 
-use head::Answer;
+pub use frame_kinds::JOIN;
+pub use frame_kinds::JOIN_TWO;
+pub use frame_kinds::LEAVE;
+pub use frame_kinds::LEAVE_TWO;
+pub use frame_kinds::LOOK;
+pub use frame_kinds::OPEN;
+pub use frame_kinds::PAIR;
+pub use frame_kinds::PAIR_JOIN;
+pub use frame_kinds::PAIR_LEAVE;
+pub use frame_kinds::PAST;
+pub use frame_kinds::UNPAIR;
+pub use frame_kinds::UNWATCH;
+pub use frame_kinds::UNWATCH_TWO;
+pub use frame_kinds::WATCH;
+pub use frame_kinds::WATCH_TWO;
+pub use frame_kinds::body_length;
 use head::Refusal;
-pub use kinds::JOIN;
-pub use kinds::JOIN_TWO;
-pub use kinds::LEAVE;
-pub use kinds::LEAVE_TWO;
-pub use kinds::LOOK;
-pub use kinds::OPEN;
-pub use kinds::PAIR;
-pub use kinds::PAIR_JOIN;
-pub use kinds::PAIR_LEAVE;
-pub use kinds::PAST;
-pub use kinds::UNPAIR;
-pub use kinds::UNWATCH;
-pub use kinds::UNWATCH_TWO;
-pub use kinds::WATCH;
-pub use kinds::WATCH_TWO;
-pub use lengths::body_length;
 pub use places::read_next;
 pub use reader::read_at;
-pub use writer::write;
-
-// What stands in the body of a frame: columns; n; n and a position; n1 and n2; nothing; a position; the settings of an opening; or the kind
-// is unknown.
-pub enum Shape {
-    Columns,
-    Size,
-    SizePosition,
-    SizePair,
-    Bare,
-    Position,
-    Settings,
-    Unknown,
-}
 
 // A message: what a frame says, or that there is none to read. A quote's columns stand beside it.
 pub enum Message {
@@ -70,10 +52,4 @@ pub struct Read {
 // A place of a tape: how many bytes stand before it.
 pub struct Place {
     pub at: usize,
-}
-
-// What was written: the answer, and how many bytes.
-pub struct Written {
-    pub answer: Answer,
-    pub count: usize,
 }

@@ -14,9 +14,9 @@ use Rattle.dominance.specs.Dominance.{dominates}
 use Rattle.dominance.specs.Compared.{compared}
 use Rattle.dominance.proofs.Comparing.{dominates-by}
 use Rattle.frames.specs.declared.Read.{Read}
-use Rattle.frames.specs.Kinds.{bodyLength}
+use Rattle.frame_kinds.specs.Kinds.{bodyLength}
 use Rattle.frames.specs.Frames.{reading, readAt, columnsAt}
-use Rattle.frames.proofs.Shapes.{quote-body}
+use Rattle.frame_kinds.proofs.Shapes.{quote-body}
 use Rattle.frames.proofs.Reading.{read-columns}
 use Rattle.host.specs.Host.{checkOf, columnsOf, compareOf, WholeQuote}
 

@@ -6,7 +6,7 @@ use mathlib.Core.List.{List}
 use lib.Dec.{ltb, eqb}
 use lib.ListN.{length, getD}
 use Rattle.dominance.specs.Dominance.{dominates}
-use Rattle.frames.specs.Kinds.{within, bodyLength}
+use Rattle.frame_kinds.specs.Kinds.{within, bodyLength}
 use Rattle.frames.specs.Frames.{columnsAt}
 
 -- the kind of the frame at the start of the bytes

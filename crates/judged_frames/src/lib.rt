@@ -9,7 +9,7 @@ use libc::STDOUT_FILENO;
 // Writes the frame of a watch of n, reads it back by a reading place, and prints n and the place behind it; then the tape ends.
 pub fn there_and_back(n: u16) {
     let mut tape = [0u8; 3];
-    let written = frames::write(Message::Sized(frames::WATCH, n), [0; 6], &mut tape);
+    let written = frame_writer::write(Message::Sized(frames::WATCH, n), [0; 6], &mut tape);
     let answer = written.answer;
     print_refusal(answer);
     let found = by_value::read(&tape, Place { at: 0 });

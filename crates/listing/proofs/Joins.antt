@@ -8,7 +8,7 @@ use Rattle.octets.specs.Bytes.{bytes2, bytes4}
 use Rattle.head.specs.declared.Desk.{Desk}
 use Rattle.head.specs.Desks.{deskNumber, deskUnit, watchOf}
 use Rattle.frames.specs.declared.Message.the-variants.{Change}
-use Rattle.frames.specs.Kinds.{pairJoinKind}
+use Rattle.frame_kinds.specs.Kinds.{pairJoinKind}
 use Rattle.frames.specs.Frames.{frame}
 use Rattle.frames.proofs.RoundTrips.{change-length, position-length}
 use Rattle.model.specs.Changes.{joinKindOf, join, frames}

@@ -9,7 +9,7 @@ use Rattle.lists.specs.Lists.{flat}
 use Rattle.lists.proofs.Filters.{flat-append, map-append}
 use Rattle.head.specs.Desks.{deskIn, sizeIn}
 use Rattle.frames.specs.declared.Message.{Message}
-use Rattle.frames.specs.Kinds.{pairLeaveKind, pairJoinKind}
+use Rattle.frame_kinds.specs.Kinds.{pairLeaveKind, pairJoinKind}
 use Rattle.frames.specs.Frames.{frame}
 use Rattle.frames.proofs.RoundTrips.{change-length, position-length}
 use Rattle.model.specs.Changes.{leaveKindOf, joinKindOf, leave, join, pairLeave, pairJoin, missing, changesBy, changes, pairChanges, frames}

@@ -28,7 +28,7 @@ use Rattle.head.proofs.Settings.{Within, settings-within}
 use Rattle.head.specs.declared.Desk.{Desk}
 use Rattle.head.specs.Desks.{deskIn, sizeIn, watchOf}
 use Rattle.frames.specs.declared.Message.{Message}
-use Rattle.frames.specs.Kinds.{pairJoinKind}
+use Rattle.frame_kinds.specs.Kinds.{pairJoinKind}
 use Rattle.frames.proofs.RoundTrips.{change-length, position-length}
 use Rattle.model.specs.Rows.{Row, Tables, rowAt, rowsIn, isLive, liveRows, listed, expiring, overOlder, retiredBy, rowAfter, lowerEndAmong, rowsAfter}
 use Rattle.model.specs.Changes.{joinKindOf, leave, join, pairLeave, pairJoin, missing, changesBy, changes, allChanges, pairChanges, frames, changeRoom}

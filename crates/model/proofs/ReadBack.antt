@@ -15,10 +15,10 @@ use Rattle.head.specs.declared.Desk.the-variants.{Two}
 use Rattle.head.specs.Desks.{deskNumber, deskIn, sizeIn}
 use Rattle.frames.specs.declared.Message.{Message}
 use Rattle.frames.specs.declared.Message.the-variants.{Change}
-use Rattle.frames.specs.Kinds.{leaveKind, joinKind, leaveTwoKind, joinTwoKind, kinds, shapeIn, shapeOf, hasShape}
+use Rattle.frame_kinds.specs.Kinds.{leaveKind, joinKind, leaveTwoKind, joinTwoKind, kinds, shapeIn, shapeOf, hasShape}
 use Rattle.frames.specs.Frames.{frame, stays, readAt, toldFirst, messagesFrom}
 use Rattle.frames.specs.Messages.{Writable}
-use Rattle.frames.proofs.WriteCases.{frame-size}
+use Rattle.frames.proofs.FrameSizes.{frame-size}
 use Rattle.frames.proofs.RoundTrips.{read-after-write, change-writable, leave-writable, join-writable, pair-leave-writable, pair-join-writable}
 use Rattle.model.specs.Changes.{leaveKindOf, joinKindOf, leave, join, pairLeave, pairJoin, missing, changesBy, changes, allChanges, pairChanges, frames}
 

@@ -14,7 +14,7 @@ use Rattle.head.specs.Heads.{lastPosition, afterQuote, tornPair}
 use Rattle.head.specs.Desks.{deskIn, sizeIn}
 use Rattle.head.proofs.Settings.{settings-within}
 use Rattle.frames.specs.declared.Message.{Message}
-use Rattle.frames.specs.Kinds.{pairJoinKind}
+use Rattle.frame_kinds.specs.Kinds.{pairJoinKind}
 use Rattle.frames.specs.Frames.{frame}
 use Rattle.frames.proofs.RoundTrips.{change-length, position-length}
 use Rattle.model.specs.Rows.{Row, liveRows, listed, rowsAfter}

@@ -8,7 +8,7 @@ use Rattle.head.specs.declared.Desk.the-variants.{Two}
 use Rattle.head.specs.Desks.{deskNumber, deskIn, sizeIn}
 use Rattle.frames.specs.declared.Message.{Message}
 use Rattle.frames.specs.declared.Message.the-variants.{Change, Position}
-use Rattle.frames.specs.Kinds.{leaveKind, joinKind, leaveTwoKind, joinTwoKind, pairLeaveKind, pairJoinKind}
+use Rattle.frame_kinds.specs.Kinds.{leaveKind, joinKind, leaveTwoKind, joinTwoKind, pairLeaveKind, pairJoinKind}
 use Rattle.frames.specs.Frames.{frame}
 
 -- the kind of a desk's leaves

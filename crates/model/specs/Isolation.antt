@@ -13,7 +13,7 @@ use Rattle.head.specs.Refusals.{number}
 use Rattle.head.specs.Desks.{deskNumber}
 use Rattle.frames.specs.declared.Message.{Message}
 use Rattle.frames.specs.declared.Message.the-variants as Message
-use Rattle.frames.specs.Kinds.{pairLeaveKind, pairJoinKind}
+use Rattle.frame_kinds.specs.Kinds.{pairLeaveKind, pairJoinKind}
 use Rattle.frames.specs.Frames.{messagesFrom}
 use Rattle.model.specs.Changes.{leaveKindOf, joinKindOf}
 use Rattle.model.specs.Reference.{Lengths}

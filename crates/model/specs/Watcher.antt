@@ -10,7 +10,7 @@ use Rattle.head.specs.Desks.{deskNumber, sizeIn, watchOf}
 use Rattle.head.specs.Refusals.{granted}
 use Rattle.frames.specs.declared.Message.{Message}
 use Rattle.frames.specs.declared.Message.the-variants.{Quote, Sized, Change, Pair, Bare, Position, Open, End, Refused}
-use Rattle.frames.specs.Kinds.{pairLeaveKind, pairJoinKind}
+use Rattle.frame_kinds.specs.Kinds.{pairLeaveKind, pairJoinKind}
 use Rattle.frames.specs.Frames.{messagesFrom}
 use Rattle.model.specs.Changes.{leaveKindOf, joinKindOf}
 use Rattle.model.specs.Shares.{ofDesk}

@@ -11,10 +11,10 @@ use lib.Seq.{drop-cons}
 use borrow.Author.Tests.{lt-ltb, le-ltb, ltb-true, ltb-false, eq-eqb, ne-eqb, not-true, not-false}
 use Rattle.lists.proofs.Booleans.{and-left, and-right}
 use Rattle.head.specs.Refusals.{firstOf, granted}
-use Rattle.frames.specs.Kinds.{lookKind, watchKind, unwatchKind, watchTwoKind, unwatchTwoKind, pairKind, unpairKind, pastKind}
+use Rattle.frame_kinds.specs.Kinds.{lookKind, watchKind, unwatchKind, watchTwoKind, unwatchTwoKind, pairKind, unpairKind, pastKind}
 use Rattle.frames.specs.Frames.{framed, frame}
-use Rattle.frames.specs.Writing.{writeAnswer, Wrote}
-use Rattle.frames.specs.declared.Written.{Written}
+use Rattle.frame_writer.specs.Writing.{writeAnswer, Wrote}
+use Rattle.frame_writer.specs.declared.Written.{Written}
 use Rattle.frames.specs.declared.Message.{Message}
 use Rattle.frames.specs.declared.Message.the-variants.{Quote, Sized, Pair, Bare, Open}
 use Rattle.notation.specs.declared.Fields.{Fields}

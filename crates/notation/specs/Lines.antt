@@ -7,7 +7,7 @@ use lib.ListN.{getD, drop}
 use Rattle.head.specs.declared.Refusal.the-variants.{UnknownKind}
 use Rattle.frames.specs.declared.Message.{Message}
 use Rattle.frames.specs.declared.Message.the-variants.{Quote, Sized, Pair, Bare, Open, Refused}
-use Rattle.frames.specs.Kinds.{lookKind, watchKind, unwatchKind, watchTwoKind, unwatchTwoKind, pairKind, unpairKind, pastKind}
+use Rattle.frame_kinds.specs.Kinds.{lookKind, watchKind, unwatchKind, watchTwoKind, unwatchTwoKind, pairKind, unpairKind, pastKind}
 use Rattle.notation.specs.declared.Fields.{Fields}
 use Rattle.notation.specs.declared.Said.{Said}
 use Rattle.notation.specs.Fields.{noField, fieldsFrom}

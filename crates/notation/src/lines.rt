@@ -3,11 +3,12 @@ ghost use mathlib.Core.Path.{_≡_};
 ghost use mathlib.Core.Bool.{cond};
 ghost use Prim.Native.Nat.{_+_};
 ghost use lib.ListN.{drop};
-ghost use Rattle.frames.specs.Writing.{Wrote};
+ghost use Rattle.frame_writer.specs.Writing.{Wrote};
 ghost use Rattle.notation.specs.Lines.{opens, opening, quoteOf, pairs, pairOf, bareOf, fits, sizedOf, said, marked, signOf, saidBy, lineLength};
 use crate::Fields;
 use crate::Said;
 use crate::scanning::fields_from;
+use frame_writer::Written;
 use frames::LOOK;
 use frames::Message;
 use frames::PAIR;
@@ -17,7 +18,6 @@ use frames::UNWATCH;
 use frames::UNWATCH_TWO;
 use frames::WATCH;
 use frames::WATCH_TWO;
-use frames::Written;
 use head::Refusal;
 
 // Whether the fields are three numbers that fit the frame of an opening.
@@ -191,5 +191,5 @@ pub fn write_line(line: &[u8], out: &mut [u8]) -> Written
     let said = read_line(line);
     let message = said.message;
     let numbers = said.numbers;
-    frames::write(message, numbers, out)
+    frame_writer::write(message, numbers, out)
 }

@@ -13,12 +13,12 @@ use Rattle.lists.specs.Lists.{laid}
 use Rattle.lists.proofs.Booleans.{or-cases}
 use Rattle.lists.proofs.Runs.{order}
 use Rattle.octets.specs.Bytes.{number2, number4}
-use Rattle.frames.specs.declared.Shape.{Shape}
-use Rattle.frames.specs.declared.Shape.the-variants.{Columns, Size, SizePosition, SizePair, Bare, Position, Settings, Unknown}
+use Rattle.frame_kinds.specs.declared.Shape.{Shape}
+use Rattle.frame_kinds.specs.declared.Shape.the-variants.{Columns, Size, SizePosition, SizePair, Bare, Position, Settings, Unknown}
 use Rattle.frames.specs.declared.Message.{Message}
-use Rattle.frames.specs.Kinds.{leaveKind, joinKind, leaveTwoKind, joinTwoKind, pairLeaveKind, pairJoinKind, kinds, shapeIn, shapeOf, bodyLength}
+use Rattle.frame_kinds.specs.Kinds.{leaveKind, joinKind, leaveTwoKind, joinTwoKind, pairLeaveKind, pairJoinKind, kinds, shapeIn, shapeOf, bodyLength}
 use Rattle.frames.specs.Frames.{messageBy, messageAt, Reading, stays, readAt}
-use Rattle.frames.proofs.Shapes.{change-body, position-body}
+use Rattle.frame_kinds.proofs.Shapes.{change-body, position-body}
 use Rattle.frames.proofs.ReadCases as cases
 use Rattle.frames.proofs.ReadCases.{whole-next}
 use Rattle.frames.proofs.Reading.{told-at}

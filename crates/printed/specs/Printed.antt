@@ -7,7 +7,7 @@ use lib.ListN.{length}
 use Rattle.lists.specs.Lists.{flat}
 use Rattle.frames.specs.declared.Message.{Message}
 use Rattle.frames.specs.declared.Message.the-variants.{Quote, Sized, Change, Pair, Bare, Position, Open, End, Refused}
-use Rattle.frames.specs.Kinds.{leaveKind, joinKind, leaveTwoKind, joinTwoKind, pairLeaveKind, pairJoinKind}
+use Rattle.frame_kinds.specs.Kinds.{leaveKind, joinKind, leaveTwoKind, joinTwoKind, pairLeaveKind, pairJoinKind}
 use Rattle.frames.specs.Frames.{messagesFrom}
 use Rattle.text.specs.Text.{line, line2}
 

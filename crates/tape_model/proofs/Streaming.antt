@@ -15,11 +15,11 @@ use Rattle.lists.proofs.Cells.{map-run}
 use Rattle.head.specs.declared.Refusal.the-variants.{UnknownKind, CutFrame}
 use Rattle.head.specs.Refusals.{number}
 use Rattle.octets.specs.Bytes.{number2, number4}
-use Rattle.frames.specs.declared.Shape.{Shape}
-use Rattle.frames.specs.declared.Shape.the-variants.{Columns, Size, SizePosition, SizePair, Bare, Position, Settings, Unknown}
-use Rattle.frames.specs.Kinds.{within, shapeOf, bodyLength}
+use Rattle.frame_kinds.specs.declared.Shape.{Shape}
+use Rattle.frame_kinds.specs.declared.Shape.the-variants.{Columns, Size, SizePosition, SizePair, Bare, Position, Settings, Unknown}
+use Rattle.frame_kinds.specs.Kinds.{within, shapeOf, bodyLength}
 use Rattle.frames.specs.Frames.{messageBy, messageAt, columnsAt, told, ended, refused, Reading, stays, readAt}
-use Rattle.frames.proofs.Shapes.{within-bounds, quote-body, size-body, change-body, pair-body, position-body, open-body, kind-known, known-body}
+use Rattle.frame_kinds.proofs.Shapes.{within-bounds, quote-body, size-body, change-body, pair-body, position-body, open-body, kind-known, known-body}
 use Rattle.frames.proofs.Reading.{message-drop, columns-drop, Found, beyond, at-end, unknown, cut, whole, found}
 use Rattle.model.specs.Reference.{unopened, opened}
 use Rattle.model.specs.Calls.{Call, Outputs, Lent, lengthsOf, worldFirst}

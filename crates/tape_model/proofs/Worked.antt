@@ -9,7 +9,7 @@ use Rattle.head.specs.Refusals.{firstOf, granted}
 use Rattle.head.specs.Heads.{settingsHold}
 use Rattle.head.specs.Desks.{recordOf, deskIn, sizeIn, watchOf}
 use Rattle.octets.specs.Bytes.{bytes2, bytes4, number2, number4}
-use Rattle.frames.specs.Kinds.{kinds, shapeIn, shapeOf, lengthOf, bodyLength}
+use Rattle.frame_kinds.specs.Kinds.{kinds, shapeIn, shapeOf, lengthOf, bodyLength}
 use Rattle.frames.specs.Frames.{frame, messageBy, messageAt, columnsAt, stays, readAt, toldFirst, messagesFrom}
 use Rattle.model.specs.Changes.{leaveKindOf, joinKindOf, missing, changesBy, changes, allChanges, pairChanges, frames}
 use Rattle.model.specs.Shares.{ofDesk, countOf, aboveShares, deskFull}

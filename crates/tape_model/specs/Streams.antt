@@ -6,7 +6,7 @@ use mathlib.Core.Bool.{Bool, true, false, _&&_, _||_}
 use mathlib.Core.List.{List, [], _++_}
 use lib.Dec.{ltb, leb, eqb}
 use lib.ListN.{length, getD}
-use Rattle.frames.specs.Kinds.{bodyLength}
+use Rattle.frame_kinds.specs.Kinds.{bodyLength}
 use Rattle.model.specs.Calls.{Call}
 use Rattle.tape_model.specs.Print.{Answered}
 use Rattle.tape_model.specs.Play.{Played, playAt, printFrom}

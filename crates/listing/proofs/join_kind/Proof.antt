@@ -3,7 +3,7 @@ use mathlib.Core.Path.{_≡_}
 use Rattle.head.specs.declared.Desk.{Desk}
 use Rattle.head.specs.declared.Desk.the-variants.{One, Two}
 use Rattle.head.specs.Desks.{deskNumber}
-use Rattle.frames.specs.Kinds.{joinKind, joinTwoKind}
+use Rattle.frame_kinds.specs.Kinds.{joinKind, joinTwoKind}
 use Rattle.model.specs.Changes.{joinKindOf}
 use borrow.Author.Needs.{needs}
 use Rattle.listing.proofs.join_kind.Statement.{statement}

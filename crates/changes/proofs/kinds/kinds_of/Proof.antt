@@ -3,7 +3,7 @@ use mathlib.Core.Path.{_≡_}
 use Prim.Native.Nat.{ℕ}
 use borrow.Author.Tests.{eq-eqb, ne-eqb}
 use Rattle.head.specs.Desks.{deskIn}
-use Rattle.frames.specs.Kinds.{leaveKind, joinKind, leaveTwoKind, joinTwoKind}
+use Rattle.frame_kinds.specs.Kinds.{leaveKind, joinKind, leaveTwoKind, joinTwoKind}
 use Rattle.model.specs.Changes.{leaveKindOf, joinKindOf}
 use Rattle.changes.specs.Kinds.{kindsOf}
 use borrow.Author.Needs.{needs}

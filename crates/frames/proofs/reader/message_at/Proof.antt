@@ -1,7 +1,7 @@
 -- `message_at` meets its contract: the shape says which numbers stand within the body.
 use mathlib.Core.Path.{sym, _∙_}
 use native.Mathlib.Omega.{arith}
-use Rattle.frames.proofs.Shapes.{size-body, change-body, pair-body, position-body, open-body}
+use Rattle.frame_kinds.proofs.Shapes.{size-body, change-body, pair-body, position-body, open-body}
 use Rattle.frames.proofs.ReadCases.{quote-message, size-message, change-message, pair-message, bare-message, position-message, open-message, unknown-message}
 use borrow.Author.Needs.{needs}
 use Rattle.frames.proofs.reader.message_at.Statement.{statement}

@@ -4,7 +4,7 @@ use Prim.Native.Nat.{_≤_}
 use native.Mathlib.Omega.{arith}
 use lib.ListN.{getD}
 use Rattle.frames.proofs.ReadCases.{beyond, at-end, unknown, cut, whole, message-told, quote-told}
-use Rattle.frames.proofs.Shapes.{quote-body, kind-known, low-quote}
+use Rattle.frame_kinds.proofs.Shapes.{quote-body, kind-known, low-quote}
 use Rattle.frames.proofs.ReadColumns.{no-columns}
 use borrow.Author.Needs.{needs}
 use Rattle.frames.proofs.reader.read_at.Statement.{statement}

@@ -6,7 +6,7 @@ use lib.ListN.{length, getD, length-take, length-drop}
 use denote.Ref.{now}
 use Rattle.lists.specs.Lists.{flat, laid}
 use Rattle.frames.specs.Frames.{frame}
-use Rattle.frames.specs.Kinds.{pairJoinKind}
+use Rattle.frame_kinds.specs.Kinds.{pairJoinKind}
 use Rattle.frames.proofs.RoundTrips.{position-length}
 use Rattle.model.specs.Changes.{pairJoin, frames}
 use Rattle.changes.proofs.Passing.{unequal-none}

@@ -6,7 +6,7 @@ use lib.Dec.{ltb}
 use lib.ListN.{length, getD, length-take, length-drop}
 use denote.Ref.{now}
 use Rattle.frames.specs.Frames.{frame}
-use Rattle.frames.specs.Kinds.{pairLeaveKind}
+use Rattle.frame_kinds.specs.Kinds.{pairLeaveKind}
 use Rattle.frames.proofs.RoundTrips.{position-length}
 use Rattle.model.specs.Changes.{pairLeave}
 use Rattle.pair_changes.specs.Pairs.{dropped}
