@@ -1,4 +1,2 @@
--- The steps of the walks over records and places in a local.
+-- The steps of the walks over records in a local.
 pub mod LocalRecords
-pub mod MadeValues
-pub mod LocalPlace

@@ -36,7 +36,7 @@ pub fn refuse_opening() {
     let mut positions = [0u32; 9];
     let mut lower_ends = [0u32; 9];
     let mut upper_ends = [0u32; 9];
-    let made = by_value::open(
+    let made = changed_by_value::open(
         7,
         9,
         0,

@@ -42,7 +42,7 @@ pub fn open(capacity: u32) -> Worked {
     let mut positions = [0u32; 8];
     let mut lower_ends = [0u32; 8];
     let mut upper_ends = [0u32; 8];
-    let made = by_value::open(
+    let made = changed_by_value::open(
         2,
         capacity,
         0,

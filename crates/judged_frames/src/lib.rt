@@ -12,7 +12,7 @@ pub fn there_and_back(n: u16) {
     let written = frame_writer::write(Message::Sized(frames::WATCH, n), [0; 6], &mut tape);
     let answer = written.answer;
     print_refusal(answer);
-    let found = by_value::read(&tape, Place { at: 0 });
+    let found = read_by_value::read(&tape, Place { at: 0 });
     let read = found.read;
     let place = found.place;
     let message = read.message;
@@ -24,7 +24,7 @@ pub fn there_and_back(n: u16) {
             }
         }
     }
-    let last = by_value::read(&tape, place);
+    let last = read_by_value::read(&tape, place);
     let end = last.read;
     let said = end.message;
     if let Message::End = said {

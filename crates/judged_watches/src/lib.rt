@@ -15,7 +15,7 @@ pub fn watch(worked: Worked, desk: Desk, n: u32) -> Worked {
     let upper_ends = worked.upper_ends;
     let records = worked.records;
     let mut out = [0u8; CHANGE_BYTES];
-    let made = by_value::watch(
+    let made = changed_by_value::watch(
         worked.head,
         desk,
         n,
@@ -49,7 +49,7 @@ pub fn end(worked: Worked, desk: Desk, n: u32) -> Worked {
     let lower_ends = worked.lower_ends;
     let upper_ends = worked.upper_ends;
     let records = worked.records;
-    let made = by_value::end(
+    let made = changed_by_value::end(
         worked.head,
         desk,
         n,

@@ -1,5 +1,5 @@
 // The call that a line of the book player asks for, made on the parts of the buffers that are lent.
-use by_value::Made;
+use changed_by_value::Made;
 use head::Answer;
 use head::Reply;
 use player_lines::Command;
@@ -50,7 +50,7 @@ pub fn call(
     let records = state.records;
     match command {
         Command::Open => {
-            let made = by_value::open(
+            let made = changed_by_value::open(
                 n[0],
                 n[1],
                 n[2],

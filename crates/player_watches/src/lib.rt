@@ -1,6 +1,6 @@
 // The calls that read the tables and are lent the records: the preview of a quote, and those that set and end watches and
 // the pair.
-use by_value::Made;
+use changed_by_value::Made;
 use head::Desk;
 use player_lines::Command;
 use player_lines::Line;
@@ -58,7 +58,7 @@ fn watch(
     let n = line.numbers;
     let head = state.head;
     let records = state.records;
-    let made = by_value::watch(
+    let made = changed_by_value::watch(
         head,
         desk,
         n[0],
@@ -85,7 +85,7 @@ fn end(
     let n = line.numbers;
     let head = state.head;
     let records = state.records;
-    let made = by_value::end(
+    let made = changed_by_value::end(
         head,
         desk,
         n[0],

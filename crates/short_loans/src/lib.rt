@@ -158,7 +158,7 @@ fn short_reads(
         out,
     );
     print_answer(effect.reply);
-    let made = by_value::watch(
+    let made = changed_by_value::watch(
         head,
         Desk::Two,
         1,

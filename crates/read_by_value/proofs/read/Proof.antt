@@ -43,17 +43,17 @@ use Rattle.frames.specs.Moved.{Moved}
 use Rattle.frames.specs.declared.Place.{Place}
 use Rattle.frames.proofs.Place as P
 use Rattle.frames.proofs.Place.Laws as P′
-use Rattle.by_value.proofs.LocalPlace.{placed, reads, read-spelled, found, found-value, is-found, to-place, lends-place, place-back}
-use Rattle.by_value.proofs.Found as Fd
-use Rattle.by_value.proofs.Found.Laws as Fd′
+use Rattle.read_by_value.proofs.LocalPlace.{placed, reads, read-spelled, found, found-value, is-found, to-place, lends-place, place-back}
+use Rattle.read_by_value.proofs.Found as Fd
+use Rattle.read_by_value.proofs.Found.Laws as Fd′
 use Rattle.frames.proofs.read_next as callee
 use Rattle.frames.proofs.read_next.Symbol as callee-def
 use Rattle.frames.proofs.read_next.Symbol.{name as #frames·read-next}
 use Rattle.frames.proofs.read_next.Met as callee-thm
-use Rattle.by_value.proofs.read.Key.{name as #by-value·read}
-use Rattle.by_value.proofs.read as f
-use Rattle.by_value.proofs.read.Statement as stated
-use Rattle.by_value.proofs.read.Code as code
+use Rattle.read_by_value.proofs.read.Key.{name as #read-by-value·read}
+use Rattle.read_by_value.proofs.read as f
+use Rattle.read_by_value.proofs.read.Statement as stated
+use Rattle.read_by_value.proofs.read.Code as code
 
 -- what is had of each parameter at the end: nothing
 abbrev stayed : Stays (f.ended .signature .params) (f.ended .kept)
@@ -156,6 +156,6 @@ pub read-spec : {M : Type 1} → stated.statement M
 unfolding code.routine tablesOf
 read-spec 𝓤 H 𝓜 𝓖 𝓡 =
     entered 𝓤 H (tripleOf 𝓤 H (𝓖 .A) f.signature (f.spec 𝓤 H (𝓖 .A) (𝓜 .mem) (𝓡 .run)))
-    (tables 𝓤 H 𝓜 𝓡 code.env .C) (tables 𝓤 H 𝓜 𝓡 code.env .Λ) #by-value·read code.function (code.unfolded 𝓤 H 𝓜 𝓡)
+    (tables 𝓤 H 𝓜 𝓡 code.env .C) (tables 𝓤 H 𝓜 𝓡 code.env .Λ) #read-by-value·read code.function (code.unfolded 𝓤 H 𝓜 𝓡)
     (read-meets 𝓤 H (𝓖 .A) (givenOf 𝓤 H 𝓜 𝓖) (𝓜 .mem) (𝓡 .run) (tablesOf 𝓤 H 𝓜 (tables 𝓤 H 𝓜 𝓡 code.env))
     (cited 𝓤 H (Callee 𝓤 H (𝓖 .A) (𝓜 .mem) (𝓡 .run)) 𝓜 𝓡 code.env #frames·read-next callee-def.routine code.calls-frames·read-next (callee-thm.met 𝓤 H 𝓜 𝓖 𝓡)))

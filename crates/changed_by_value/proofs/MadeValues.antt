@@ -12,9 +12,9 @@ use Rattle.head.specs.declared.Watch.{Watch}
 use Rattle.head.proofs.Reply as R
 use Rattle.head.proofs.Watch as T
 use Rattle.shared_records.proofs.Machines.{machines}
-use Rattle.by_value.specs.declared.Made.{Made}
-use Rattle.by_value.proofs.Made as Md
+use Rattle.changed_by_value.specs.declared.Made.{Made}
+use Rattle.changed_by_value.proofs.Made as Md
 use Rattle.by_value.proofs.LocalRecords.{recorded}
 
 abbrev pub made : Reply → List Watch → Made
 made reply records = record { reply = reply; records = records }

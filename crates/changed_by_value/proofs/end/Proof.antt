@@ -59,18 +59,18 @@ use Rattle.watches.specs.Records.{watched}
 use Rattle.watches.proofs.DeskValues.{desk-value, desk-values, is-desk}
 use Rattle.watches.proofs.Lending.{at-name}
 use Rattle.shared_records.proofs.Machines.{headed, machines, spelled}
 use Rattle.by_value.proofs.LocalRecords.{recorded, recorded-tells, lends-records, records-back}
-use Rattle.by_value.proofs.MadeValues.{made, made-value, is-made}
-use Rattle.by_value.proofs.Made as Md
-use Rattle.by_value.proofs.Made.Laws as Md′
+use Rattle.changed_by_value.proofs.MadeValues.{made, made-value, is-made}
+use Rattle.changed_by_value.proofs.Made as Md
+use Rattle.changed_by_value.proofs.Made.Laws as Md′
 use Rattle.changed_records.proofs.end as callee
 use Rattle.changed_records.proofs.end.Symbol as callee-def
 use Rattle.changed_records.proofs.end.Symbol.{name as #changed_records·end}
 use Rattle.changed_records.proofs.end.Met as callee-thm
-use Rattle.by_value.proofs.end.Key.{name as #by-value·end}
-use Rattle.by_value.proofs.end as f
-use Rattle.by_value.proofs.end.Statement as stated
-use Rattle.by_value.proofs.end.Code as code
+use Rattle.changed_by_value.proofs.end.Key.{name as #changed-by-value·end}
+use Rattle.changed_by_value.proofs.end as f
+use Rattle.changed_by_value.proofs.end.Statement as stated
+use Rattle.changed_by_value.proofs.end.Code as code
 
 -- what is had of each parameter at the end: of what is lent for good its last value, of the others nothing
 abbrev stayed : Stays (f.ended .signature .params) (f.ended .kept)
@@ -193,6 +193,6 @@ pub end-spec : {M : Type 1} → stated.statement M
 unfolding code.routine tablesOf
 end-spec 𝓤 H 𝓜 𝓖 𝓡 =
     entered 𝓤 H (tripleOf 𝓤 H (𝓖 .A) f.signature (f.spec 𝓤 H (𝓖 .A) (𝓜 .mem) (𝓡 .run)))
-    (tables 𝓤 H 𝓜 𝓡 code.env .C) (tables 𝓤 H 𝓜 𝓡 code.env .Λ) #by-value·end code.function (code.unfolded 𝓤 H 𝓜 𝓡)
+    (tables 𝓤 H 𝓜 𝓡 code.env .C) (tables 𝓤 H 𝓜 𝓡 code.env .Λ) #changed-by-value·end code.function (code.unfolded 𝓤 H 𝓜 𝓡)
     (end-meets 𝓤 H (𝓖 .A) (givenOf 𝓤 H 𝓜 𝓖) (𝓜 .mem) (𝓡 .run) (tablesOf 𝓤 H 𝓜 (tables 𝓤 H 𝓜 𝓡 code.env))
     (cited 𝓤 H (Callee 𝓤 H (𝓖 .A) (𝓜 .mem) (𝓡 .run)) 𝓜 𝓡 code.env #changed_records·end callee-def.routine code.calls-book·end (callee-thm.met 𝓤 H 𝓜 𝓖 𝓡)))

@@ -23,8 +23,8 @@ use Rattle.frames.proofs.Read.Laws as Rd′
 use Rattle.frames.specs.declared.Place.{Place}
 use Rattle.frames.proofs.Place as P
 use Rattle.frames.proofs.Place.Laws as P′
-use Rattle.by_value.specs.declared.Found.{Found}
-use Rattle.by_value.proofs.Found as Fd
+use Rattle.read_by_value.specs.declared.Found.{Found}
+use Rattle.read_by_value.proofs.Found as Fd
 
 -- the machine values of a place and of what was read
 abbrev pub placed : Place → List Val

@@ -51,18 +51,18 @@ use Rattle.model.specs.Promises.{tables as lent-tables, Opened}
 use Rattle.watches.specs.Records.{watched}
 use Rattle.watches.proofs.Lending.{at-name}
 use Rattle.shared_records.proofs.Machines.{machines, spelled}
 use Rattle.by_value.proofs.LocalRecords.{recorded, recorded-tells, lends-records, records-back}
-use Rattle.by_value.proofs.MadeValues.{made, made-value, is-made}
-use Rattle.by_value.proofs.Made as Md
-use Rattle.by_value.proofs.Made.Laws as Md′
+use Rattle.changed_by_value.proofs.MadeValues.{made, made-value, is-made}
+use Rattle.changed_by_value.proofs.Made as Md
+use Rattle.changed_by_value.proofs.Made.Laws as Md′
 use Rattle.book.proofs.open as callee
 use Rattle.book.proofs.open.Symbol as callee-def
 use Rattle.book.proofs.open.Symbol.{name as #book·open}
 use Rattle.book.proofs.open.Met as callee-thm
-use Rattle.by_value.proofs.open.Key.{name as #by-value·open}
-use Rattle.by_value.proofs.open as f
-use Rattle.by_value.proofs.open.Statement as stated
-use Rattle.by_value.proofs.open.Code as code
+use Rattle.changed_by_value.proofs.open.Key.{name as #changed-by-value·open}
+use Rattle.changed_by_value.proofs.open as f
+use Rattle.changed_by_value.proofs.open.Statement as stated
+use Rattle.changed_by_value.proofs.open.Code as code
 
 -- what is had of each parameter at the end: of what is lent for good its last value, of the others nothing
 abbrev stayed : Stays (f.ended .signature .params) (f.ended .kept)
@@ -193,6 +193,6 @@ pub open-spec : {M : Type 1} → stated.statement M
 unfolding code.routine tablesOf
 open-spec 𝓤 H 𝓜 𝓖 𝓡 =
     entered 𝓤 H (tripleOf 𝓤 H (𝓖 .A) f.signature (f.spec 𝓤 H (𝓖 .A) (𝓜 .mem) (𝓡 .run)))
-    (tables 𝓤 H 𝓜 𝓡 code.env .C) (tables 𝓤 H 𝓜 𝓡 code.env .Λ) #by-value·open code.function (code.unfolded 𝓤 H 𝓜 𝓡)
+    (tables 𝓤 H 𝓜 𝓡 code.env .C) (tables 𝓤 H 𝓜 𝓡 code.env .Λ) #changed-by-value·open code.function (code.unfolded 𝓤 H 𝓜 𝓡)
     (open-meets 𝓤 H (𝓖 .A) (givenOf 𝓤 H 𝓜 𝓖) (𝓜 .mem) (𝓡 .run) (tablesOf 𝓤 H 𝓜 (tables 𝓤 H 𝓜 𝓡 code.env))
     (cited 𝓤 H (Callee 𝓤 H (𝓖 .A) (𝓜 .mem) (𝓡 .run)) 𝓜 𝓡 code.env #book·open callee-def.routine code.calls-book·open (callee-thm.met 𝓤 H 𝓜 𝓖 𝓡)))

@@ -1,0 +1,2 @@
+-- What the calls hand back, and its machine value.
+pub mod MadeValues
