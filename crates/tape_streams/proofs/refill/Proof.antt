@@ -2,8 +2,8 @@
 use native.Mathlib.Omega.{arith}
 use lib.ListN.{length-take}
 use borrow.Author.Needs.{needs}
-use Rattle.tape_printer.proofs.refill.Statement.{statement}
-use Rattle.tape_printer.proofs.refill.Tie as tie
+use Rattle.tape_streams.proofs.refill.Statement.{statement}
+use Rattle.tape_streams.proofs.refill.Tie as tie
 
 slice-reshare-prefix-ready : tie.Need-slice-reshare-prefix-ready
 slice-reshare-prefix-ready c = search needs
