@@ -61,24 +61,9 @@ digits-fixed (suc k) j n s = go (s .reached) (λ t. digits-fixed k j (n / 10) t)
 
 -- ---- counting
 
--- the digits counted so far
-pub record Counting (n bound count : ℕ) : Type 0 where
-  pub some : 1 ≤ count
-  pub power : bound ≡ 10 ^ count
-  pub large : 1 ≤ bound
-  pub passed : (count ≡ 1) ⊎ (10 ^ (count - 1) ≤ n)
-
-pub start : (n : ℕ) → Counting n 10 1
-start n = record { some = omega arith; power = refl; large = omega arith; passed = inl refl }
-
-pub more : (n bound count : ℕ) → bound ≤ n → Counting n bound count → Counting n (bound * 10) (count + 1)
-more n bound count h c =
-    let e : count + 1 - 1 ≡ count = omega arith in
-    record { some = omega arith; power = rw (add-one, pow-suc, c .power); large = omega arith; passed = inr (rw (e, ← c .power) h) }
-
 -- a number below 2^32 has at most ten digits
-pub few : (n bound count : ℕ) → n < 2 ^ 32 → Counting n bound count → count ≤ 10
-few n bound count h c = go (decLe count 10) (c .passed)
+few : (n count : ℕ) → n < 2 ^ 32 → (count ≡ 1) ⊎ (10 ^ (count - 1) ≤ n) → count ≤ 10
+few n count h = go (decLe count 10)
   where
     go : Dec (count ≤ 10) → (count ≡ 1) ⊎ (10 ^ (count - 1) ≤ n) → count ≤ 10
     go (yes k) p = k
@@ -88,24 +73,23 @@ few n bound count h c = go (decLe count 10) (c .passed)
         let u : 10 ^ 10 * 10 ^ (count - 11) ≤ n = rw (e, pow-add) at p in
         absurd (omega (arith, positive (count - 11)))
 
-sized : (n bound count : ℕ) → n < bound → Counting n bound count → Sized (count - 1) n
-sized n bound count h c =
-    let e : suc (count - 1) ≡ count = omega arith in
-    record { below = rw (e, ← c .power) h; reached = go (c .passed) }
+sized : (n count : ℕ) → 1 ≤ count → n < 10 ^ count → (count ≡ 1) ⊎ (10 ^ (count - 1) ≤ n) → Sized (count - 1) n
+sized n count k h p = let e : suc (count - 1) ≡ count = omega arith in record { below = rw e h; reached = go p }
   where
     go : (count ≡ 1) ⊎ (10 ^ (count - 1) ≤ n) → (count - 1 ≡ 0) ⊎ (10 ^ (count - 1) ≤ n)
     go (inl z) = inl (omega arith)
-    go (inr p) = inr p
+    go (inr q) = inr q
 
-pub finish : (n bound count : ℕ) → n < 2 ^ 32 → n < bound → Counting n bound count → count ≡ length (digits n)
+-- a number between two powers of ten has so many digits
+pub counted : (n count : ℕ) → n < 2 ^ 32 → 1 ≤ count → n < 10 ^ count → (count ≡ 1) ⊎ (10 ^ (count - 1) ≤ n) → count ≡ length (digits n)
 unfolding digits
-finish n bound count w h c =
-    let f = few n bound count w c in
+counted n count w k h p =
+    let f = few n count w p in
     let e : suc (count - 1) ≡ count = omega arith in
     let t : 10 ≡ suc (count - 1) + (10 - count) = omega arith in
     sym (
     ap (λ (k : ℕ). length (digitsUpTo k n)) t
-    ∙ ap length (digits-fixed (count - 1) (10 - count) n (sized n bound count h c))
+    ∙ ap length (digits-fixed (count - 1) (10 - count) n (sized n count k h p))
     ∙ length-fixed (suc (count - 1)) n
     ∙ e
     )

@@ -8,13 +8,34 @@ ghost use Rattle.text.specs.Text.{digits, field, line, line2, Laid};
 fn digit_count(n: u32) -> usize
     ensures { λ r. ⌜ r ≡ length (digits n) ⌝ }
 {
-    let mut bound: u64 = 10;
-    let mut count = 1;
-    while bound <= n as u64 {
-        bound = bound * 10;
-        count += 1;
+    if n < 10 {
+        return 1;
     }
-    count
+    if n < 100 {
+        return 2;
+    }
+    if n < 1000 {
+        return 3;
+    }
+    if n < 10000 {
+        return 4;
+    }
+    if n < 100000 {
+        return 5;
+    }
+    if n < 1000000 {
+        return 6;
+    }
+    if n < 10000000 {
+        return 7;
+    }
+    if n < 100000000 {
+        return 8;
+    }
+    if n < 1000000000 {
+        return 9;
+    }
+    10
 }
 
 // Lays a number in decimal at the start of the text, and returns how many bytes.

@@ -1,35 +1,42 @@
--- `digit_count` meets its contract: it counts the powers of ten up to the number.
-use Prim.Native.Nat.{_+_, _-_}
+-- `digit_count` meets its contract: the tests find the first power of ten above the number.
+use mathlib.Core.Path.{refl}
+use mathlib.Core.Logic.{inl, inr}
 use native.Mathlib.Omega.{arith}
-use Rattle.text.proofs.Digits.{Counting, start, more, few, finish}
+use Rattle.text.proofs.Digits.{counted}
 use Rattle.text.proofs.digit_count.Statement.{statement}
 use Rattle.text.proofs.digit_count.Tie as tie
 
-abbrev Inv-loop : tie.InvT-loop
-Inv-loop n bound₀ count₀ bound count = Counting n bound count
+returns : tie.Need-returns
+returns c = counted _ 1 (c .before .fits .n .fits) (omega arith) (c .if1 .taken) (inl refl)
 
-abbrev μ-loop : tie.MeasureT-loop
-μ-loop n bound₀ count₀ bound count = n + 1 - bound
+returns-2 : tie.Need-returns-2
+returns-2 c = counted _ 2 (c .before .before .fits .n .fits) (omega arith) (c .if2 .taken) (inr (c .before .if1 .left))
 
-loop-holds : tie.Need-loop-holds Inv-loop μ-loop
-loop-holds c = start _
+returns-3 : tie.Need-returns-3
+returns-3 c = counted _ 3 (c .before .before .before .fits .n .fits) (omega arith) (c .if3 .taken) (inr (c .before .if2 .left))
 
-mul-bound : tie.Need-mul-bound Inv-loop μ-loop
-mul-bound c = omega arith
+returns-4 : tie.Need-returns-4
+returns-4 c = counted _ 4 (c .before .before .before .before .fits .n .fits) (omega arith) (c .if4 .taken) (inr (c .before .if3 .left))
 
-add-count : tie.Need-add-count Inv-loop μ-loop
-add-count c = omega (arith, few _ _ _ (c .before .before .fits .n .fits) (c .before .loop .inv))
+returns-5 : tie.Need-returns-5
+returns-5 c = counted _ 5 (c .before .before .before .before .before .fits .n .fits) (omega arith) (c .if5 .taken) (inr (c .before .if4 .left))
 
-loop-less : tie.Need-loop-less Inv-loop μ-loop
-loop-less c = omega arith
+returns-6 : tie.Need-returns-6
+returns-6 c = counted _ 6 (c .before .before .before .before .before .before .fits .n .fits) (omega arith) (c .if6 .taken) (inr (c .before .if5 .left))
 
-loop-again : tie.Need-loop-again Inv-loop μ-loop
-loop-again c = more _ _ _ (c .loop-test .taken) (c .before .loop .inv)
+returns-7 : tie.Need-returns-7
+returns-7 c = counted _ 7 (c .before .before .before .before .before .before .before .fits .n .fits) (omega arith) (c .if7 .taken) (inr (c .before .if6 .left))
 
-returns : tie.Need-returns Inv-loop μ-loop
-returns c = finish _ _ _ (c .before .before .fits .n .fits) (c .loop-test .left) (c .before .loop .inv)
+returns-8 : tie.Need-returns-8
+returns-8 c = counted _ 8 (c .before .before .before .before .before .before .before .before .fits .n .fits) (omega arith) (c .if8 .taken) (inr (c .before .if7 .left))
+
+returns-9 : tie.Need-returns-9
+returns-9 c = counted _ 9 (c .before .before .before .before .before .before .before .before .before .fits .n .fits) (omega arith) (c .if9 .taken) (inr (c .before .if8 .left))
+
+returns-10 : tie.Need-returns-10
+returns-10 c = counted _ 10 (c .before .before .before .before .before .before .before .before .before .fits .n .fits) (omega arith) (omega (arith, c .before .before .before .before .before .before .before .before .before .fits .n .fits)) (inr (c .if9 .left))
 
 pub digit-count-spec : {M : Type 1} → statement M
 digit-count-spec =
     tie.close
-    (tie.spec Inv-loop μ-loop loop-holds mul-bound add-count loop-less loop-again returns)
+    (tie.spec returns returns-2 returns-3 returns-4 returns-5 returns-6 returns-7 returns-8 returns-9 returns-10)
