@@ -1,8 +1,8 @@
 #!/usr/bin/env python3
-"""Prints crates.txt in an order in which two crates can be proved at a time with the least waiting: the prover starts crates in the order of
-the file. Seconds come from a log of rt; of the crates that can start, that one starts first behind which the longest chain stands.
+"""Prints crates.txt in the order in which its crates are proved fastest. The prover goes by levels: a crate's level is one above the highest
+that it stands on; those of a level are proved two at a time, in the order of the file, and the next two wait for both. So a level's
+dearest crates stand first. Seconds come from a log of rt.
 usage, from the root: tools/order.py build/ci.txt > new && mv new crates.txt"""
-import heapq
 import re
 import sys
 
@@ -11,7 +11,7 @@ UNKNOWN = 10  # seconds of a crate that the log does not name
 
 
 def read_crates():
-    """The comments in front, and each crate with the crates of this file that it stands on and its line."""
+    """The comments in front, and for each crate its line and the crates of this file that it stands on."""
     comments, lines = [], {}
     for line in open("crates.txt"):
         if line.startswith("#"):
@@ -28,36 +28,29 @@ def read_seconds(log):
     return {name: int(seconds) for name, seconds in found}
 
 
-def chains(stands, seconds):
-    """For each crate the seconds of the longest chain of checks from its own on."""
-    users = {name: [user for user in stands if name in stands[user]] for name in stands}
+def levels_of(stands):
+    """The level of each crate."""
     known = {}
 
-    def chain(name):
+    def level(name):
         if name not in known:
-            known[name] = seconds.get(name, UNKNOWN) + max(map(chain, users[name]), default=0)
+            known[name] = 1 + max(map(level, stands[name]), default=-1)
         return known[name]
 
-    return {name: chain(name) for name in stands}
+    return {name: level(name) for name in stands}
 
 
-def starts(stands, seconds):
-    """The crates in the order in which they start."""
-    chain = chains(stands, seconds)
-    order, running, proved, now = [], [], set(), 0
-    while len(order) < len(stands) or running:
-        ready = [name for name in stands if name not in order and proved.issuperset(stands[name])]
-        if ready and len(running) < JOBS:
-            name = max(ready, key=chain.get)
-            order.append(name)
-            heapq.heappush(running, (now + seconds.get(name, UNKNOWN), name))
-        else:
-            now, name = heapq.heappop(running)
-            proved.add(name)
-    return order, now
+def total(order, levels, seconds):
+    """The seconds that the prover takes for crates in this order."""
+    spent = 0
+    for level in sorted(set(levels.values())):
+        crates = [seconds.get(name, UNKNOWN) for name in order if levels[name] == level]
+        spent += sum(max(crates[i : i + JOBS]) for i in range(0, len(crates), JOBS))
+    return spent
 
 
 comments, lines, stands = read_crates()
-order, total = starts(stands, read_seconds(sys.argv[1]))
+levels, seconds = levels_of(stands), read_seconds(sys.argv[1])
+order = sorted(stands, key=lambda name: (levels[name], -seconds.get(name, UNKNOWN)))
 sys.stdout.writelines(comments + [lines[name] for name in order])
-print(f"{len(order)} crates, {total} seconds", file=sys.stderr)
+print(f"{total(lines, levels, seconds)} seconds before, {total(order, levels, seconds)} after", file=sys.stderr)

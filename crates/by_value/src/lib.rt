@@ -73,7 +73,7 @@ pub fn find_record(records: [Watch; 8], desk: Desk, n: u32) -> bool
     ensures { λ r. ⌜ r ≡ contains (watchOf desk n) (standing (watched records)) ⌝ }
 {
     let held = records;
-    book::find_record(&held, desk, n)
+    watches::find_record(&held, desk, n)
 }
 
 // Sets the watch of a pair.
