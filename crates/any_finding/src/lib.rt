@@ -23,9 +23,14 @@ fn go_through(
     found: Found,
 ) -> Found
     requires { ⌜ Fits (rows d directions (now columns) (now uppers) (now quote)) (suc place) ⌝ }
-    requires { ⌜ Room (rows d directions (now columns) (now uppers) (now quote)) (suc place) (now places) (found .at) ⌝ }
-    ensures { λ r. ⌜ Room (rows d directions (now (columns .entry)) (now (uppers .entry)) (now (quote .entry))) place (now (places .exit)) (r .at) ⌝ }
-    ensures { λ r. ⌜ ((b : ℕ) → place < b → Finds (rows d directions (now (columns .entry)) (now (uppers .entry)) (now (quote .entry))) (suc place) b (now (places .entry)) found → Finds (rows d directions (now (columns .entry)) (now (uppers .entry)) (now (quote .entry))) place b (now (places .exit)) r) ⌝ }
+    requires { ⌜ Room (rows d directions (now columns) (now uppers) (now quote)) (suc place) (now places)
+        (found .at) ⌝ }
+    ensures { λ r. ⌜ Room (rows d directions (now (columns .entry)) (now (uppers .entry)) (now (quote .entry))) place
+        (now (places .exit)) (r .at) ⌝ }
+    ensures { λ r. ⌜ ((b : ℕ) → place < b → Finds
+        (rows d directions (now (columns .entry)) (now (uppers .entry)) (now (quote .entry))) (suc place) b
+        (now (places .entry)) found → Finds (rows d directions (now (columns .entry)) (now (uppers .entry))
+        (now (quote .entry))) place b (now (places .exit)) r) ⌝ }
 {
     let live = uppers[place] == 0;
     if !live & (0 < found.last) {
@@ -54,8 +59,12 @@ fn go_down(
     requires { ⌜ from ≤ to ⌝ }
     requires { ⌜ Fits (rows d directions (now columns) (now uppers) (now quote)) to ⌝ }
     requires { ⌜ Room (rows d directions (now columns) (now uppers) (now quote)) to (now places) (found .at) ⌝ }
-    ensures { λ r. ⌜ Room (rows d directions (now (columns .entry)) (now (uppers .entry)) (now (quote .entry))) from (now (places .exit)) (r .at) ⌝ }
-    ensures { λ r. ⌜ ((b : ℕ) → to ≤ b → Finds (rows d directions (now (columns .entry)) (now (uppers .entry)) (now (quote .entry))) to b (now (places .entry)) found → Finds (rows d directions (now (columns .entry)) (now (uppers .entry)) (now (quote .entry))) from b (now (places .exit)) r) ⌝ }
+    ensures { λ r. ⌜ Room (rows d directions (now (columns .entry)) (now (uppers .entry)) (now (quote .entry))) from
+        (now (places .exit)) (r .at) ⌝ }
+    ensures { λ r. ⌜ ((b : ℕ) → to ≤ b → Finds
+        (rows d directions (now (columns .entry)) (now (uppers .entry)) (now (quote .entry))) to b (now (places .entry))
+        found → Finds (rows d directions (now (columns .entry)) (now (uppers .entry)) (now (quote .entry))) from b
+        (now (places .exit)) r) ⌝ }
 {
     let mut i = to;
     let mut so_far = found;
@@ -83,8 +92,12 @@ fn go_down_block(
     requires { ⌜ (from ≤ to) × (to ≤ from + 64) ⌝ }
     requires { ⌜ Fits (rows d directions (now columns) (now uppers) (now quote)) to ⌝ }
     requires { ⌜ Room (rows d directions (now columns) (now uppers) (now quote)) to (now places) (found .at) ⌝ }
-    ensures { λ r. ⌜ Room (rows d directions (now (columns .entry)) (now (uppers .entry)) (now (quote .entry))) from (now (places .exit)) (r .at) ⌝ }
-    ensures { λ r. ⌜ ((b : ℕ) → to ≤ b → Finds (rows d directions (now (columns .entry)) (now (uppers .entry)) (now (quote .entry))) to b (now (places .entry)) found → Finds (rows d directions (now (columns .entry)) (now (uppers .entry)) (now (quote .entry))) from b (now (places .exit)) r) ⌝ }
+    ensures { λ r. ⌜ Room (rows d directions (now (columns .entry)) (now (uppers .entry)) (now (quote .entry))) from
+        (now (places .exit)) (r .at) ⌝ }
+    ensures { λ r. ⌜ ((b : ℕ) → to ≤ b → Finds
+        (rows d directions (now (columns .entry)) (now (uppers .entry)) (now (quote .entry))) to b (now (places .entry))
+        found → Finds (rows d directions (now (columns .entry)) (now (uppers .entry)) (now (quote .entry))) from b
+        (now (places .exit)) r) ⌝ }
 {
     let live = taken_live(dense, uppers, to);
     if (live == 0) & (0 < found.last) {
@@ -124,7 +137,8 @@ pub fn find_any(
     requires { ⌜ from ≤ to ⌝ }
     requires { ⌜ Fits (rows d directions (now columns) (now uppers) (now quote)) to ⌝ }
     requires { ⌜ to ≤ length (now places) ⌝ }
-    ensures { λ r. ⌜ Finds (rows d directions (now (columns .entry)) (now (uppers .entry)) (now (quote .entry))) from to (now (places .exit)) r ⌝ }
+    ensures { λ r. ⌜ Finds (rows d directions (now (columns .entry)) (now (uppers .entry)) (now (quote .entry))) from to
+        (now (places .exit)) r ⌝ }
 {
     let mut i = to;
     let mut so_far = Found {

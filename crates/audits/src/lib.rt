@@ -91,7 +91,8 @@ fn upper_end(
     requires { ⌜ i < count ⌝ }
     requires { ⌜ count * d ≤ length (now columns) ⌝ }
     requires { ⌜ count ≤ length (now positions) ⌝ }
-    ensures { λ r. ⌜ r ≡ upperFound d directions (tables (now (columns .entry)) (now (positions .entry)) [] []) count i ⌝ }
+    ensures { λ r. ⌜ r ≡ upperFound d directions (tables (now (columns .entry)) (now (positions .entry)) [] []) count
+        i ⌝ }
 {
     let mut j = i + 1;
     while j < count {
@@ -117,7 +118,9 @@ fn right_ends(
     requires { ⌜ count ≤ length (now positions) ⌝ }
     requires { ⌜ count ≤ length (now «lower_ends») ⌝ }
     requires { ⌜ count ≤ length (now «upper_ends») ⌝ }
-    ensures { λ r. ⌜ r ≡ not (any (wrongAt d directions (tables (now (columns .entry)) (now (positions .entry)) (now («lower_ends» .entry)) (now («upper_ends» .entry))) count) (run 0 count)) ⌝ }
+    ensures { λ r. ⌜ r ≡ not (any (wrongAt d directions
+        (tables (now (columns .entry)) (now (positions .entry)) (now («lower_ends» .entry)) (now («upper_ends» .entry)))
+        count) (run 0 count)) ⌝ }
 {
     let mut wrong = false;
     let mut i = 0;
@@ -145,7 +148,8 @@ fn meets_rules(
     requires { ⌜ head .capacity ≤ length (now positions) ⌝ }
     requires { ⌜ head .capacity ≤ length (now «lower_ends») ⌝ }
     requires { ⌜ head .capacity ≤ length (now «upper_ends») ⌝ }
-    ensures { λ r. ⌜ r ≡ passes head (tables (now (columns .entry)) (now (positions .entry)) (now («lower_ends» .entry)) (now («upper_ends» .entry))) ⌝ }
+    ensures { λ r. ⌜ r ≡ passes head (tables (now (columns .entry)) (now (positions .entry)) (now («lower_ends» .entry))
+        (now («upper_ends» .entry))) ⌝ }
 {
     if torn_rows(head, positions, lower_ends, upper_ends) {
         return false;
@@ -177,7 +181,9 @@ pub fn audit(
     lower_ends: &[u32],
     upper_ends: &[u32],
 ) -> Verdict
-    ensures { λ r. ⌜ finding r ≡ auditFinding head (tables (now (columns .entry)) (now (positions .entry)) (now («lower_ends» .entry)) (now («upper_ends» .entry))) ⌝ }
+    ensures { λ r. ⌜ finding r ≡ auditFinding head
+        (tables (now (columns .entry)) (now (positions .entry)) (now («lower_ends» .entry))
+        (now («upper_ends» .entry))) ⌝ }
 {
     if !head.settings_hold() {
         return Verdict::Refused(Refusal::Settings);

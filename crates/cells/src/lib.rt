@@ -32,7 +32,8 @@ pub fn clear(cells: &mut [u32], from: usize, to: usize)
 // Puts a row at a place.
 pub fn put(cells: &mut [u32], at: usize, row: &[u32])
     requires { ⌜ at + length (now row) ≤ length (now cells) ⌝ }
-    ensures { λ _. ⌜ now (cells .exit) ≡ paste (now (cells .entry)) at (now (row .entry)) (length (now (row .entry))) ⌝ }
+    ensures { λ _. ⌜ now (cells .exit) ≡ paste (now (cells .entry)) at (now (row .entry))
+        (length (now (row .entry))) ⌝ }
 {
     let mut j = 0;
     while j < row.len() {
@@ -86,7 +87,8 @@ pub fn enter(cells: &mut [u32], by: usize, count: usize, row: &[u32], places: us
     requires { ⌜ count ≤ places ⌝ }
     requires { ⌜ count - by + length (now row) ≤ places ⌝ }
     requires { ⌜ places ≤ length (now cells) ⌝ }
-    ensures { λ _. ⌜ now (cells .exit) ≡ padded places (take (count - by) (drop by (now (cells .entry))) ++ now (row .entry)) (now (cells .entry)) ⌝ }
+    ensures { λ _. ⌜ now (cells .exit) ≡ padded places
+        (take (count - by) (drop by (now (cells .entry))) ++ now (row .entry)) (now (cells .entry)) ⌝ }
 {
     shift(cells, by, count);
     let at = count - by;
@@ -97,7 +99,8 @@ pub fn enter(cells: &mut [u32], by: usize, count: usize, row: &[u32], places: us
 // Zeros those of the first count cells that name the expired position gone; none does where nothing expired.
 pub fn rename(cells: &mut [u32], gone: u32, count: usize)
     requires { ⌜ count ≤ length (now cells) ⌝ }
-    ensures { λ _. ⌜ now (cells .exit) ≡ map (renamed gone) (take count (now (cells .entry))) ++ drop count (now (cells .entry)) ⌝ }
+    ensures { λ _. ⌜ now (cells .exit) ≡ map (renamed gone) (take count (now (cells .entry))) ++ drop count
+        (now (cells .entry)) ⌝ }
 {
     if gone == 0 {
         return;

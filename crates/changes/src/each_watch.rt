@@ -46,12 +46,21 @@ fn write_watch(
     requires { ⌜ head .capacity < 65536 ⌝ }
     requires { ⌜ Sized (head .capacity) watch ⌝ }
     requires { ⌜ first ≡ windowStart (head .newest) (head .capacity) ⌝ }
-    requires { ⌜ Full head (now «lower_ends») (rows (head .dimensions) (head .directions) (now columns) (now «upper_ends») (now quote)) ⌝ }
-    requires { ⌜ Outdone head (now «lower_ends») (rows (head .dimensions) (head .directions) (now columns) (now «upper_ends») (now quote)) (now retired) ⌝ }
-    requires { ⌜ (sound ≡ true → LiveNamed (heldIn head (now «lower_ends») (rows (head .dimensions) (head .directions) (now columns) (now «upper_ends») (now quote)))) ⌝ }
-    requires { ⌜ length (watchFrames head (now «lower_ends») (rows (head .dimensions) (head .directions) (now columns) (now «upper_ends») (now quote)) lower watch) ≤ length (now out) ⌝ }
-    ensures { λ r. ⌜ r ≡ length (watchFrames head (now («lower_ends» .entry)) (rows (head .dimensions) (head .directions) (now (columns .entry)) (now («upper_ends» .entry)) (now (quote .entry))) lower watch) ⌝ }
-    ensures { λ r. ⌜ now (out .exit) ≡ laid (watchFrames head (now («lower_ends» .entry)) (rows (head .dimensions) (head .directions) (now (columns .entry)) (now («upper_ends» .entry)) (now (quote .entry))) lower watch) (now (out .entry)) ⌝ }
+    requires { ⌜ Full head (now «lower_ends») (rows (head .dimensions) (head .directions) (now columns)
+        (now «upper_ends») (now quote)) ⌝ }
+    requires { ⌜ Outdone head (now «lower_ends»)
+        (rows (head .dimensions) (head .directions) (now columns) (now «upper_ends») (now quote)) (now retired) ⌝ }
+    requires { ⌜ (sound ≡ true → LiveNamed (heldIn head (now «lower_ends»)
+        (rows (head .dimensions) (head .directions) (now columns) (now «upper_ends») (now quote)))) ⌝ }
+    requires { ⌜ length (watchFrames head (now «lower_ends»)
+        (rows (head .dimensions) (head .directions) (now columns) (now «upper_ends») (now quote)) lower watch) ≤ length
+        (now out) ⌝ }
+    ensures { λ r. ⌜ r ≡ length (watchFrames head (now («lower_ends» .entry))
+        (rows (head .dimensions) (head .directions) (now (columns .entry)) (now («upper_ends» .entry))
+        (now (quote .entry))) lower watch) ⌝ }
+    ensures { λ r. ⌜ now (out .exit) ≡ laid (watchFrames head (now («lower_ends» .entry))
+        (rows (head .dimensions) (head .directions) (now (columns .entry)) (now («upper_ends» .entry))
+        (now (quote .entry))) lower watch) (now (out .entry)) ⌝ }
 {
     if watch == 0 {
         return 0;
@@ -92,12 +101,21 @@ pub fn write_all_changes(
 ) -> usize
     requires { ⌜ head .capacity < 65536 ⌝ }
     requires { ⌜ tornWatches (head .capacity) watches ≡ false ⌝ }
-    requires { ⌜ Full head (now «lower_ends») (rows (head .dimensions) (head .directions) (now columns) (now «upper_ends») (now quote)) ⌝ }
-    requires { ⌜ Outdone head (now «lower_ends») (rows (head .dimensions) (head .directions) (now columns) (now «upper_ends») (now quote)) (now retired) ⌝ }
-    requires { ⌜ (sound ≡ true → LiveNamed (heldIn head (now «lower_ends») (rows (head .dimensions) (head .directions) (now columns) (now «upper_ends») (now quote)))) ⌝ }
-    requires { ⌜ length (allFrames head (now «lower_ends») (rows (head .dimensions) (head .directions) (now columns) (now «upper_ends») (now quote)) lower watches) ≤ length (now out) ⌝ }
-    ensures { λ r. ⌜ r ≡ length (allFrames head (now («lower_ends» .entry)) (rows (head .dimensions) (head .directions) (now (columns .entry)) (now («upper_ends» .entry)) (now (quote .entry))) lower watches) ⌝ }
-    ensures { λ r. ⌜ now (out .exit) ≡ laid (allFrames head (now («lower_ends» .entry)) (rows (head .dimensions) (head .directions) (now (columns .entry)) (now («upper_ends» .entry)) (now (quote .entry))) lower watches) (now (out .entry)) ⌝ }
+    requires { ⌜ Full head (now «lower_ends») (rows (head .dimensions) (head .directions) (now columns)
+        (now «upper_ends») (now quote)) ⌝ }
+    requires { ⌜ Outdone head (now «lower_ends»)
+        (rows (head .dimensions) (head .directions) (now columns) (now «upper_ends») (now quote)) (now retired) ⌝ }
+    requires { ⌜ (sound ≡ true → LiveNamed (heldIn head (now «lower_ends»)
+        (rows (head .dimensions) (head .directions) (now columns) (now «upper_ends») (now quote)))) ⌝ }
+    requires { ⌜ length (allFrames head (now «lower_ends»)
+        (rows (head .dimensions) (head .directions) (now columns) (now «upper_ends») (now quote)) lower watches)
+        ≤ length (now out) ⌝ }
+    ensures { λ r. ⌜ r ≡ length (allFrames head (now («lower_ends» .entry))
+        (rows (head .dimensions) (head .directions) (now (columns .entry)) (now («upper_ends» .entry))
+        (now (quote .entry))) lower watches) ⌝ }
+    ensures { λ r. ⌜ now (out .exit) ≡ laid (allFrames head (now («lower_ends» .entry))
+        (rows (head .dimensions) (head .directions) (now (columns .entry)) (now («upper_ends» .entry))
+        (now (quote .entry))) lower watches) (now (out .entry)) ⌝ }
 {
     let first = start_of(head, head.capacity);
     let mut at: usize = 0;

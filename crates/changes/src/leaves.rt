@@ -26,9 +26,13 @@ fn write_fallen(
 ) -> usize
     requires { ⌜ (shift .before < shift .after → place < length (now «lower_ends»)) ⌝ }
     requires { ⌜ (shift .before < shift .after → place < length (now «upper_ends»)) ⌝ }
-    requires { ⌜ length (frames (map (Change kind n) (fallen place (now «lower_ends») (now «upper_ends») shift))) ≤ length (now out) ⌝ }
-    ensures { λ r. ⌜ r ≡ length (frames (map (Change kind n) (fallen place (now («lower_ends» .entry)) (now («upper_ends» .entry)) shift))) ⌝ }
-    ensures { λ r. ⌜ now (out .exit) ≡ laid (frames (map (Change kind n) (fallen place (now («lower_ends» .entry)) (now («upper_ends» .entry)) shift))) (now (out .entry)) ⌝ }
+    requires { ⌜ length (frames (map (Change kind n) (fallen place (now «lower_ends») (now «upper_ends») shift)))
+        ≤ length (now out) ⌝ }
+    ensures { λ r. ⌜ r ≡ length (frames (map (Change kind n)
+        (fallen place (now («lower_ends» .entry)) (now («upper_ends» .entry)) shift))) ⌝ }
+    ensures { λ r. ⌜ now (out .exit) ≡ laid (frames
+        (map (Change kind n) (fallen place (now («lower_ends» .entry)) (now («upper_ends» .entry)) shift)))
+        (now (out .entry)) ⌝ }
 {
     if shift.after <= shift.before {
         return 0;
@@ -53,9 +57,13 @@ fn write_dropped(
 ) -> usize
     requires { ⌜ first ≤ lastPosition ⌝ }
     requires { ⌜ Below (now retired) (length (now «lower_ends»)) ⌝ }
-    requires { ⌜ length (frames (map (Change kind n) (dropped first (now «lower_ends») shift (now retired)))) ≤ length (now out) ⌝ }
-    ensures { λ r. ⌜ r ≡ length (frames (map (Change kind n) (dropped first (now («lower_ends» .entry)) shift (now (retired .entry))))) ⌝ }
-    ensures { λ r. ⌜ now (out .exit) ≡ laid (frames (map (Change kind n) (dropped first (now («lower_ends» .entry)) shift (now (retired .entry))))) (now (out .entry)) ⌝ }
+    requires { ⌜ length (frames (map (Change kind n) (dropped first (now «lower_ends») shift (now retired)))) ≤ length
+        (now out) ⌝ }
+    ensures { λ r. ⌜ r ≡ length (frames (map (Change kind n)
+        (dropped first (now («lower_ends» .entry)) shift (now (retired .entry))))) ⌝ }
+    ensures { λ r. ⌜ now (out .exit) ≡ laid (frames
+        (map (Change kind n) (dropped first (now («lower_ends» .entry)) shift (now (retired .entry)))))
+        (now (out .entry)) ⌝ }
 {
     let mut at: usize = 0;
     let mut k = 0;
@@ -88,9 +96,15 @@ pub fn write_leaves(
     requires { ⌜ (shift .before < shift .after → place < length (now «upper_ends»)) ⌝ }
     requires { ⌜ first ≤ lastPosition ⌝ }
     requires { ⌜ Below (now retired) (length (now «lower_ends»)) ⌝ }
-    requires { ⌜ length (frames (map (Change kind n) (fallen place (now «lower_ends») (now «upper_ends») shift ++ dropped first (now «lower_ends») shift (now retired)))) ≤ length (now out) ⌝ }
-    ensures { λ r. ⌜ r ≡ length (frames (map (Change kind n) (fallen place (now («lower_ends» .entry)) (now («upper_ends» .entry)) shift ++ dropped first (now («lower_ends» .entry)) shift (now (retired .entry))))) ⌝ }
-    ensures { λ r. ⌜ now (out .exit) ≡ laid (frames (map (Change kind n) (fallen place (now («lower_ends» .entry)) (now («upper_ends» .entry)) shift ++ dropped first (now («lower_ends» .entry)) shift (now (retired .entry))))) (now (out .entry)) ⌝ }
+    requires { ⌜ length (frames (map (Change kind n)
+        (fallen place (now «lower_ends») (now «upper_ends») shift ++ dropped first (now «lower_ends») shift
+        (now retired)))) ≤ length (now out) ⌝ }
+    ensures { λ r. ⌜ r ≡ length (frames (map (Change kind n)
+        (fallen place (now («lower_ends» .entry)) (now («upper_ends» .entry)) shift ++ dropped first
+        (now («lower_ends» .entry)) shift (now (retired .entry))))) ⌝ }
+    ensures { λ r. ⌜ now (out .exit) ≡ laid (frames
+        (map (Change kind n) (fallen place (now («lower_ends» .entry)) (now («upper_ends» .entry)) shift ++ dropped
+        first (now («lower_ends» .entry)) shift (now (retired .entry))))) (now (out .entry)) ⌝ }
 {
     let at = write_fallen(kind, n, lower_ends, upper_ends, place, shift, out);
     let used = write_dropped(kind, n, retired, lower_ends, first, shift, &mut out[at..]);

@@ -27,7 +27,8 @@ fn stands(
     place: usize,
 ) -> bool
     requires { ⌜ Fits (rows d directions (now columns) (now «upper_ends») (now quote)) (suc place) ⌝ }
-    ensures { λ r. ⌜ r ≡ stands (rows d directions (now (columns .entry)) (now («upper_ends» .entry)) (now (quote .entry))) place ⌝ }
+    ensures { λ r. ⌜ r ≡ stands (rows d directions (now (columns .entry)) (now («upper_ends» .entry))
+        (now (quote .entry))) place ⌝ }
 {
     if upper_ends[place] != 0 {
         return false;
@@ -64,12 +65,23 @@ fn write_row_joins(
     sound: bool,
     out: &mut [u8],
 ) -> usize
-    requires { ⌜ Ready (held first (head .held) (now «lower_ends») (rows (head .dimensions) (head .directions) (now columns) (now «upper_ends») (now quote))) shift ⌝ }
+    requires { ⌜ Ready (held first (head .held) (now «lower_ends»)
+        (rows (head .dimensions) (head .directions) (now columns) (now «upper_ends») (now quote))) shift ⌝ }
     requires { ⌜ place ≡ shift .before - first ⌝ }
-    requires { ⌜ (sound ≡ true → LiveNamed (held first (head .held) (now «lower_ends») (rows (head .dimensions) (head .directions) (now columns) (now «upper_ends») (now quote)))) ⌝ }
-    requires { ⌜ length (frames (map (Change kind n) (moving (held first (head .held) (now «lower_ends») (rows (head .dimensions) (head .directions) (now columns) (now «upper_ends») (now quote))) shift true))) ≤ length (now out) ⌝ }
-    ensures { λ r. ⌜ r ≡ length (frames (map (Change kind n) (moving (held first (head .held) (now («lower_ends» .entry)) (rows (head .dimensions) (head .directions) (now (columns .entry)) (now («upper_ends» .entry)) (now (quote .entry)))) shift true))) ⌝ }
-    ensures { λ r. ⌜ now (out .exit) ≡ laid (frames (map (Change kind n) (moving (held first (head .held) (now («lower_ends» .entry)) (rows (head .dimensions) (head .directions) (now (columns .entry)) (now («upper_ends» .entry)) (now (quote .entry)))) shift true))) (now (out .entry)) ⌝ }
+    requires { ⌜ (sound ≡ true → LiveNamed (held first (head .held) (now «lower_ends»)
+        (rows (head .dimensions) (head .directions) (now columns) (now «upper_ends») (now quote)))) ⌝ }
+    requires { ⌜ length (frames (map (Change kind n)
+        (moving (held first (head .held) (now «lower_ends»)
+        (rows (head .dimensions) (head .directions) (now columns) (now «upper_ends») (now quote))) shift true)))
+        ≤ length (now out) ⌝ }
+    ensures { λ r. ⌜ r ≡ length (frames (map (Change kind n)
+        (moving (held first (head .held) (now («lower_ends» .entry))
+        (rows (head .dimensions) (head .directions) (now (columns .entry)) (now («upper_ends» .entry))
+        (now (quote .entry)))) shift true))) ⌝ }
+    ensures { λ r. ⌜ now (out .exit) ≡ laid (frames
+        (map (Change kind n) (moving (held first (head .held) (now («lower_ends» .entry))
+        (rows (head .dimensions) (head .directions) (now (columns .entry)) (now («upper_ends» .entry))
+        (now (quote .entry)))) shift true))) (now (out .entry)) ⌝ }
 {
     if !may_gain(upper_ends, place, shift, sound) {
         return 0;
@@ -107,12 +119,24 @@ pub fn write_changes(
     sound: bool,
     out: &mut [u8],
 ) -> usize
-    requires { ⌜ Ready (held first (head .held) (now «lower_ends») (rows (head .dimensions) (head .directions) (now columns) (now «upper_ends») (now quote))) shift ⌝ }
-    requires { ⌜ Retired (held first (head .held) (now «lower_ends») (rows (head .dimensions) (head .directions) (now columns) (now «upper_ends») (now quote))) shift (now retired) ⌝ }
-    requires { ⌜ (sound ≡ true → LiveNamed (held first (head .held) (now «lower_ends») (rows (head .dimensions) (head .directions) (now columns) (now «upper_ends») (now quote)))) ⌝ }
-    requires { ⌜ length (frames (changed (held first (head .held) (now «lower_ends») (rows (head .dimensions) (head .directions) (now columns) (now «upper_ends») (now quote))) shift lower kinds n)) ≤ length (now out) ⌝ }
-    ensures { λ r. ⌜ r ≡ length (frames (changed (held first (head .held) (now («lower_ends» .entry)) (rows (head .dimensions) (head .directions) (now (columns .entry)) (now («upper_ends» .entry)) (now (quote .entry)))) shift lower kinds n)) ⌝ }
-    ensures { λ r. ⌜ now (out .exit) ≡ laid (frames (changed (held first (head .held) (now («lower_ends» .entry)) (rows (head .dimensions) (head .directions) (now (columns .entry)) (now («upper_ends» .entry)) (now (quote .entry)))) shift lower kinds n)) (now (out .entry)) ⌝ }
+    requires { ⌜ Ready (held first (head .held) (now «lower_ends»)
+        (rows (head .dimensions) (head .directions) (now columns) (now «upper_ends») (now quote))) shift ⌝ }
+    requires { ⌜ Retired (held first (head .held) (now «lower_ends»)
+        (rows (head .dimensions) (head .directions) (now columns) (now «upper_ends») (now quote))) shift
+        (now retired) ⌝ }
+    requires { ⌜ (sound ≡ true → LiveNamed (held first (head .held) (now «lower_ends»)
+        (rows (head .dimensions) (head .directions) (now columns) (now «upper_ends») (now quote)))) ⌝ }
+    requires { ⌜ length (frames (changed (held first (head .held) (now «lower_ends»)
+        (rows (head .dimensions) (head .directions) (now columns) (now «upper_ends») (now quote))) shift lower kinds n))
+        ≤ length (now out) ⌝ }
+    ensures { λ r. ⌜ r ≡ length (frames (changed
+        (held first (head .held) (now («lower_ends» .entry))
+        (rows (head .dimensions) (head .directions) (now (columns .entry)) (now («upper_ends» .entry))
+        (now (quote .entry)))) shift lower kinds n)) ⌝ }
+    ensures { λ r. ⌜ now (out .exit) ≡ laid (frames
+        (changed (held first (head .held) (now («lower_ends» .entry))
+        (rows (head .dimensions) (head .directions) (now (columns .entry)) (now («upper_ends» .entry))
+        (now (quote .entry)))) shift lower kinds n)) (now (out .entry)) ⌝ }
 {
     let place = (shift.before - first) as usize;
     let leaves = write_leaves(

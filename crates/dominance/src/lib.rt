@@ -107,7 +107,8 @@ pub fn compare_unrolled(
 
 // Whether the first quote dominates the second, over the columns that both have.
 pub fn dominates(directions: u32, first: &[u32], second: &[u32]) -> bool
-    ensures { λ r. ⌜ r ≡ dominates (min (length (now (first .entry))) (length (now (second .entry)))) directions (now (first .entry)) (now (second .entry)) ⌝ }
+    ensures { λ r. ⌜ r ≡ dominates (min (length (now (first .entry))) (length (now (second .entry)))) directions
+        (now (first .entry)) (now (second .entry)) ⌝ }
 {
     let d = smaller(first.len(), second.len());
     let c = compare(directions, d, first, second, 0);

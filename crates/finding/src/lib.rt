@@ -54,7 +54,8 @@ fn dull(
     from: usize,
 ) -> bool
     requires { ⌜ Fits (rows d directions (now columns) (now uppers) (now quote)) (from + 64) ⌝ }
-    ensures { λ r. ⌜ r ≡ dullIn (rows d directions (now (columns .entry)) (now (uppers .entry)) (now (quote .entry))) from 64 ⌝ }
+    ensures { λ r. ⌜ r ≡ dullIn (rows d directions (now (columns .entry)) (now (uppers .entry)) (now (quote .entry)))
+        from 64 ⌝ }
 {
     let mut all = true;
     let mut start = from * d;
@@ -71,7 +72,8 @@ fn dull(
 // The same of rows of one column.
 fn dull_one(directions: u32, columns: &[u32], uppers: &[u32], quote: &[u32], from: usize) -> bool
     requires { ⌜ Fits (rows 1 directions (now columns) (now uppers) (now quote)) (from + 64) ⌝ }
-    ensures { λ r. ⌜ r ≡ dullIn (rows 1 directions (now (columns .entry)) (now (uppers .entry)) (now (quote .entry))) from 64 ⌝ }
+    ensures { λ r. ⌜ r ≡ dullIn (rows 1 directions (now (columns .entry)) (now (uppers .entry)) (now (quote .entry)))
+        from 64 ⌝ }
 {
     dull(directions, 1, columns, uppers, quote, from)
 }
@@ -79,7 +81,8 @@ fn dull_one(directions: u32, columns: &[u32], uppers: &[u32], quote: &[u32], fro
 // The same of rows of two columns.
 fn dull_two(directions: u32, columns: &[u32], uppers: &[u32], quote: &[u32], from: usize) -> bool
     requires { ⌜ Fits (rows 2 directions (now columns) (now uppers) (now quote)) (from + 64) ⌝ }
-    ensures { λ r. ⌜ r ≡ dullIn (rows 2 directions (now (columns .entry)) (now (uppers .entry)) (now (quote .entry))) from 64 ⌝ }
+    ensures { λ r. ⌜ r ≡ dullIn (rows 2 directions (now (columns .entry)) (now (uppers .entry)) (now (quote .entry)))
+        from 64 ⌝ }
 {
     dull(directions, 2, columns, uppers, quote, from)
 }
@@ -87,7 +90,8 @@ fn dull_two(directions: u32, columns: &[u32], uppers: &[u32], quote: &[u32], fro
 // The same of rows of three columns.
 fn dull_three(directions: u32, columns: &[u32], uppers: &[u32], quote: &[u32], from: usize) -> bool
     requires { ⌜ Fits (rows 3 directions (now columns) (now uppers) (now quote)) (from + 64) ⌝ }
-    ensures { λ r. ⌜ r ≡ dullIn (rows 3 directions (now (columns .entry)) (now (uppers .entry)) (now (quote .entry))) from 64 ⌝ }
+    ensures { λ r. ⌜ r ≡ dullIn (rows 3 directions (now (columns .entry)) (now (uppers .entry)) (now (quote .entry)))
+        from 64 ⌝ }
 {
     dull(directions, 3, columns, uppers, quote, from)
 }
@@ -95,7 +99,8 @@ fn dull_three(directions: u32, columns: &[u32], uppers: &[u32], quote: &[u32], f
 // The same of rows of four columns.
 fn dull_four(directions: u32, columns: &[u32], uppers: &[u32], quote: &[u32], from: usize) -> bool
     requires { ⌜ Fits (rows 4 directions (now columns) (now uppers) (now quote)) (from + 64) ⌝ }
-    ensures { λ r. ⌜ r ≡ dullIn (rows 4 directions (now (columns .entry)) (now (uppers .entry)) (now (quote .entry))) from 64 ⌝ }
+    ensures { λ r. ⌜ r ≡ dullIn (rows 4 directions (now (columns .entry)) (now (uppers .entry)) (now (quote .entry)))
+        from 64 ⌝ }
 {
     dull(directions, 4, columns, uppers, quote, from)
 }
@@ -103,7 +108,8 @@ fn dull_four(directions: u32, columns: &[u32], uppers: &[u32], quote: &[u32], fr
 // The same of rows of five columns.
 fn dull_five(directions: u32, columns: &[u32], uppers: &[u32], quote: &[u32], from: usize) -> bool
     requires { ⌜ Fits (rows 5 directions (now columns) (now uppers) (now quote)) (from + 64) ⌝ }
-    ensures { λ r. ⌜ r ≡ dullIn (rows 5 directions (now (columns .entry)) (now (uppers .entry)) (now (quote .entry))) from 64 ⌝ }
+    ensures { λ r. ⌜ r ≡ dullIn (rows 5 directions (now (columns .entry)) (now (uppers .entry)) (now (quote .entry)))
+        from 64 ⌝ }
 {
     dull(directions, 5, columns, uppers, quote, from)
 }
@@ -111,7 +117,8 @@ fn dull_five(directions: u32, columns: &[u32], uppers: &[u32], quote: &[u32], fr
 // The same of rows of six columns.
 fn dull_six(directions: u32, columns: &[u32], uppers: &[u32], quote: &[u32], from: usize) -> bool
     requires { ⌜ Fits (rows 6 directions (now columns) (now uppers) (now quote)) (from + 64) ⌝ }
-    ensures { λ r. ⌜ r ≡ dullIn (rows 6 directions (now (columns .entry)) (now (uppers .entry)) (now (quote .entry))) from 64 ⌝ }
+    ensures { λ r. ⌜ r ≡ dullIn (rows 6 directions (now (columns .entry)) (now (uppers .entry)) (now (quote .entry)))
+        from 64 ⌝ }
 {
     dull(directions, 6, columns, uppers, quote, from)
 }
@@ -127,7 +134,8 @@ pub fn dull_columns(
     from: usize,
 ) -> bool
     requires { ⌜ Fits (rows d directions (now columns) (now uppers) (now quote)) (from + 64) ⌝ }
-    ensures { λ r. ⌜ r ≡ dullIn (rows d directions (now (columns .entry)) (now (uppers .entry)) (now (quote .entry))) from 64 ⌝ }
+    ensures { λ r. ⌜ r ≡ dullIn (rows d directions (now (columns .entry)) (now (uppers .entry)) (now (quote .entry)))
+        from 64 ⌝ }
 {
     if d == 1 {
         return dull_one(directions, columns, uppers, quote, from);
@@ -177,8 +185,12 @@ fn step(
 ) -> Found
     requires { ⌜ Fits (rows d directions (now columns) (now uppers) (now quote)) (suc place) ⌝ }
     requires { ⌜ Room (rows d directions (now columns) (now uppers) (now quote)) (suc place) (now places) at ⌝ }
-    ensures { λ r. ⌜ Room (rows d directions (now (columns .entry)) (now (uppers .entry)) (now (quote .entry))) place (now (places .exit)) (r .at) ⌝ }
-    ensures { λ r. ⌜ ((b : ℕ) → place < b → Scan (rows d directions (now (columns .entry)) (now (uppers .entry)) (now (quote .entry))) (suc place) b (now (places .entry)) at → Outcome (rows d directions (now (columns .entry)) (now (uppers .entry)) (now (quote .entry))) place b (now (places .exit)) r) ⌝ }
+    ensures { λ r. ⌜ Room (rows d directions (now (columns .entry)) (now (uppers .entry)) (now (quote .entry))) place
+        (now (places .exit)) (r .at) ⌝ }
+    ensures { λ r. ⌜ ((b : ℕ) → place < b → Scan
+        (rows d directions (now (columns .entry)) (now (uppers .entry)) (now (quote .entry))) (suc place) b
+        (now (places .entry)) at → Outcome (rows d directions (now (columns .entry)) (now (uppers .entry))
+        (now (quote .entry))) place b (now (places .exit)) r) ⌝ }
 {
     if uppers[place] != 0 {
         return Found { at, last: 0 };
@@ -206,8 +218,12 @@ fn scan(
     requires { ⌜ from ≤ to ⌝ }
     requires { ⌜ Fits (rows d directions (now columns) (now uppers) (now quote)) to ⌝ }
     requires { ⌜ Room (rows d directions (now columns) (now uppers) (now quote)) to (now places) at ⌝ }
-    ensures { λ r. ⌜ Room (rows d directions (now (columns .entry)) (now (uppers .entry)) (now (quote .entry))) from (now (places .exit)) (r .at) ⌝ }
-    ensures { λ r. ⌜ ((b : ℕ) → to ≤ b → Scan (rows d directions (now (columns .entry)) (now (uppers .entry)) (now (quote .entry))) to b (now (places .entry)) at → Outcome (rows d directions (now (columns .entry)) (now (uppers .entry)) (now (quote .entry))) from b (now (places .exit)) r) ⌝ }
+    ensures { λ r. ⌜ Room (rows d directions (now (columns .entry)) (now (uppers .entry)) (now (quote .entry))) from
+        (now (places .exit)) (r .at) ⌝ }
+    ensures { λ r. ⌜ ((b : ℕ) → to ≤ b → Scan (rows d directions (now (columns .entry)) (now (uppers .entry))
+        (now (quote .entry))) to b (now (places .entry)) at → Outcome
+        (rows d directions (now (columns .entry)) (now (uppers .entry)) (now (quote .entry))) from b
+        (now (places .exit)) r) ⌝ }
 {
     let mut i = to;
     let mut left = at;
@@ -263,8 +279,12 @@ fn scan_block(
     requires { ⌜ (from ≤ to) × (to ≤ from + 64) ⌝ }
     requires { ⌜ Fits (rows d directions (now columns) (now uppers) (now quote)) to ⌝ }
     requires { ⌜ Room (rows d directions (now columns) (now uppers) (now quote)) to (now places) at ⌝ }
-    ensures { λ r. ⌜ Room (rows d directions (now (columns .entry)) (now (uppers .entry)) (now (quote .entry))) from (now (places .exit)) (r .at) ⌝ }
-    ensures { λ r. ⌜ ((b : ℕ) → to ≤ b → Scan (rows d directions (now (columns .entry)) (now (uppers .entry)) (now (quote .entry))) to b (now (places .entry)) at → Outcome (rows d directions (now (columns .entry)) (now (uppers .entry)) (now (quote .entry))) from b (now (places .exit)) r) ⌝ }
+    ensures { λ r. ⌜ Room (rows d directions (now (columns .entry)) (now (uppers .entry)) (now (quote .entry))) from
+        (now (places .exit)) (r .at) ⌝ }
+    ensures { λ r. ⌜ ((b : ℕ) → to ≤ b → Scan (rows d directions (now (columns .entry)) (now (uppers .entry))
+        (now (quote .entry))) to b (now (places .entry)) at → Outcome
+        (rows d directions (now (columns .entry)) (now (uppers .entry)) (now (quote .entry))) from b
+        (now (places .exit)) r) ⌝ }
 {
     let live = taken_live(dense, uppers, to);
     if live == 0 {
@@ -294,8 +314,12 @@ fn scan_blocks(
     requires { ⌜ from ≤ to ⌝ }
     requires { ⌜ Fits (rows d directions (now columns) (now uppers) (now quote)) to ⌝ }
     requires { ⌜ Room (rows d directions (now columns) (now uppers) (now quote)) to (now places) at ⌝ }
-    ensures { λ r. ⌜ Room (rows d directions (now (columns .entry)) (now (uppers .entry)) (now (quote .entry))) from (now (places .exit)) (r .at) ⌝ }
-    ensures { λ r. ⌜ ((b : ℕ) → to ≤ b → Scan (rows d directions (now (columns .entry)) (now (uppers .entry)) (now (quote .entry))) to b (now (places .entry)) at → Outcome (rows d directions (now (columns .entry)) (now (uppers .entry)) (now (quote .entry))) from b (now (places .exit)) r) ⌝ }
+    ensures { λ r. ⌜ Room (rows d directions (now (columns .entry)) (now (uppers .entry)) (now (quote .entry))) from
+        (now (places .exit)) (r .at) ⌝ }
+    ensures { λ r. ⌜ ((b : ℕ) → to ≤ b → Scan (rows d directions (now (columns .entry)) (now (uppers .entry))
+        (now (quote .entry))) to b (now (places .entry)) at → Outcome
+        (rows d directions (now (columns .entry)) (now (uppers .entry)) (now (quote .entry))) from b
+        (now (places .exit)) r) ⌝ }
 {
     let mut i = to;
     let mut left = at;
@@ -339,7 +363,8 @@ pub fn find_sound(
     requires { ⌜ Fits (rows d directions (now columns) (now uppers) (now quote)) to ⌝ }
     requires { ⌜ to ≤ length (now places) ⌝ }
     requires { ⌜ Sound (rows d directions (now columns) (now uppers) (now quote)) from to ⌝ }
-    ensures { λ r. ⌜ Finds (rows d directions (now (columns .entry)) (now (uppers .entry)) (now (quote .entry))) from to (now (places .exit)) r ⌝ }
+    ensures { λ r. ⌜ Finds (rows d directions (now (columns .entry)) (now (uppers .entry)) (now (quote .entry))) from to
+        (now (places .exit)) r ⌝ }
 {
     let end = places.len();
     scan_blocks(

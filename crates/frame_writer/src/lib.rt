@@ -38,7 +38,8 @@ fn lay_pair(kind: u8, n1: u16, n2: u16, out: &mut [u8])
 // Lays the frame of an opening.
 fn lay_open(dimensions: u8, capacity: u16, directions: u8, out: &mut [u8])
     requires { ⌜ 5 ≤ length (now out) ⌝ }
-    ensures { λ r. ⌜ now (out .exit) ≡ laid (frame (Message.Open dimensions capacity directions) []) (now (out .entry)) ⌝ }
+    ensures { λ r. ⌜ now (out .exit) ≡ laid (frame (Message.Open dimensions capacity directions) [])
+        (now (out .entry)) ⌝ }
 {
     out[0] = OPEN;
     out[1] = dimensions;

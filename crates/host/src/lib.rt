@@ -29,7 +29,8 @@ pub extern "C" fn bqb_check_frame(frame: &[u8]) -> u32
 fn beats(first: &[u8], second: &[u8], kind: u8, directions: u8) -> bool
     requires { ⌜ WholeQuote kind (now first) ⌝ }
     requires { ⌜ WholeQuote kind (now second) ⌝ }
-    ensures { λ r. ⌜ r ≡ dominates kind directions (columnsOf (now (first .entry))) (columnsOf (now (second .entry))) ⌝ }
+    ensures { λ r. ⌜ r ≡ dominates kind directions (columnsOf (now (first .entry)))
+        (columnsOf (now (second .entry))) ⌝ }
 {
     let a = read_at(first, 0).columns;
     let b = read_at(second, 0).columns;

@@ -25,7 +25,8 @@ pub fn short_tables(
     lower_ends: &[u32],
     upper_ends: &[u32],
 ) -> bool
-    ensures { λ r. ⌜ r ≡ shortTables (tables (now (columns .entry)) (now (positions .entry)) (now («lower_ends» .entry)) (now («upper_ends» .entry))) (head .dimensions) (head .capacity) ⌝ }
+    ensures { λ r. ⌜ r ≡ shortTables (tables (now (columns .entry)) (now (positions .entry)) (now («lower_ends» .entry))
+        (now («upper_ends» .entry))) (head .dimensions) (head .capacity) ⌝ }
 {
     let n = head.capacity as usize;
     let cells = n * (head.dimensions as usize);
@@ -51,7 +52,8 @@ pub fn short_output(room: usize) -> bool
 
 // An answer with one more test behind it: an acceptance becomes this refusal if the test holds.
 pub fn with_test(answer: Answer, test: bool, refusal: Refusal) -> Answer
-    ensures { λ r. ⌜ numberOf r ≡ granted (numberOf answer) (firstOf ((test, number refusal) ∷ [])) (numberOf answer) ⌝ }
+    ensures { λ r. ⌜ numberOf r ≡ granted (numberOf answer) (firstOf ((test, number refusal) ∷ []))
+        (numberOf answer) ⌝ }
 {
     match answer {
         Answer::Accepted => {}
@@ -67,7 +69,10 @@ pub fn with_test(answer: Answer, test: bool, refusal: Refusal) -> Answer
 
 // The answer of a call by its head's settings: 3.
 pub fn judge_settings(head: Head) -> Answer
-    ensures { λ r. ⌜ numberOf r ≡ firstOf ((not (settingsHold (head .dimensions) (head .capacity) (head .directions)), number Settings) ∷ []) ⌝ }
+    ensures { λ r. ⌜ numberOf r ≡ firstOf ((
+      not (settingsHold (head .dimensions) (head .capacity) (head .directions)),
+      number Settings,
+    ) ∷ []) ⌝ }
 {
     with_test(Answer::Accepted, !head.settings_hold(), Refusal::Settings)
 }
@@ -80,7 +85,9 @@ pub fn judge_loan(
     lower_ends: &[u32],
     upper_ends: &[u32],
 ) -> Answer
-    ensures { λ r. ⌜ numberOf r ≡ loanAnswer head (tables (now (columns .entry)) (now (positions .entry)) (now («lower_ends» .entry)) (now («upper_ends» .entry))) ⌝ }
+    ensures { λ r. ⌜ numberOf r ≡ loanAnswer head
+        (tables (now (columns .entry)) (now (positions .entry)) (now («lower_ends» .entry))
+        (now («upper_ends» .entry))) ⌝ }
 {
     let settings = judge_settings(head);
     let short = short_tables(head, columns, positions, lower_ends, upper_ends);
@@ -95,7 +102,9 @@ pub fn judge(
     lower_ends: &[u32],
     upper_ends: &[u32],
 ) -> Answer
-    ensures { λ r. ⌜ numberOf r ≡ answerOf head (tables (now (columns .entry)) (now (positions .entry)) (now («lower_ends» .entry)) (now («upper_ends» .entry))) [] ⌝ }
+    ensures { λ r. ⌜ numberOf r ≡ answerOf head
+        (tables (now (columns .entry)) (now (positions .entry)) (now («lower_ends» .entry)) (now («upper_ends» .entry)))
+        [] ⌝ }
 {
     let answer = judge_loan(head, columns, positions, lower_ends, upper_ends);
     match answer {
@@ -118,7 +127,9 @@ pub fn judge_watchful(
     upper_ends: &[u32],
     watches: [u64; 8],
 ) -> Answer
-    ensures { λ r. ⌜ numberOf r ≡ watchfulAnswer head (tables (now (columns .entry)) (now (positions .entry)) (now («lower_ends» .entry)) (now («upper_ends» .entry))) watches [] ⌝ }
+    ensures { λ r. ⌜ numberOf r ≡ watchfulAnswer head
+        (tables (now (columns .entry)) (now (positions .entry)) (now («lower_ends» .entry)) (now («upper_ends» .entry)))
+        watches [] ⌝ }
 {
     let answer = judge(head, columns, positions, lower_ends, upper_ends);
     with_test(answer, torn(head.capacity, watches), Refusal::Torn)

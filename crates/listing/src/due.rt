@@ -28,7 +28,8 @@ pub fn write_due(lower_ends: &[u32], first: u32, a: u32, b: u32, c: u32, n1: u32
     requires { ⌜ b + 1 ≤ a + n1 ⌝ }
     requires { ⌜ b + n1 ≤ 4294967295 ⌝ }
     requires { ⌜ 2 * length (duePositions a b c first (now «lower_ends»)) ≤ length (now out) ⌝ }
-    ensures { λ r. ⌜ now (out .exit) ≡ laid (flat (map (dueOf b n1) (duePositions a b c first (now («lower_ends» .entry))))) (now (out .entry)) ⌝ }
+    ensures { λ r. ⌜ now (out .exit) ≡ laid (flat
+        (map (dueOf b n1) (duePositions a b c first (now («lower_ends» .entry))))) (now (out .entry)) ⌝ }
 {
     let end = (b as usize) + 1 - (first as usize);
     let mut at: usize = 0;

@@ -74,7 +74,8 @@ pub fn write_listed(
     requires { ⌜ Window first a b (now «lower_ends») (now «upper_ends») ⌝ }
     requires { ⌜ length (listedIn a b first (now «lower_ends») (now «upper_ends»)) ≤ length (now out) ⌝ }
     ensures { λ r. ⌜ r ≡ length (listedIn a b first (now («lower_ends» .entry)) (now («upper_ends» .entry))) ⌝ }
-    ensures { λ r. ⌜ now (out .exit) ≡ laid (listedIn a b first (now («lower_ends» .entry)) (now («upper_ends» .entry))) (now (out .entry)) ⌝ }
+    ensures { λ r. ⌜ now (out .exit) ≡ laid (listedIn a b first (now («lower_ends» .entry)) (now («upper_ends» .entry)))
+        (now (out .entry)) ⌝ }
 {
     let end = (b as usize) + 1 - (first as usize);
     let mut at: usize = 0;
@@ -129,9 +130,13 @@ pub fn write_joins(
     out: &mut [u8],
 ) -> usize
     requires { ⌜ Window first a b (now «lower_ends») (now «upper_ends») ⌝ }
-    requires { ⌜ length (frames (map (joinOf follower) (listedIn a b first (now «lower_ends») (now «upper_ends»)))) ≤ length (now out) ⌝ }
-    ensures { λ r. ⌜ r ≡ length (frames (map (joinOf follower) (listedIn a b first (now («lower_ends» .entry)) (now («upper_ends» .entry))))) ⌝ }
-    ensures { λ r. ⌜ now (out .exit) ≡ laid (frames (map (joinOf follower) (listedIn a b first (now («lower_ends» .entry)) (now («upper_ends» .entry))))) (now (out .entry)) ⌝ }
+    requires { ⌜ length (frames (map (joinOf follower) (listedIn a b first (now «lower_ends») (now «upper_ends»))))
+        ≤ length (now out) ⌝ }
+    ensures { λ r. ⌜ r ≡ length (frames (map (joinOf follower)
+        (listedIn a b first (now («lower_ends» .entry)) (now («upper_ends» .entry))))) ⌝ }
+    ensures { λ r. ⌜ now (out .exit) ≡ laid (frames
+        (map (joinOf follower) (listedIn a b first (now («lower_ends» .entry)) (now («upper_ends» .entry)))))
+        (now (out .entry)) ⌝ }
 {
     let end = (b as usize) + 1 - (first as usize);
     let mut at: usize = 0;

@@ -32,7 +32,9 @@ fn judge_size(
     lower_ends: &[u32],
     upper_ends: &[u32],
 ) -> Answer
-    ensures { λ r. ⌜ numberOf r ≡ sizeAnswer head n (tables (now (columns .entry)) (now (positions .entry)) (now («lower_ends» .entry)) (now («upper_ends» .entry))) ⌝ }
+    ensures { λ r. ⌜ numberOf r ≡ sizeAnswer head n
+        (tables (now (columns .entry)) (now (positions .entry)) (now («lower_ends» .entry))
+        (now («upper_ends» .entry))) ⌝ }
 {
     with_test(
         judge(head, columns, positions, lower_ends, upper_ends),
@@ -58,7 +60,9 @@ fn judge_sizes(
     lower_ends: &[u32],
     upper_ends: &[u32],
 ) -> Answer
-    ensures { λ r. ⌜ numberOf r ≡ sizesAnswer head n1 n2 (tables (now (columns .entry)) (now (positions .entry)) (now («lower_ends» .entry)) (now («upper_ends» .entry))) ⌝ }
+    ensures { λ r. ⌜ numberOf r ≡ sizesAnswer head n1 n2
+        (tables (now (columns .entry)) (now (positions .entry)) (now («lower_ends» .entry))
+        (now («upper_ends» .entry))) ⌝ }
 {
     let judged = judge(head, columns, positions, lower_ends, upper_ends);
     let beyond = out_of_sizes(head, 1, n1, n2);
@@ -88,7 +92,8 @@ fn write_list(
 ) -> Reply
     requires { ⌜ head .newest ≤ lastPosition ⌝ }
     requires { ⌜ Window (windowStart (head .newest) (head .capacity)) a b (now «lower_ends») (now «upper_ends») ⌝ }
-    ensures { λ r. ⌜ Shown head (listedIn a b (windowStart (head .newest) (head .capacity)) (now («lower_ends» .entry)) (now («upper_ends» .entry))) (now (out .entry)) r (now (out .exit)) ⌝ }
+    ensures { λ r. ⌜ Shown head (listedIn a b (windowStart (head .newest) (head .capacity)) (now («lower_ends» .entry))
+        (now («upper_ends» .entry))) (now (out .entry)) r (now (out .exit)) ⌝ }
 {
     let first = start_of(head, head.capacity);
     let count = count_listed(lower_ends, upper_ends, first, a, b);
@@ -113,8 +118,10 @@ fn write_rows(head: Head, lower_ends: &[u32], out: &mut [u32]) -> Reply
     requires { ⌜ head .newest ≤ lastPosition ⌝ }
     requires { ⌜ 1 ≤ head .n1 ⌝ }
     requires { ⌜ head .n1 ≤ 1024 ⌝ }
-    requires { ⌜ Window (windowStart (head .newest) (head .capacity)) (windowStart (head .newest) (head .n1 - 1)) (head .newest) (now «lower_ends») (now «lower_ends») ⌝ }
-    ensures { λ r. ⌜ Written head (dueCellsOn head (now («lower_ends» .entry))) (length (dueOn head (now («lower_ends» .entry)))) (now (out .entry)) r (now (out .exit)) ⌝ }
+    requires { ⌜ Window (windowStart (head .newest) (head .capacity)) (windowStart (head .newest) (head .n1 - 1))
+        (head .newest) (now «lower_ends») (now «lower_ends») ⌝ }
+    ensures { λ r. ⌜ Written head (dueCellsOn head (now («lower_ends» .entry)))
+        (length (dueOn head (now («lower_ends» .entry)))) (now (out .entry)) r (now (out .exit)) ⌝ }
 {
     let first = start_of(head, head.capacity);
     let a = start_of(head, head.n1 - 1);
@@ -146,7 +153,8 @@ pub fn look(
     upper_ends: &[u32],
     out: &mut [u32],
 ) -> Reply
-    ensures { λ r. ⌜ Looked head n (tables (now (columns .entry)) (now (positions .entry)) (now («lower_ends» .entry)) (now («upper_ends» .entry))) (now (out .entry)) r (now (out .exit)) ⌝ }
+    ensures { λ r. ⌜ Looked head n (tables (now (columns .entry)) (now (positions .entry)) (now («lower_ends» .entry))
+        (now («upper_ends» .entry))) (now (out .entry)) r (now (out .exit)) ⌝ }
 {
     let answer = judge_size(head, n, columns, positions, lower_ends, upper_ends);
     match answer {
@@ -174,7 +182,8 @@ pub fn past(
     upper_ends: &[u32],
     out: &mut [u32],
 ) -> Reply
-    ensures { λ r. ⌜ PastLooked head n1 n2 (tables (now (columns .entry)) (now (positions .entry)) (now («lower_ends» .entry)) (now («upper_ends» .entry))) (now (out .entry)) r (now (out .exit)) ⌝ }
+    ensures { λ r. ⌜ PastLooked head n1 n2 (tables (now (columns .entry)) (now (positions .entry))
+        (now («lower_ends» .entry)) (now («upper_ends» .entry))) (now (out .entry)) r (now (out .exit)) ⌝ }
 {
     let answer = judge_sizes(head, n1, n2, columns, positions, lower_ends, upper_ends);
     match answer {
@@ -202,7 +211,8 @@ pub fn due(
     upper_ends: &[u32],
     out: &mut [u32],
 ) -> Reply
-    ensures { λ r. ⌜ DueLooked head (tables (now (columns .entry)) (now (positions .entry)) (now («lower_ends» .entry)) (now («upper_ends» .entry))) (now (out .entry)) r (now (out .exit)) ⌝ }
+    ensures { λ r. ⌜ DueLooked head (tables (now (columns .entry)) (now (positions .entry)) (now («lower_ends» .entry))
+        (now («upper_ends» .entry))) (now (out .entry)) r (now (out .exit)) ⌝ }
 {
     let answer = judge(head, columns, positions, lower_ends, upper_ends);
     match answer {

@@ -186,7 +186,8 @@ pub fn line_end(text: &[u8], place: usize) -> usize
 
 // Writes the frame of a line over the front of the output: 1 for a line that says no message, then 13.
 pub fn write_line(line: &[u8], out: &mut [u8]) -> Written
-    ensures { λ r. ⌜ Wrote (saidBy (now (line .entry)) .message) (saidBy (now (line .entry)) .numbers) (now (out .entry)) r (now (out .exit)) ⌝ }
+    ensures { λ r. ⌜ Wrote (saidBy (now (line .entry)) .message) (saidBy (now (line .entry)) .numbers)
+        (now (out .entry)) r (now (out .exit)) ⌝ }
 {
     let said = read_line(line);
     let message = said.message;

@@ -18,7 +18,10 @@ pub fn open(
     upper_ends: &mut [u32],
     watches: [u64; 8],
 ) -> WatchReply
-    ensures { λ r. ⌜ Opened dimensions capacity directions (tables (now (columns .entry)) (now (positions .entry)) (now («lower_ends» .entry)) (now («upper_ends» .entry))) watches (r .reply) (tables (now (columns .exit)) (now (positions .exit)) (now («lower_ends» .exit)) (now («upper_ends» .exit))) (r .watches) ⌝ }
+    ensures { λ r. ⌜ Opened dimensions capacity directions
+        (tables (now (columns .entry)) (now (positions .entry)) (now («lower_ends» .entry)) (now («upper_ends» .entry)))
+        watches (r .reply) (tables (now (columns .exit)) (now (positions .exit)) (now («lower_ends» .exit))
+        (now («upper_ends» .exit))) (r .watches) ⌝ }
 {
     let head = Head::fresh(dimensions, capacity, directions);
     let answer = judge_loan(head, columns, positions, lower_ends, upper_ends);

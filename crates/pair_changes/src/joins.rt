@@ -27,9 +27,13 @@ fn write_gained(
 ) -> usize
     requires { ⌜ Ready first (now «lower_ends») (now «upper_ends») start end ⌝ }
     requires { ⌜ (gains ≡ false → gained first (now «lower_ends») (now «upper_ends») start end ≡ []) ⌝ }
-    requires { ⌜ length (frames (map pairJoin (gained first (now «lower_ends») (now «upper_ends») start end))) ≤ length (now out) ⌝ }
-    ensures { λ r. ⌜ r ≡ length (frames (map pairJoin (gained first (now («lower_ends» .entry)) (now («upper_ends» .entry)) start end))) ⌝ }
-    ensures { λ r. ⌜ now (out .exit) ≡ laid (frames (map pairJoin (gained first (now («lower_ends» .entry)) (now («upper_ends» .entry)) start end))) (now (out .entry)) ⌝ }
+    requires { ⌜ length (frames (map pairJoin (gained first (now «lower_ends») (now «upper_ends») start end))) ≤ length
+        (now out) ⌝ }
+    ensures { λ r. ⌜ r ≡ length (frames (map pairJoin
+        (gained first (now («lower_ends» .entry)) (now («upper_ends» .entry)) start end))) ⌝ }
+    ensures { λ r. ⌜ now (out .exit) ≡ laid (frames
+        (map pairJoin (gained first (now («lower_ends» .entry)) (now («upper_ends» .entry)) start end)))
+        (now (out .entry)) ⌝ }
 {
     if !gains | (start.after <= start.before) {
         return 0;
@@ -62,9 +66,13 @@ pub fn write_joins(
 ) -> usize
     requires { ⌜ Ready first (now «lower_ends») (now «upper_ends») start end ⌝ }
     requires { ⌜ (gains ≡ false → gained first (now «lower_ends») (now «upper_ends») start end ≡ []) ⌝ }
-    requires { ⌜ length (frames (map pairJoin (joining first (now «lower_ends») (now «upper_ends») start end))) ≤ length (now out) ⌝ }
-    ensures { λ r. ⌜ r ≡ length (frames (map pairJoin (joining first (now («lower_ends» .entry)) (now («upper_ends» .entry)) start end))) ⌝ }
-    ensures { λ r. ⌜ now (out .exit) ≡ laid (frames (map pairJoin (joining first (now («lower_ends» .entry)) (now («upper_ends» .entry)) start end))) (now (out .entry)) ⌝ }
+    requires { ⌜ length (frames (map pairJoin (joining first (now «lower_ends») (now «upper_ends») start end))) ≤ length
+        (now out) ⌝ }
+    ensures { λ r. ⌜ r ≡ length (frames (map pairJoin
+        (joining first (now («lower_ends» .entry)) (now («upper_ends» .entry)) start end))) ⌝ }
+    ensures { λ r. ⌜ now (out .exit) ≡ laid (frames
+        (map pairJoin (joining first (now («lower_ends» .entry)) (now («upper_ends» .entry)) start end)))
+        (now (out .entry)) ⌝ }
 {
     let at = write_gained(lower_ends, upper_ends, first, start, end, gains, out);
     let enters = lower_ends[(end.after - first) as usize] < start.after;

@@ -41,9 +41,13 @@ fn write_dropped(
 ) -> usize
     requires { ⌜ Ready first (now «lower_ends») (now «upper_ends») start end ⌝ }
     requires { ⌜ Unequal (now «upper_ends») (end .after) (start .after - first) (end .after - first) from ⌝ }
-    requires { ⌜ length (frames (map pairLeave (dropped first (now «lower_ends») (now «upper_ends») start end))) ≤ length (now out) ⌝ }
-    ensures { λ r. ⌜ r ≡ length (frames (map pairLeave (dropped first (now («lower_ends» .entry)) (now («upper_ends» .entry)) start end))) ⌝ }
-    ensures { λ r. ⌜ now (out .exit) ≡ laid (frames (map pairLeave (dropped first (now («lower_ends» .entry)) (now («upper_ends» .entry)) start end))) (now (out .entry)) ⌝ }
+    requires { ⌜ length (frames (map pairLeave (dropped first (now «lower_ends») (now «upper_ends») start end)))
+        ≤ length (now out) ⌝ }
+    ensures { λ r. ⌜ r ≡ length (frames (map pairLeave
+        (dropped first (now («lower_ends» .entry)) (now («upper_ends» .entry)) start end))) ⌝ }
+    ensures { λ r. ⌜ now (out .exit) ≡ laid (frames
+        (map pairLeave (dropped first (now («lower_ends» .entry)) (now («upper_ends» .entry)) start end)))
+        (now (out .entry)) ⌝ }
 {
     let to = (end.after - first) as usize;
     let mut at: usize = 0;
@@ -75,9 +79,13 @@ pub fn write_leaves(
     requires { ⌜ Ready first (now «lower_ends») (now «upper_ends») start end ⌝ }
     requires { ⌜ Unequal (now «upper_ends») (end .after) (start .after - first) (end .after - first) from ⌝ }
     requires { ⌜ fallen ≡ falls first (now «upper_ends») start end ⌝ }
-    requires { ⌜ length (frames (map pairLeave (leaving first (now «lower_ends») (now «upper_ends») start end))) ≤ length (now out) ⌝ }
-    ensures { λ r. ⌜ r ≡ length (frames (map pairLeave (leaving first (now («lower_ends» .entry)) (now («upper_ends» .entry)) start end))) ⌝ }
-    ensures { λ r. ⌜ now (out .exit) ≡ laid (frames (map pairLeave (leaving first (now («lower_ends» .entry)) (now («upper_ends» .entry)) start end))) (now (out .entry)) ⌝ }
+    requires { ⌜ length (frames (map pairLeave (leaving first (now «lower_ends») (now «upper_ends») start end)))
+        ≤ length (now out) ⌝ }
+    ensures { λ r. ⌜ r ≡ length (frames (map pairLeave
+        (leaving first (now («lower_ends» .entry)) (now («upper_ends» .entry)) start end))) ⌝ }
+    ensures { λ r. ⌜ now (out .exit) ≡ laid (frames
+        (map pairLeave (leaving first (now («lower_ends» .entry)) (now («upper_ends» .entry)) start end)))
+        (now (out .entry)) ⌝ }
 {
     let at = write_one(PAIR_LEAVE, start.before, fallen, out);
     let used = write_dropped(

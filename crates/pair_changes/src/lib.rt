@@ -31,10 +31,12 @@ pub fn write_pair_changes(
     out: &mut [u8],
 ) -> usize
     requires { ⌜ Paired head (now «lower_ends») (now «upper_ends») ⌝ }
-    requires { ⌜ (sound ≡ true → Sound (windowStart (head .newest) (head .capacity)) (head .held) (now «lower_ends») (now «upper_ends»)) ⌝ }
+    requires { ⌜ (sound ≡ true → Sound (windowStart (head .newest) (head .capacity)) (head .held) (now «lower_ends»)
+        (now «upper_ends»)) ⌝ }
     requires { ⌜ length (pairFrames head (now «lower_ends») (now «upper_ends»)) ≤ length (now out) ⌝ }
     ensures { λ r. ⌜ r ≡ length (pairFrames head (now («lower_ends» .entry)) (now («upper_ends» .entry))) ⌝ }
-    ensures { λ r. ⌜ now (out .exit) ≡ laid (pairFrames head (now («lower_ends» .entry)) (now («upper_ends» .entry))) (now (out .entry)) ⌝ }
+    ensures { λ r. ⌜ now (out .exit) ≡ laid (pairFrames head (now («lower_ends» .entry)) (now («upper_ends» .entry)))
+        (now (out .entry)) ⌝ }
 {
     if !begun(head) {
         return 0;

@@ -50,7 +50,8 @@ pub fn falls(upper_ends: &[u32], first: u32, start: Shift, end: Shift) -> bool
 pub fn write_one(kind: u8, position: u32, asked: bool, out: &mut [u8]) -> usize
     requires { ⌜ length (frames (map (Position kind) (keep asked position []))) ≤ length (now out) ⌝ }
     ensures { λ r. ⌜ r ≡ length (frames (map (Position kind) (keep asked position []))) ⌝ }
-    ensures { λ r. ⌜ now (out .exit) ≡ laid (frames (map (Position kind) (keep asked position []))) (now (out .entry)) ⌝ }
+    ensures { λ r. ⌜ now (out .exit) ≡ laid (frames (map (Position kind) (keep asked position [])))
+        (now (out .entry)) ⌝ }
 {
     if !asked {
         return 0;

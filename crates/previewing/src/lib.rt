@@ -41,7 +41,9 @@ pub fn preview(
     watches: [u64; 8],
     out: &mut [u8],
 ) -> Effect
-    ensures { λ r. ⌜ Previewed head (now (quote .entry)) (tables (now (columns .entry)) (now (positions .entry)) (now («lower_ends» .entry)) (now («upper_ends» .entry))) watches (now (out .entry)) r (now (out .exit)) ⌝ }
+    ensures { λ r. ⌜ Previewed head (now (quote .entry))
+        (tables (now (columns .entry)) (now (positions .entry)) (now («lower_ends» .entry)) (now («upper_ends» .entry)))
+        watches (now (out .entry)) r (now (out .exit)) ⌝ }
 {
     let room = out.len();
     let answer = judge_row(

@@ -41,7 +41,8 @@ fn frame_end(bytes: &[u8], place: usize) -> usize
 fn put_numbers(letter: u8, bytes: &[u8], place: usize, text: &mut [u8]) -> usize
     requires { ⌜ place + 7 ≤ length (now bytes) ⌝ }
     requires { ⌜ 24 ≤ length (now text) ⌝ }
-    ensures { λ r. ⌜ Laid (line letter (number2 (now (bytes .entry)) (place + 1) ∷ number4 (now (bytes .entry)) (place + 3) ∷ [])) (now (text .entry)) r (now (text .exit)) ⌝ }
+    ensures { λ r. ⌜ Laid (line letter (number2 (now (bytes .entry)) (place + 1) ∷ number4 (now (bytes .entry))
+        (place + 3) ∷ [])) (now (text .entry)) r (now (text .exit)) ⌝ }
 {
     let n = two_at(bytes, place + 1) as u32;
     let position = four_at(bytes, place + 3);
@@ -52,7 +53,8 @@ fn put_numbers(letter: u8, bytes: &[u8], place: usize, text: &mut [u8]) -> usize
 fn put_numbers_two(letter: u8, bytes: &[u8], place: usize, text: &mut [u8]) -> usize
     requires { ⌜ place + 7 ≤ length (now bytes) ⌝ }
     requires { ⌜ 25 ≤ length (now text) ⌝ }
-    ensures { λ r. ⌜ Laid (line2 letter 50 (number2 (now (bytes .entry)) (place + 1) ∷ number4 (now (bytes .entry)) (place + 3) ∷ [])) (now (text .entry)) r (now (text .exit)) ⌝ }
+    ensures { λ r. ⌜ Laid (line2 letter 50 (number2 (now (bytes .entry)) (place + 1) ∷ number4 (now (bytes .entry))
+        (place + 3) ∷ [])) (now (text .entry)) r (now (text .exit)) ⌝ }
 {
     let n = two_at(bytes, place + 1) as u32;
     let position = four_at(bytes, place + 3);
@@ -63,7 +65,8 @@ fn put_numbers_two(letter: u8, bytes: &[u8], place: usize, text: &mut [u8]) -> u
 fn put_position(letter: u8, bytes: &[u8], place: usize, text: &mut [u8]) -> usize
     requires { ⌜ place + 5 ≤ length (now bytes) ⌝ }
     requires { ⌜ 14 ≤ length (now text) ⌝ }
-    ensures { λ r. ⌜ Laid (line2 letter letter (number4 (now (bytes .entry)) (place + 1) ∷ [])) (now (text .entry)) r (now (text .exit)) ⌝ }
+    ensures { λ r. ⌜ Laid (line2 letter letter (number4 (now (bytes .entry)) (place + 1) ∷ [])) (now (text .entry)) r
+        (now (text .exit)) ⌝ }
 {
     let position = four_at(bytes, place + 1);
     put_line2(letter, letter, &[position], text)
@@ -85,7 +88,8 @@ fn letter_of(kind: u8) -> u8
 fn put_change(bytes: &[u8], place: usize, text: &mut [u8]) -> usize
     requires { ⌜ place < readAt (now bytes) place .next ⌝ }
     requires { ⌜ 25 * (readAt (now bytes) place .next - place) ≤ 7 * length (now text) ⌝ }
-    ensures { λ r. ⌜ Laid (changeLine (messageAt (now (bytes .entry)) (place + 1) (getD (now (bytes .entry)) place 0))) (now (text .entry)) r (now (text .exit)) ⌝ }
+    ensures { λ r. ⌜ Laid (changeLine (messageAt (now (bytes .entry)) (place + 1) (getD (now (bytes .entry)) place 0)))
+        (now (text .entry)) r (now (text .exit)) ⌝ }
 {
     let kind = bytes[place];
     let letter = letter_of(kind);

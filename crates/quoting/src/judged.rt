@@ -14,7 +14,8 @@ use judging::with_test;
 
 // An answer with the tests of the quote and of an output of this length behind it: 4, 6, 13.
 fn with_quote(answer: Answer, head: Head, quote: &[u32], room: usize) -> Answer
-    ensures { λ r. ⌜ numberOf r ≡ granted (numberOf answer) (firstOf (quoteTests head (now (quote .entry)) room)) (numberOf answer) ⌝ }
+    ensures { λ r. ⌜ numberOf r ≡ granted (numberOf answer) (firstOf (quoteTests head (now (quote .entry)) room))
+        (numberOf answer) ⌝ }
 {
     let d = head.dimensions as usize;
     let wide = with_test(answer, quote.len() != d, Refusal::ColumnCount);
@@ -33,7 +34,9 @@ pub fn judge_row(
     watches: [u64; 8],
     room: usize,
 ) -> Answer
-    ensures { λ r. ⌜ numberOf r ≡ quoteAnswer head (now (quote .entry)) (tables (now (columns .entry)) (now (positions .entry)) (now («lower_ends» .entry)) (now («upper_ends» .entry))) watches room ⌝ }
+    ensures { λ r. ⌜ numberOf r ≡ quoteAnswer head (now (quote .entry))
+        (tables (now (columns .entry)) (now (positions .entry)) (now («lower_ends» .entry)) (now («upper_ends» .entry)))
+        watches room ⌝ }
 {
     let judged = judge_watchful(head, columns, positions, lower_ends, upper_ends, watches);
     with_quote(judged, head, quote, room)

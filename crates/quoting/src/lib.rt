@@ -34,10 +34,15 @@ fn enter(
     watches: [u64; 8],
     out: &mut [u8],
 ) -> Reply
-    requires { ⌜ quoteAnswer head (now quote) (tables (now columns) (now positions) (now «lower_ends») (now «upper_ends»)) watches (length (now out)) ≡ 0 ⌝ }
+    requires { ⌜ quoteAnswer head (now quote) (tables (now columns) (now positions) (now «lower_ends»)
+        (now «upper_ends»)) watches (length (now out)) ≡ 0 ⌝ }
     requires { ⌜ Finds head (now quote) (now columns) (now «upper_ends») (now places) found ⌝ }
-    requires { ⌜ SoundIf (found .sound) head (now «lower_ends») (heldRows head (now quote) (now columns) (now «upper_ends»)) ⌝ }
-    ensures { λ r. ⌜ Quoted head (now (quote .entry)) (tables (now (columns .entry)) (now (positions .entry)) (now («lower_ends» .entry)) (now («upper_ends» .entry))) watches (now (out .entry)) r (tables (now (columns .exit)) (now (positions .exit)) (now («lower_ends» .exit)) (now («upper_ends» .exit))) (now (out .exit)) ⌝ }
+    requires { ⌜ SoundIf (found .sound) head (now «lower_ends»)
+        (heldRows head (now quote) (now columns) (now «upper_ends»)) ⌝ }
+    ensures { λ r. ⌜ Quoted head (now (quote .entry))
+        (tables (now (columns .entry)) (now (positions .entry)) (now («lower_ends» .entry)) (now («upper_ends» .entry)))
+        watches (now (out .entry)) r (tables (now (columns .exit)) (now (positions .exit)) (now («lower_ends» .exit))
+        (now («upper_ends» .exit))) (now (out .exit)) ⌝ }
 {
     let at = found.at;
     let count = write(
@@ -71,7 +76,10 @@ pub fn quote(
     watches: [u64; 8],
     out: &mut [u8],
 ) -> Reply
-    ensures { λ r. ⌜ Quoted head (now (quote .entry)) (tables (now (columns .entry)) (now (positions .entry)) (now («lower_ends» .entry)) (now («upper_ends» .entry))) watches (now (out .entry)) r (tables (now (columns .exit)) (now (positions .exit)) (now («lower_ends» .exit)) (now («upper_ends» .exit))) (now (out .exit)) ⌝ }
+    ensures { λ r. ⌜ Quoted head (now (quote .entry))
+        (tables (now (columns .entry)) (now (positions .entry)) (now («lower_ends» .entry)) (now («upper_ends» .entry)))
+        watches (now (out .entry)) r (tables (now (columns .exit)) (now (positions .exit)) (now («lower_ends» .exit))
+        (now («upper_ends» .exit))) (now (out .exit)) ⌝ }
 {
     let room = out.len();
     let answer = judge_row(

@@ -47,7 +47,11 @@ fn in_places(
     requires { ⌜ head .held ≤ length (now positions) ⌝ }
     requires { ⌜ head .held ≤ length (now «lower_ends») ⌝ }
     requires { ⌜ head .held ≤ length (now «upper_ends») ⌝ }
-    ensures { λ r. ⌜ r ≡ inPlaces (head .newest) first (rowsIn 0 (head .held) (tables [] (now (positions .entry)) (now («lower_ends» .entry)) (now («upper_ends» .entry)))) && eqb (head .live) (length (liveRows (rowsIn 0 (head .held) (tables [] (now (positions .entry)) (now («lower_ends» .entry)) (now («upper_ends» .entry)))))) ⌝ }
+    ensures { λ r. ⌜ r ≡ inPlaces (head .newest) first
+        (rowsIn 0 (head .held) (tables [] (now (positions .entry)) (now («lower_ends» .entry))
+        (now («upper_ends» .entry)))) && eqb (head .live)
+        (length (liveRows (rowsIn 0 (head .held) (tables [] (now (positions .entry)) (now («lower_ends» .entry))
+        (now («upper_ends» .entry)))))) ⌝ }
 {
     let newest = head.newest;
     let count = head.held as usize;
@@ -75,7 +79,8 @@ pub fn torn_rows(head: Head, positions: &[u32], lower_ends: &[u32], upper_ends: 
     requires { ⌜ head .capacity ≤ length (now positions) ⌝ }
     requires { ⌜ head .capacity ≤ length (now «lower_ends») ⌝ }
     requires { ⌜ head .capacity ≤ length (now «upper_ends») ⌝ }
-    ensures { λ r. ⌜ r ≡ tornRows head (bookRows head (tables [] (now (positions .entry)) (now («lower_ends» .entry)) (now («upper_ends» .entry)))) ⌝ }
+    ensures { λ r. ⌜ r ≡ tornRows head (bookRows head
+        (tables [] (now (positions .entry)) (now («lower_ends» .entry)) (now («upper_ends» .entry)))) ⌝ }
 {
     if torn_head(head) {
         return true;

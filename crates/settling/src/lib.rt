@@ -127,7 +127,8 @@ pub fn find(
 ) -> Finding
     requires { ⌜ Findable head (now quote) (now columns) (now «upper_ends») (now places) ⌝ }
     ensures { λ r. ⌜ r .sound ≡ false ⌝ }
-    ensures { λ r. ⌜ Finds head (now (quote .entry)) (now (columns .entry)) (now («upper_ends» .entry)) (now (places .exit)) r ⌝ }
+    ensures { λ r. ⌜ Finds head (now (quote .entry)) (now (columns .entry)) (now («upper_ends» .entry))
+        (now (places .exit)) r ⌝ }
 {
     let d = head.dimensions as usize;
     let held = head.held as usize;
@@ -162,9 +163,11 @@ pub fn find_reached(
     places: &mut [u16],
 ) -> Finding
     requires { ⌜ Findable head (now quote) (now columns) (now «upper_ends») (now places) ⌝ }
-    requires { ⌜ Sound (heldRows head (now quote) (now columns) (now «upper_ends»)) (expiredPlaces head) (head .held) ⌝ }
+    requires { ⌜ Sound (heldRows head (now quote) (now columns) (now «upper_ends»)) (expiredPlaces head)
+        (head .held) ⌝ }
     ensures { λ r. ⌜ r .sound ≡ true ⌝ }
-    ensures { λ r. ⌜ Finds head (now (quote .entry)) (now (columns .entry)) (now («upper_ends» .entry)) (now (places .exit)) r ⌝ }
+    ensures { λ r. ⌜ Finds head (now (quote .entry)) (now (columns .entry)) (now («upper_ends» .entry))
+        (now (places .exit)) r ⌝ }
 {
     let d = head.dimensions as usize;
     let held = head.held as usize;
@@ -204,7 +207,8 @@ pub fn settle(head: Head, width: usize, by: usize, row: &[u32], cells: &mut [u32
 // Settles the lower ends: those that name the expired position name none, and the quote's is put behind.
 pub fn settle_lower_ends(head: Head, found: Finding, lower_ends: &mut [u32])
     requires { ⌜ Ready head 1 (found .by) (now «lower_ends») ⌝ }
-    ensures { λ _. ⌜ now («lower_ends» .exit) ≡ lowersPut head (found .by) (found .gone) (found .lower) (now («lower_ends» .entry)) ⌝ }
+    ensures { λ _. ⌜ now («lower_ends» .exit) ≡ lowersPut head (found .by) (found .gone) (found .lower)
+        (now («lower_ends» .entry)) ⌝ }
 {
     rename(lower_ends, found.gone, head.held as usize);
     settle(head, 1, found.by, &[found.lower], lower_ends);

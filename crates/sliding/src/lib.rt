@@ -43,7 +43,8 @@ fn lay_behind(head: Head, width: usize, row: &[u32], cells: &mut [u32])
 fn lay_lower_end(head: Head, found: Finding, named: usize, lower_ends: &mut [u32])
     requires { ⌜ head .held < length (now «lower_ends») ⌝ }
     requires { ⌜ named ≤ head .held ⌝ }
-    ensures { λ _. ⌜ now («lower_ends» .exit) ≡ lowersLaid head (found .gone) named (found .lower) (now («lower_ends» .entry)) ⌝ }
+    ensures { λ _. ⌜ now («lower_ends» .exit) ≡ lowersLaid head (found .gone) named (found .lower)
+        (now («lower_ends» .entry)) ⌝ }
 {
     rename(lower_ends, found.gone, named);
     lay_behind(head, 1, &[found.lower], lower_ends);
@@ -73,11 +74,16 @@ fn enter(
     watches: [u64; 8],
     out: &mut [u8],
 ) -> Slide
-    requires { ⌜ Reached (world head (tables (now columns) (now positions) (now «lower_ends») (now «upper_ends»)) watches) ⌝ }
+    requires { ⌜ Reached (world head (tables (now columns) (now positions) (now «lower_ends») (now «upper_ends»))
+        watches) ⌝ }
     requires { ⌜ Roomy (tables (now columns) (now positions) (now «lower_ends») (now «upper_ends»)) ⌝ }
-    requires { ⌜ quoteAnswer head (now quote) (tables (now columns) (now positions) (now «lower_ends») (now «upper_ends»)) watches (length (now out)) ≡ 0 ⌝ }
+    requires { ⌜ quoteAnswer head (now quote) (tables (now columns) (now positions) (now «lower_ends»)
+        (now «upper_ends»)) watches (length (now out)) ≡ 0 ⌝ }
     requires { ⌜ Finds head (now quote) (now columns) (now «upper_ends») (now places) found ⌝ }
-    ensures { λ r. ⌜ QuoteSlid head (now (quote .entry)) (tables (now (columns .entry)) (now (positions .entry)) (now («lower_ends» .entry)) (now («upper_ends» .entry))) watches (now (out .entry)) r (tables (now (columns .exit)) (now (positions .exit)) (now («lower_ends» .exit)) (now («upper_ends» .exit))) (now (out .exit)) ⌝ }
+    ensures { λ r. ⌜ QuoteSlid head (now (quote .entry))
+        (tables (now (columns .entry)) (now (positions .entry)) (now («lower_ends» .entry)) (now («upper_ends» .entry)))
+        watches (now (out .entry)) r (tables (now (columns .exit)) (now (positions .exit)) (now («lower_ends» .exit))
+        (now («upper_ends» .exit))) (now (out .exit)) ⌝ }
 {
     let at = found.at;
     let count = write(
@@ -114,9 +120,13 @@ pub fn quote_sliding(
     watches: [u64; 8],
     out: &mut [u8],
 ) -> Slide
-    requires { ⌜ Reached (world head (tables (now columns) (now positions) (now «lower_ends») (now «upper_ends»)) watches) ⌝ }
+    requires { ⌜ Reached (world head (tables (now columns) (now positions) (now «lower_ends») (now «upper_ends»))
+        watches) ⌝ }
     requires { ⌜ Roomy (tables (now columns) (now positions) (now «lower_ends») (now «upper_ends»)) ⌝ }
-    ensures { λ r. ⌜ QuoteSlid head (now (quote .entry)) (tables (now (columns .entry)) (now (positions .entry)) (now («lower_ends» .entry)) (now («upper_ends» .entry))) watches (now (out .entry)) r (tables (now (columns .exit)) (now (positions .exit)) (now («lower_ends» .exit)) (now («upper_ends» .exit))) (now (out .exit)) ⌝ }
+    ensures { λ r. ⌜ QuoteSlid head (now (quote .entry))
+        (tables (now (columns .entry)) (now (positions .entry)) (now («lower_ends» .entry)) (now («upper_ends» .entry)))
+        watches (now (out .entry)) r (tables (now (columns .exit)) (now (positions .exit)) (now («lower_ends» .exit))
+        (now («upper_ends» .exit))) (now (out .exit)) ⌝ }
 {
     let room = out.len();
     let answer = judge_reached(head, quote, room);

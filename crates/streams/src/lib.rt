@@ -16,7 +16,8 @@ pub struct Came {
 // Moves the bytes from a place to an end to the front of the buffer.
 pub fn to_front(buffer: &mut [u8], place: usize, end: usize)
     requires { ⌜ (place ≤ end) × (end ≤ length (now buffer)) ⌝ }
-    ensures { λ _. ⌜ now (buffer .exit) ≡ laid (take (end - place) (drop place (now (buffer .entry)))) (now (buffer .entry)) ⌝ }
+    ensures { λ _. ⌜ now (buffer .exit) ≡ laid (take (end - place) (drop place (now (buffer .entry))))
+        (now (buffer .entry)) ⌝ }
 {
     let mut i = 0;
     while i < end - place {

@@ -36,7 +36,15 @@ pub fn wish_at(tape: &[u8], place: usize, head: Head) -> Wish
 
 // The step that a turn makes: the tape is over where nothing could be read, and the place stayed.
 pub fn step_of(place: usize, next: usize, turn: Turn) -> Step
-    ensures { λ r. ⌜ r ≡ record { answer = turn .answer; over = eqb next place; next = next; count = turn .count; head = turn .head; watches = turn .watches } ⌝ }
+    ensures { λ r. ⌜ r ≡ record {
+      answer = turn .answer;
+      over = eqb next place;
+      next = next;
+      count = turn .count;
+      head =
+          turn .head;
+      watches = turn .watches;
+    } ⌝ }
 {
     let answer = turn.answer;
     let head = turn.head;
@@ -64,7 +72,11 @@ pub fn play(
     bytes: &mut [u8; CHANGE_BYTES],
     text: &mut [u8; TEXT_BYTES],
 ) -> Step
-    ensures { λ r. ⌜ Stepped (now (tape .entry)) place (player head (tables (now (columns .entry)) (now (positions .entry)) (now («lower_ends» .entry)) (now («upper_ends» .entry))) watches (now (bytes .entry))) (now (text .entry)) r (tables (now (columns .exit)) (now (positions .exit)) (now («lower_ends» .exit)) (now («upper_ends» .exit))) (now (bytes .exit)) (now (text .exit)) ⌝ }
+    ensures { λ r. ⌜ Stepped (now (tape .entry)) place
+        (player head (tables (now (columns .entry)) (now (positions .entry)) (now («lower_ends» .entry))
+        (now («upper_ends» .entry))) watches (now (bytes .entry))) (now (text .entry)) r
+        (tables (now (columns .exit)) (now (positions .exit)) (now («lower_ends» .exit)) (now («upper_ends» .exit)))
+        (now (bytes .exit)) (now (text .exit)) ⌝ }
 {
     let wish = wish_at(tape, place, head);
     let next = wish.next;

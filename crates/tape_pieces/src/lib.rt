@@ -14,7 +14,8 @@ use tape_stands::rewind;
 // Whether a frame is played: its lines have room behind those that are gathered, and it has come whole, or nothing more comes.
 fn plays(stand: Stand, tape: &[u8], room: usize) -> bool
     requires { ⌜ stand .used ≤ room ⌝ }
-    ensures { λ r. ⌜ GoesOn (stand .over) (room - stand .used) (stand .ended || ready (now (tape .entry)) (stand .place)) r ⌝ }
+    ensures { λ r. ⌜ GoesOn (stand .over) (room - stand .used)
+        (stand .ended || ready (now (tape .entry)) (stand .place)) r ⌝ }
 {
     if stand.over {
         return false;
@@ -42,8 +43,10 @@ pub fn play_piece(
     requires { ⌜ (stand .used ≤ length (now text)) × (stand .place ≤ length (now tape)) ⌝ }
     requires { ⌜ Long (tables (now columns) (now positions) (now «lower_ends») (now «upper_ends»)) ⌝ }
     requires { ⌜ Within 1023 (stand .start) ⌝ }
-    requires { ⌜ Reached (world (stand .head) (onward (stand .start) (tables (now columns) (now positions) (now «lower_ends») (now «upper_ends»))) (stand .watches)) ⌝ }
-    ensures { λ r. ⌜ PiecePlayed (length (now (tape .entry))) (length (now (text .entry))) stand r (tables (now (columns .exit)) (now (positions .exit)) (now («lower_ends» .exit)) (now («upper_ends» .exit))) ⌝ }
+    requires { ⌜ Reached (world (stand .head) (onward (stand .start)
+        (tables (now columns) (now positions) (now «lower_ends») (now «upper_ends»))) (stand .watches)) ⌝ }
+    ensures { λ r. ⌜ PiecePlayed (length (now (tape .entry))) (length (now (text .entry))) stand r
+        (tables (now (columns .exit)) (now (positions .exit)) (now («lower_ends» .exit)) (now («upper_ends» .exit))) ⌝ }
 {
     let mut now = stand;
     while plays(now, tape, text.len()) {

@@ -36,9 +36,14 @@ pub fn play_sliding(
     text: &mut [u8],
 ) -> SlidStep
     requires { ⌜ textBytes ≤ length (now text) ⌝ }
-    requires { ⌜ Reached (world head (tables (now columns) (now positions) (now «lower_ends») (now «upper_ends»)) watches) ⌝ }
+    requires { ⌜ Reached (world head (tables (now columns) (now positions) (now «lower_ends») (now «upper_ends»))
+        watches) ⌝ }
     requires { ⌜ Roomy (tables (now columns) (now positions) (now «lower_ends») (now «upper_ends»)) ⌝ }
-    ensures { λ r. ⌜ StepSlid (now (tape .entry)) place (player head (tables (now (columns .entry)) (now (positions .entry)) (now («lower_ends» .entry)) (now («upper_ends» .entry))) watches (now (bytes .entry))) (now (text .entry)) r (tables (now (columns .exit)) (now (positions .exit)) (now («lower_ends» .exit)) (now («upper_ends» .exit))) (now (bytes .exit)) (now (text .exit)) ⌝ }
+    ensures { λ r. ⌜ StepSlid (now (tape .entry)) place
+        (player head (tables (now (columns .entry)) (now (positions .entry)) (now («lower_ends» .entry))
+        (now («upper_ends» .entry))) watches (now (bytes .entry))) (now (text .entry)) r
+        (tables (now (columns .exit)) (now (positions .exit)) (now («lower_ends» .exit)) (now («upper_ends» .exit)))
+        (now (bytes .exit)) (now (text .exit)) ⌝ }
 {
     let wish = wish_at(tape, place, head);
     let next = wish.next;

@@ -66,8 +66,10 @@ pub fn play_frame(
     requires { ⌜ (stand .used + textBytes ≤ length (now text)) × (stand .place ≤ length (now tape)) ⌝ }
     requires { ⌜ Long (tables (now columns) (now positions) (now «lower_ends») (now «upper_ends»)) ⌝ }
     requires { ⌜ Within 1023 (stand .start) ⌝ }
-    requires { ⌜ Reached (world (stand .head) (onward (stand .start) (tables (now columns) (now positions) (now «lower_ends») (now «upper_ends»))) (stand .watches)) ⌝ }
-    ensures { λ r. ⌜ FramePlayed (now (tape .entry)) (length (now (text .entry))) stand r (tables (now (columns .exit)) (now (positions .exit)) (now («lower_ends» .exit)) (now («upper_ends» .exit))) ⌝ }
+    requires { ⌜ Reached (world (stand .head) (onward (stand .start)
+        (tables (now columns) (now positions) (now «lower_ends») (now «upper_ends»))) (stand .watches)) ⌝ }
+    ensures { λ r. ⌜ FramePlayed (now (tape .entry)) (length (now (text .entry))) stand r
+        (tables (now (columns .exit)) (now (positions .exit)) (now («lower_ends» .exit)) (now («upper_ends» .exit))) ⌝ }
 {
     let head = stand.head;
     let watches = stand.watches;
@@ -113,7 +115,11 @@ pub fn rewind(
     requires { ⌜ Long (tables (now columns) (now positions) (now «lower_ends») (now «upper_ends»)) ⌝ }
     requires { ⌜ Within 1024 start × FullOpened start head ⌝ }
     ensures { λ r. ⌜ Within 1023 r ⌝ }
-    ensures { λ r. ⌜ ((ws : List ℕ) → Reached (world head (onward start (tables (now (columns .entry)) (now (positions .entry)) (now («lower_ends» .entry)) (now («upper_ends» .entry)))) ws) → Reached (world head (onward r (tables (now (columns .exit)) (now (positions .exit)) (now («lower_ends» .exit)) (now («upper_ends» .exit)))) ws)) ⌝ }
+    ensures { λ r. ⌜ ((ws : List ℕ) → Reached (world head
+        (onward start (tables (now (columns .entry)) (now (positions .entry)) (now («lower_ends» .entry))
+        (now («upper_ends» .entry)))) ws) → Reached
+        (world head (onward r (tables (now (columns .exit)) (now (positions .exit)) (now («lower_ends» .exit))
+        (now («upper_ends» .exit)))) ws)) ⌝ }
 {
     let row = start.row;
     if row < PLACES {

@@ -23,7 +23,8 @@ pub fn flush(stand: Stand, text: &[u8]) -> Stand
 // ended or the tape is over.
 pub fn refill(stand: Stand, tape: &mut [u8]) -> Stand
     requires { ⌜ (stand .place ≤ stand .end) × (stand .end ≤ length (now tape)) ⌝ }
-    ensures { λ r. ⌜ (r .used ≡ stand .used) × (r .place ≤ r .end) × (r .end ≤ length (now (tape .entry))) × SameBook stand r ⌝ }
+    ensures { λ r. ⌜ (r .used ≡ stand .used) × (r .place ≤ r .end) × (r .end ≤ length (now (tape .entry))) × SameBook
+        stand r ⌝ }
 {
     let mut now = stand;
     let end = now.end;

@@ -42,7 +42,8 @@ fn put_desk_line(desk: Desk, letter: u8, numbers: &[u32], text: &mut [u8]) -> us
 // Lays the line of an accepted call, or that of its refusal, and returns how many bytes.
 pub fn put_answer(answer: Answer, desk: Desk, letter: u8, numbers: &[u32], text: &mut [u8]) -> usize
     requires { ⌜ (lineBytes 1 ≤ length (now text)) × (lineBytes (length (now numbers)) ≤ length (now text)) ⌝ }
-    ensures { λ r. ⌜ Laid (answerLine (numberOf answer) (deskLine desk letter (now (numbers .entry)))) (now (text .entry)) r (now (text .exit)) ⌝ }
+    ensures { λ r. ⌜ Laid (answerLine (numberOf answer) (deskLine desk letter (now (numbers .entry))))
+        (now (text .entry)) r (now (text .exit)) ⌝ }
 {
     match answer {
         Answer::Accepted => put_desk_line(desk, letter, numbers, text),
@@ -65,7 +66,8 @@ pub fn put_changed(
 ) -> usize
     requires { ⌜ (length (now numbers) ≤ 2) × (count ≤ length (now bytes)) ⌝ }
     requires { ⌜ (length (now bytes) ≤ changeRoom) × (textBytes ≤ length (now text)) ⌝ }
-    ensures { λ r. ⌜ Laid (answerLine (numberOf answer) (deskLine desk letter (now (numbers .entry))) ++ changesText (take count (now (bytes .entry)))) (now (text .entry)) r (now (text .exit)) ⌝ }
+    ensures { λ r. ⌜ Laid (answerLine (numberOf answer) (deskLine desk letter (now (numbers .entry))) ++ changesText
+        (take count (now (bytes .entry)))) (now (text .entry)) r (now (text .exit)) ⌝ }
 {
     let line = put_answer(answer, desk, letter, numbers, text);
     let lines = printed::put_changes(bytes, count, &mut text[line..]);
@@ -92,7 +94,9 @@ pub fn put_opening(
     text: &mut [u8],
 ) -> Turn
     requires { ⌜ textBytes ≤ length (now text) ⌝ }
-    ensures { λ r. ⌜ ((t t' : Tables) (ws bytes : List ℕ) → Opened dimensions capacity directions t ws (opened .reply) t' (opened .watches) → Turned (made (Call.Open dimensions capacity directions) (player head t ws bytes)) (now (text .entry)) r t' bytes (now (text .exit))) ⌝ }
+    ensures { λ r. ⌜ ((t t' : Tables) (ws bytes : List ℕ) → Opened dimensions capacity directions t ws (opened .reply)
+        t' (opened .watches) → Turned (made (Call.Open dimensions capacity directions) (player head t ws bytes))
+        (now (text .entry)) r t' bytes (now (text .exit))) ⌝ }
 {
     let reply = opened.reply;
     let answer = reply.answer;
@@ -109,8 +113,11 @@ pub fn put_opening(
 
 // Lays the line of a quote that was made, and those of its changes.
 pub fn put_quote(reply: Reply, watches: [u64; 8], bytes: &[u8], text: &mut [u8]) -> Turn
-    requires { ⌜ (reply .count ≤ length (now bytes)) × ((length (now bytes) ≤ changeRoom) × (textBytes ≤ length (now text))) ⌝ }
-    ensures { λ r. ⌜ ((h : Head) (x : List ℕ) (t t' : Tables) (before : List ℕ) → Quoted h x t watches before reply t' (now (bytes .entry)) → Turned (made (Call.Quote x) (player h t watches before)) (now (text .entry)) r t' (now (bytes .entry)) (now (text .exit))) ⌝ }
+    requires { ⌜ (reply .count ≤ length (now bytes))
+        × ((length (now bytes) ≤ changeRoom) × (textBytes ≤ length (now text))) ⌝ }
+    ensures { λ r. ⌜ ((h : Head) (x : List ℕ) (t t' : Tables) (before : List ℕ) → Quoted h x t watches before reply t'
+        (now (bytes .entry)) → Turned (made (Call.Quote x) (player h t watches before)) (now (text .entry)) r t'
+        (now (bytes .entry)) (now (text .exit))) ⌝ }
 {
     let answer = reply.answer;
     let head = reply.head;
@@ -126,7 +133,9 @@ pub fn put_quote(reply: Reply, watches: [u64; 8], bytes: &[u8], text: &mut [u8])
 // Lays the line of what was refused before any call.
 pub fn put_refusal(refusal: Refusal, head: Head, watches: [u64; 8], text: &mut [u8]) -> Turn
     requires { ⌜ textBytes ≤ length (now text) ⌝ }
-    ensures { λ r. ⌜ ((t : Tables) (bytes : List ℕ) → Turned (refusedWith (number refusal) (player head t watches bytes)) (now (text .entry)) r t bytes (now (text .exit))) ⌝ }
+    ensures { λ r. ⌜ ((t : Tables) (bytes : List ℕ) → Turned
+        (refusedWith (number refusal) (player head t watches bytes)) (now (text .entry)) r t bytes
+        (now (text .exit))) ⌝ }
 {
     let number = [refusal.number()];
     Turn {

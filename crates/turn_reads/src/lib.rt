@@ -28,7 +28,11 @@ fn look(
     text: &mut [u8],
 ) -> Turn
     requires { ⌜ textBytes ≤ length (now text) ⌝ }
-    ensures { λ r. ⌜ ((bytes : List ℕ) → Turned (made (Call.Look n) (player head (tables (now (columns .entry)) (now (positions .entry)) (now («lower_ends» .entry)) (now («upper_ends» .entry))) watches bytes)) (now (text .entry)) r (tables (now (columns .entry)) (now (positions .entry)) (now («lower_ends» .entry)) (now («upper_ends» .entry))) bytes (now (text .exit))) ⌝ }
+    ensures { λ r. ⌜ ((bytes : List ℕ) → Turned
+        (made (Call.Look n) (player head (tables (now (columns .entry)) (now (positions .entry))
+        (now («lower_ends» .entry)) (now («upper_ends» .entry))) watches bytes)) (now (text .entry)) r
+        (tables (now (columns .entry)) (now (positions .entry)) (now («lower_ends» .entry)) (now («upper_ends» .entry)))
+        bytes (now (text .exit))) ⌝ }
 {
     let mut cells = [0u32; 1025];
     let reply = looking::look(
@@ -64,7 +68,11 @@ fn past(
     text: &mut [u8],
 ) -> Turn
     requires { ⌜ textBytes ≤ length (now text) ⌝ }
-    ensures { λ r. ⌜ ((bytes : List ℕ) → Turned (made (Call.Past n1 n2) (player head (tables (now (columns .entry)) (now (positions .entry)) (now («lower_ends» .entry)) (now («upper_ends» .entry))) watches bytes)) (now (text .entry)) r (tables (now (columns .entry)) (now (positions .entry)) (now («lower_ends» .entry)) (now («upper_ends» .entry))) bytes (now (text .exit))) ⌝ }
+    ensures { λ r. ⌜ ((bytes : List ℕ) → Turned
+        (made (Call.Past n1 n2) (player head (tables (now (columns .entry)) (now (positions .entry))
+        (now («lower_ends» .entry)) (now («upper_ends» .entry))) watches bytes)) (now (text .entry)) r
+        (tables (now (columns .entry)) (now (positions .entry)) (now («lower_ends» .entry)) (now («upper_ends» .entry)))
+        bytes (now (text .exit))) ⌝ }
 {
     let mut cells = [0u32; 1026];
     let reply = looking::past(
@@ -92,7 +100,8 @@ fn past(
 // Lays the line of a refusal; all else lays none.
 fn refuse(wanted: Wanted, head: Head, watches: [u64; 8], text: &mut [u8]) -> Turn
     requires { ⌜ textBytes ≤ length (now text) ⌝ }
-    ensures { λ r. ⌜ ((t : Tables) (bytes : List ℕ) → Turned (refused wanted (player head t watches bytes)) (now (text .entry)) r t bytes (now (text .exit))) ⌝ }
+    ensures { λ r. ⌜ ((t : Tables) (bytes : List ℕ) → Turned (refused wanted (player head t watches bytes))
+        (now (text .entry)) r t bytes (now (text .exit))) ⌝ }
 {
     match wanted {
         Wanted::Refused(refusal) => put_refusal(refusal, head, watches, text),
@@ -118,7 +127,11 @@ pub fn tell(
     text: &mut [u8],
 ) -> Turn
     requires { ⌜ textBytes ≤ length (now text) ⌝ }
-    ensures { λ r. ⌜ ((bytes : List ℕ) → Turned (looked wanted (player head (tables (now (columns .entry)) (now (positions .entry)) (now («lower_ends» .entry)) (now («upper_ends» .entry))) watches bytes)) (now (text .entry)) r (tables (now (columns .entry)) (now (positions .entry)) (now («lower_ends» .entry)) (now («upper_ends» .entry))) bytes (now (text .exit))) ⌝ }
+    ensures { λ r. ⌜ ((bytes : List ℕ) → Turned
+        (looked wanted (player head (tables (now (columns .entry)) (now (positions .entry)) (now («lower_ends» .entry))
+        (now («upper_ends» .entry))) watches bytes)) (now (text .entry)) r
+        (tables (now (columns .entry)) (now (positions .entry)) (now («lower_ends» .entry)) (now («upper_ends» .entry)))
+        bytes (now (text .exit))) ⌝ }
 {
     match wanted {
         Wanted::Look(n) => look(

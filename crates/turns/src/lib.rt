@@ -30,7 +30,11 @@ fn watch(
     text: &mut [u8],
 ) -> Turn
     requires { ⌜ (length (now bytes) ≤ changeRoom) × (textBytes ≤ length (now text)) ⌝ }
-    ensures { λ r. ⌜ Turned (made (Call.Watch desk n) (player head (tables (now (columns .entry)) (now (positions .entry)) (now («lower_ends» .entry)) (now («upper_ends» .entry))) watches (now (bytes .entry)))) (now (text .entry)) r (tables (now (columns .entry)) (now (positions .entry)) (now («lower_ends» .entry)) (now («upper_ends» .entry))) (now (bytes .exit)) (now (text .exit)) ⌝ }
+    ensures { λ r. ⌜ Turned (made (Call.Watch desk n)
+        (player head (tables (now (columns .entry)) (now (positions .entry)) (now («lower_ends» .entry))
+        (now («upper_ends» .entry))) watches (now (bytes .entry)))) (now (text .entry)) r
+        (tables (now (columns .entry)) (now (positions .entry)) (now («lower_ends» .entry)) (now («upper_ends» .entry)))
+        (now (bytes .exit)) (now (text .exit)) ⌝ }
 {
     let watched = watching::watch(
         head,
@@ -69,7 +73,11 @@ fn end(
     text: &mut [u8],
 ) -> Turn
     requires { ⌜ textBytes ≤ length (now text) ⌝ }
-    ensures { λ r. ⌜ ((bytes : List ℕ) → Turned (made (Call.End desk n) (player head (tables (now (columns .entry)) (now (positions .entry)) (now («lower_ends» .entry)) (now («upper_ends» .entry))) watches bytes)) (now (text .entry)) r (tables (now (columns .entry)) (now (positions .entry)) (now («lower_ends» .entry)) (now («upper_ends» .entry))) bytes (now (text .exit))) ⌝ }
+    ensures { λ r. ⌜ ((bytes : List ℕ) → Turned
+        (made (Call.End desk n) (player head (tables (now (columns .entry)) (now (positions .entry))
+        (now («lower_ends» .entry)) (now («upper_ends» .entry))) watches bytes)) (now (text .entry)) r
+        (tables (now (columns .entry)) (now (positions .entry)) (now («lower_ends» .entry)) (now («upper_ends» .entry)))
+        bytes (now (text .exit))) ⌝ }
 {
     let ended = watching::end(
         head,
@@ -108,7 +116,11 @@ fn pair(
     text: &mut [u8],
 ) -> Turn
     requires { ⌜ (length (now bytes) ≤ changeRoom) × (textBytes ≤ length (now text)) ⌝ }
-    ensures { λ r. ⌜ Turned (made (Call.Pair n1 n2) (player head (tables (now (columns .entry)) (now (positions .entry)) (now («lower_ends» .entry)) (now («upper_ends» .entry))) watches (now (bytes .entry)))) (now (text .entry)) r (tables (now (columns .entry)) (now (positions .entry)) (now («lower_ends» .entry)) (now («upper_ends» .entry))) (now (bytes .exit)) (now (text .exit)) ⌝ }
+    ensures { λ r. ⌜ Turned (made (Call.Pair n1 n2)
+        (player head (tables (now (columns .entry)) (now (positions .entry)) (now («lower_ends» .entry))
+        (now («upper_ends» .entry))) watches (now (bytes .entry)))) (now (text .entry)) r
+        (tables (now (columns .entry)) (now (positions .entry)) (now («lower_ends» .entry)) (now («upper_ends» .entry)))
+        (now (bytes .exit)) (now (text .exit)) ⌝ }
 {
     let reply = watching::pair(
         head,
@@ -143,7 +155,11 @@ fn unpair(
     text: &mut [u8],
 ) -> Turn
     requires { ⌜ textBytes ≤ length (now text) ⌝ }
-    ensures { λ r. ⌜ ((bytes : List ℕ) → Turned (made Call.Unpair (player head (tables (now (columns .entry)) (now (positions .entry)) (now («lower_ends» .entry)) (now («upper_ends» .entry))) watches bytes)) (now (text .entry)) r (tables (now (columns .entry)) (now (positions .entry)) (now («lower_ends» .entry)) (now («upper_ends» .entry))) bytes (now (text .exit))) ⌝ }
+    ensures { λ r. ⌜ ((bytes : List ℕ) → Turned
+        (made Call.Unpair (player head (tables (now (columns .entry)) (now (positions .entry))
+        (now («lower_ends» .entry)) (now («upper_ends» .entry))) watches bytes)) (now (text .entry)) r
+        (tables (now (columns .entry)) (now (positions .entry)) (now («lower_ends» .entry)) (now («upper_ends» .entry)))
+        bytes (now (text .exit))) ⌝ }
 {
     let reply = watching::unpair(head, columns, positions, lower_ends, upper_ends, watches);
     let answer = reply.answer;
@@ -170,7 +186,11 @@ fn observe_pair(
     text: &mut [u8],
 ) -> Turn
     requires { ⌜ (length (now bytes) ≤ changeRoom) × (textBytes ≤ length (now text)) ⌝ }
-    ensures { λ r. ⌜ Turned (pairObserved wanted (player head (tables (now (columns .entry)) (now (positions .entry)) (now («lower_ends» .entry)) (now («upper_ends» .entry))) watches (now (bytes .entry)))) (now (text .entry)) r (tables (now (columns .entry)) (now (positions .entry)) (now («lower_ends» .entry)) (now («upper_ends» .entry))) (now (bytes .exit)) (now (text .exit)) ⌝ }
+    ensures { λ r. ⌜ Turned (pairObserved wanted
+        (player head (tables (now (columns .entry)) (now (positions .entry)) (now («lower_ends» .entry))
+        (now («upper_ends» .entry))) watches (now (bytes .entry)))) (now (text .entry)) r
+        (tables (now (columns .entry)) (now (positions .entry)) (now («lower_ends» .entry)) (now («upper_ends» .entry)))
+        (now (bytes .exit)) (now (text .exit)) ⌝ }
 {
     match wanted {
         Wanted::Pair(n1, n2) => pair(
@@ -220,7 +240,11 @@ fn observe(
     text: &mut [u8],
 ) -> Turn
     requires { ⌜ (length (now bytes) ≤ changeRoom) × (textBytes ≤ length (now text)) ⌝ }
-    ensures { λ r. ⌜ Turned (observed wanted (player head (tables (now (columns .entry)) (now (positions .entry)) (now («lower_ends» .entry)) (now («upper_ends» .entry))) watches (now (bytes .entry)))) (now (text .entry)) r (tables (now (columns .entry)) (now (positions .entry)) (now («lower_ends» .entry)) (now («upper_ends» .entry))) (now (bytes .exit)) (now (text .exit)) ⌝ }
+    ensures { λ r. ⌜ Turned (observed wanted (player head
+        (tables (now (columns .entry)) (now (positions .entry)) (now («lower_ends» .entry)) (now («upper_ends» .entry)))
+        watches (now (bytes .entry)))) (now (text .entry)) r
+        (tables (now (columns .entry)) (now (positions .entry)) (now («lower_ends» .entry)) (now («upper_ends» .entry)))
+        (now (bytes .exit)) (now (text .exit)) ⌝ }
 {
     match wanted {
         Wanted::Watch(desk, n) => watch(
@@ -273,7 +297,11 @@ pub fn make_other(
     text: &mut [u8],
 ) -> Turn
     requires { ⌜ (length (now bytes) ≤ changeRoom) × (textBytes ≤ length (now text)) ⌝ }
-    ensures { λ r. ⌜ Turned (unquoted wanted (player head (tables (now (columns .entry)) (now (positions .entry)) (now («lower_ends» .entry)) (now («upper_ends» .entry))) watches (now (bytes .entry)))) (now (text .entry)) r (tables (now (columns .exit)) (now (positions .exit)) (now («lower_ends» .exit)) (now («upper_ends» .exit))) (now (bytes .exit)) (now (text .exit)) ⌝ }
+    ensures { λ r. ⌜ Turned (unquoted wanted (player head
+        (tables (now (columns .entry)) (now (positions .entry)) (now («lower_ends» .entry)) (now («upper_ends» .entry)))
+        watches (now (bytes .entry)))) (now (text .entry)) r
+        (tables (now (columns .exit)) (now (positions .exit)) (now («lower_ends» .exit)) (now («upper_ends» .exit)))
+        (now (bytes .exit)) (now (text .exit)) ⌝ }
 {
     match wanted {
         Wanted::Open(d, n, directions) => {

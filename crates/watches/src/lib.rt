@@ -159,7 +159,8 @@ pub fn find_record(records: &[Watch], desk: Desk, n: u32) -> bool
 // The records with a desk's watch of n put into its place.
 pub fn insert_record(records: &mut [Watch], desk: Desk, n: u32)
     requires { ⌜ (8 ≤ length (now records)) × Vacant (watched (now records)) ⌝ }
-    ensures { λ _. ⌜ watched (now (records .exit)) ≡ padded 8 (insert (watchOf desk n) (standing (watched (now (records .entry))))) (watched (now (records .entry))) ⌝ }
+    ensures { λ _. ⌜ watched (now (records .exit)) ≡ padded 8
+        (insert (watchOf desk n) (standing (watched (now (records .entry))))) (watched (now (records .entry))) ⌝ }
 {
     let watches = numbers(&*records);
     let after = insert(watches, desk, n);
@@ -169,7 +170,8 @@ pub fn insert_record(records: &mut [Watch], desk: Desk, n: u32)
 // The records without a desk's watch of n, with no gap, and empties behind them.
 pub fn remove_record(records: &mut [Watch], desk: Desk, n: u32)
     requires { ⌜ 8 ≤ length (now records) ⌝ }
-    ensures { λ _. ⌜ watched (now (records .exit)) ≡ padded 8 (without (watchOf desk n) (standing (watched (now (records .entry))))) (watched (now (records .entry))) ⌝ }
+    ensures { λ _. ⌜ watched (now (records .exit)) ≡ padded 8
+        (without (watchOf desk n) (standing (watched (now (records .entry))))) (watched (now (records .entry))) ⌝ }
 {
     let watches = numbers(&*records);
     let after = remove(watches, desk, n);

@@ -35,7 +35,9 @@ fn judge_watch_size(
     upper_ends: &[u32],
     watches: [u64; 8],
 ) -> Answer
-    ensures { λ r. ⌜ numberOf r ≡ watchfulAnswer head (tables (now (columns .entry)) (now (positions .entry)) (now («lower_ends» .entry)) (now («upper_ends» .entry))) watches ((outOfRange head n, number WindowSize) ∷ []) ⌝ }
+    ensures { λ r. ⌜ numberOf r ≡ watchfulAnswer head
+        (tables (now (columns .entry)) (now (positions .entry)) (now («lower_ends» .entry)) (now («upper_ends» .entry)))
+        watches ((outOfRange head n, number WindowSize) ∷ []) ⌝ }
 {
     with_test(
         judge_watchful(head, columns, positions, lower_ends, upper_ends, watches),
@@ -55,7 +57,9 @@ fn judge_end(
     upper_ends: &[u32],
     watches: [u64; 8],
 ) -> Answer
-    ensures { λ r. ⌜ numberOf r ≡ endAnswer head desk n (tables (now (columns .entry)) (now (positions .entry)) (now («lower_ends» .entry)) (now («upper_ends» .entry))) watches ⌝ }
+    ensures { λ r. ⌜ numberOf r ≡ endAnswer head desk n
+        (tables (now (columns .entry)) (now (positions .entry)) (now («lower_ends» .entry)) (now («upper_ends» .entry)))
+        watches ⌝ }
 {
     let answer = judge_watch_size(head, n, columns, positions, lower_ends, upper_ends, watches);
     with_test(answer, !find(watches, desk, n), Refusal::NotWatched)
@@ -73,7 +77,9 @@ fn judge_watch(
     watches: [u64; 8],
     room: usize,
 ) -> Answer
-    ensures { λ r. ⌜ numberOf r ≡ watchAnswer head desk n (tables (now (columns .entry)) (now (positions .entry)) (now («lower_ends» .entry)) (now («upper_ends» .entry))) watches room ⌝ }
+    ensures { λ r. ⌜ numberOf r ≡ watchAnswer head desk n
+        (tables (now (columns .entry)) (now (positions .entry)) (now («lower_ends» .entry)) (now («upper_ends» .entry)))
+        watches room ⌝ }
 {
     let sized = judge_watch_size(head, n, columns, positions, lower_ends, upper_ends, watches);
     let new = with_test(sized, find(watches, desk, n), Refusal::AlreadyWatched);
@@ -93,7 +99,9 @@ fn judge_pair(
     watches: [u64; 8],
     room: usize,
 ) -> Answer
-    ensures { λ r. ⌜ numberOf r ≡ pairAnswer head n1 n2 (tables (now (columns .entry)) (now (positions .entry)) (now («lower_ends» .entry)) (now («upper_ends» .entry))) watches room ⌝ }
+    ensures { λ r. ⌜ numberOf r ≡ pairAnswer head n1 n2
+        (tables (now (columns .entry)) (now (positions .entry)) (now («lower_ends» .entry)) (now («upper_ends» .entry)))
+        watches room ⌝ }
 {
     let judged = judge_watchful(head, columns, positions, lower_ends, upper_ends, watches);
     let beyond = out_of_sizes(head, 2, n1, n2);
@@ -113,7 +121,9 @@ fn judge_unpair(
     upper_ends: &[u32],
     watches: [u64; 8],
 ) -> Answer
-    ensures { λ r. ⌜ numberOf r ≡ unpairAnswer head (tables (now (columns .entry)) (now (positions .entry)) (now («lower_ends» .entry)) (now («upper_ends» .entry))) watches ⌝ }
+    ensures { λ r. ⌜ numberOf r ≡ unpairAnswer head
+        (tables (now (columns .entry)) (now (positions .entry)) (now («lower_ends» .entry)) (now («upper_ends» .entry)))
+        watches ⌝ }
 {
     let judged = judge_watchful(head, columns, positions, lower_ends, upper_ends, watches);
     let stands = head.n1 != 0;
@@ -132,7 +142,9 @@ pub fn watch(
     watches: [u64; 8],
     out: &mut [u8],
 ) -> WatchReply
-    ensures { λ r. ⌜ Watched head desk n (tables (now (columns .entry)) (now (positions .entry)) (now («lower_ends» .entry)) (now («upper_ends» .entry))) watches (now (out .entry)) (r .reply) (r .watches) (now (out .exit)) ⌝ }
+    ensures { λ r. ⌜ Watched head desk n (tables (now (columns .entry)) (now (positions .entry))
+        (now («lower_ends» .entry)) (now («upper_ends» .entry))) watches (now (out .entry)) (r .reply) (r .watches)
+        (now (out .exit)) ⌝ }
 {
     let room = out.len();
     let answer = judge_watch(
@@ -184,7 +196,8 @@ pub fn end(
     upper_ends: &[u32],
     watches: [u64; 8],
 ) -> WatchReply
-    ensures { λ r. ⌜ Ended head desk n (tables (now (columns .entry)) (now (positions .entry)) (now («lower_ends» .entry)) (now («upper_ends» .entry))) watches (r .reply) (r .watches) ⌝ }
+    ensures { λ r. ⌜ Ended head desk n (tables (now (columns .entry)) (now (positions .entry))
+        (now («lower_ends» .entry)) (now («upper_ends» .entry))) watches (r .reply) (r .watches) ⌝ }
 {
     let answer = judge_end(
         head,
@@ -225,7 +238,8 @@ pub fn pair(
     watches: [u64; 8],
     out: &mut [u8],
 ) -> Reply
-    ensures { λ r. ⌜ Paired head n1 n2 (tables (now (columns .entry)) (now (positions .entry)) (now («lower_ends» .entry)) (now («upper_ends» .entry))) watches (now (out .entry)) r (now (out .exit)) ⌝ }
+    ensures { λ r. ⌜ Paired head n1 n2 (tables (now (columns .entry)) (now (positions .entry))
+        (now («lower_ends» .entry)) (now («upper_ends» .entry))) watches (now (out .entry)) r (now (out .exit)) ⌝ }
 {
     let room = out.len();
     let answer = judge_pair(
@@ -269,7 +283,8 @@ pub fn unpair(
     upper_ends: &[u32],
     watches: [u64; 8],
 ) -> Reply
-    ensures { λ r. ⌜ Unpaired head (tables (now (columns .entry)) (now (positions .entry)) (now («lower_ends» .entry)) (now («upper_ends» .entry))) watches r ⌝ }
+    ensures { λ r. ⌜ Unpaired head (tables (now (columns .entry)) (now (positions .entry)) (now («lower_ends» .entry))
+        (now («upper_ends» .entry))) watches r ⌝ }
 {
     let answer = judge_unpair(head, columns, positions, lower_ends, upper_ends, watches);
     match answer {

@@ -24,10 +24,15 @@ pub fn write(
     watches: [u64; 8],
     out: &mut [u8],
 ) -> usize
-    requires { ⌜ Writable head (found .lower) (now retired) (now «lower_ends») (heldRows head (now quote) (now columns) (now «upper_ends»)) watches (length (now out)) ⌝ }
-    requires { ⌜ SoundIf (found .sound) head (now «lower_ends») (heldRows head (now quote) (now columns) (now «upper_ends»)) ⌝ }
-    ensures { λ r. ⌜ r ≡ length (changeBytes head (found .lower) (now («lower_ends» .entry)) (heldRows head (now (quote .entry)) (now (columns .entry)) (now («upper_ends» .entry))) watches) ⌝ }
-    ensures { λ r. ⌜ now (out .exit) ≡ laid (changeBytes head (found .lower) (now («lower_ends» .entry)) (heldRows head (now (quote .entry)) (now (columns .entry)) (now («upper_ends» .entry))) watches) (now (out .entry)) ⌝ }
+    requires { ⌜ Writable head (found .lower) (now retired) (now «lower_ends»)
+        (heldRows head (now quote) (now columns) (now «upper_ends»)) watches (length (now out)) ⌝ }
+    requires { ⌜ SoundIf (found .sound) head (now «lower_ends»)
+        (heldRows head (now quote) (now columns) (now «upper_ends»)) ⌝ }
+    ensures { λ r. ⌜ r ≡ length (changeBytes head (found .lower) (now («lower_ends» .entry))
+        (heldRows head (now (quote .entry)) (now (columns .entry)) (now («upper_ends» .entry))) watches) ⌝ }
+    ensures { λ r. ⌜ now (out .exit) ≡ laid (changeBytes head (found .lower) (now («lower_ends» .entry))
+        (heldRows head (now (quote .entry)) (now (columns .entry)) (now («upper_ends» .entry))) watches)
+        (now (out .entry)) ⌝ }
 {
     let sound = found.sound;
     let watched = write_all_changes(
