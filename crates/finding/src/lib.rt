@@ -3,7 +3,7 @@ ghost use mathlib.Core.Path.{_≡_};
 ghost use mathlib.Core.Bool.{cond};
 ghost use Prim.Native.Nat.{ℕ, suc, _+_, _-_, _*_, _≤_, _<_};
 ghost use lib.ListN.{length, set};
-ghost use Rattle.finding.specs.Found.{liveIn, takenLive, dullIn, rows, retired, youngest, Fits, Scan, Outcome, Room, Sound, Finds};
+ghost use Rattle.finding.specs.Found.{liveIn, takenLive, dullIn, rows, Fits, Scan, Outcome, Room, Sound, Finds};
 use dominance::compare;
 use dominance::compare_unrolled;
 

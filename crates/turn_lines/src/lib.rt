@@ -1,7 +1,7 @@
 // The lines of a call of a tape that was made, laid at the start of a lent text.
 ghost use mathlib.Core.Path.{_≡_};
 ghost use mathlib.Core.List.{List, _++_};
-ghost use Prim.Native.Nat.{ℕ, _+_, _*_, _≤_};
+ghost use Prim.Native.Nat.{ℕ, _+_, _≤_};
 ghost use lib.ListN.{length, take};
 ghost use Rattle.head.specs.declared.Head.{Head};
 ghost use Rattle.head.specs.Refusals.{number, numberOf, granted};
