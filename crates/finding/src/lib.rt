@@ -69,61 +69,7 @@ fn dull(
     all
 }
 
-// The same of rows of one column.
-fn dull_one(directions: u32, columns: &[u32], uppers: &[u32], quote: &[u32], from: usize) -> bool
-    requires { ⌜ Fits (rows 1 directions (now columns) (now uppers) (now quote)) (from + 64) ⌝ }
-    ensures { λ r. ⌜ r ≡ dullIn (rows 1 directions (now (columns .entry)) (now (uppers .entry)) (now (quote .entry)))
-        from 64 ⌝ }
-{
-    dull(directions, 1, columns, uppers, quote, from)
-}
-
-// The same of rows of two columns.
-fn dull_two(directions: u32, columns: &[u32], uppers: &[u32], quote: &[u32], from: usize) -> bool
-    requires { ⌜ Fits (rows 2 directions (now columns) (now uppers) (now quote)) (from + 64) ⌝ }
-    ensures { λ r. ⌜ r ≡ dullIn (rows 2 directions (now (columns .entry)) (now (uppers .entry)) (now (quote .entry)))
-        from 64 ⌝ }
-{
-    dull(directions, 2, columns, uppers, quote, from)
-}
-
-// The same of rows of three columns.
-fn dull_three(directions: u32, columns: &[u32], uppers: &[u32], quote: &[u32], from: usize) -> bool
-    requires { ⌜ Fits (rows 3 directions (now columns) (now uppers) (now quote)) (from + 64) ⌝ }
-    ensures { λ r. ⌜ r ≡ dullIn (rows 3 directions (now (columns .entry)) (now (uppers .entry)) (now (quote .entry)))
-        from 64 ⌝ }
-{
-    dull(directions, 3, columns, uppers, quote, from)
-}
-
-// The same of rows of four columns.
-fn dull_four(directions: u32, columns: &[u32], uppers: &[u32], quote: &[u32], from: usize) -> bool
-    requires { ⌜ Fits (rows 4 directions (now columns) (now uppers) (now quote)) (from + 64) ⌝ }
-    ensures { λ r. ⌜ r ≡ dullIn (rows 4 directions (now (columns .entry)) (now (uppers .entry)) (now (quote .entry)))
-        from 64 ⌝ }
-{
-    dull(directions, 4, columns, uppers, quote, from)
-}
-
-// The same of rows of five columns.
-fn dull_five(directions: u32, columns: &[u32], uppers: &[u32], quote: &[u32], from: usize) -> bool
-    requires { ⌜ Fits (rows 5 directions (now columns) (now uppers) (now quote)) (from + 64) ⌝ }
-    ensures { λ r. ⌜ r ≡ dullIn (rows 5 directions (now (columns .entry)) (now (uppers .entry)) (now (quote .entry)))
-        from 64 ⌝ }
-{
-    dull(directions, 5, columns, uppers, quote, from)
-}
-
-// The same of rows of six columns.
-fn dull_six(directions: u32, columns: &[u32], uppers: &[u32], quote: &[u32], from: usize) -> bool
-    requires { ⌜ Fits (rows 6 directions (now columns) (now uppers) (now quote)) (from + 64) ⌝ }
-    ensures { λ r. ⌜ r ≡ dullIn (rows 6 directions (now (columns .entry)) (now (uppers .entry)) (now (quote .entry)))
-        from 64 ⌝ }
-{
-    dull(directions, 6, columns, uppers, quote, from)
-}
-
-// The same, where the number of columns is one of 01's by a function of its own: the loop over the columns is then unrolled, and rows are
+// The same, where the number of columns is one of 01's by a call of its own: the loop over the columns is then unrolled, and rows are
 // compared side by side.
 pub fn dull_columns(
     directions: u32,
@@ -138,22 +84,22 @@ pub fn dull_columns(
         from 64 ⌝ }
 {
     if d == 1 {
-        return dull_one(directions, columns, uppers, quote, from);
+        return dull(directions, 1, columns, uppers, quote, from);
     }
     if d == 2 {
-        return dull_two(directions, columns, uppers, quote, from);
+        return dull(directions, 2, columns, uppers, quote, from);
     }
     if d == 3 {
-        return dull_three(directions, columns, uppers, quote, from);
+        return dull(directions, 3, columns, uppers, quote, from);
     }
     if d == 4 {
-        return dull_four(directions, columns, uppers, quote, from);
+        return dull(directions, 4, columns, uppers, quote, from);
     }
     if d == 5 {
-        return dull_five(directions, columns, uppers, quote, from);
+        return dull(directions, 5, columns, uppers, quote, from);
     }
     if d == 6 {
-        return dull_six(directions, columns, uppers, quote, from);
+        return dull(directions, 6, columns, uppers, quote, from);
     }
     dull(directions, d, columns, uppers, quote, from)
 }
