@@ -293,8 +293,8 @@ def shared_walk(name):
           "  goes : (r : List ℕ) (u : Val) → ent 𝓤 (sep 𝓤 (mean 𝓤 H A Tokens) (sem 𝓤 H A (Passed r u))) (Callee 𝓤 H A mem run .pre (to r u))",
           "  goes r u = qed W (Tokens ∷ ‵ (Passed r u) ∷ []) ∵ join ! $ frame ! $ nothing ! $ done !", "",
           "  abbrev Ends : Type 0", "  Ends = " + product(["List ℕ" if n in w.kept else "Unit {0}" for n in order]), "",
-          f"  abbrev Said : List ℕ → {w.result} → Ends → Type 0",
-          f"  Said r j zs = {w.promise} " + w.promised("(take (length ys) r)", "j", {n: f"(zs {'.1 ' * order.index(n)}.0)" for n in w.kept}), "")
+          f"  abbrev Promised : List ℕ → {w.result} → Ends → Type 0",
+          f"  Promised r j zs = {w.promise} " + w.promised("(take (length ys) r)", "j", {n: f"(zs {'.1 ' * order.index(n)}.0)" for n in w.kept}), "")
     context, gather = ["all"] + lives[::-1] + [records], ["split !", at(1)] * len(lives)
     for i in range(k - 1, -1, -1):
         gather += [at(context.index(i), 0), "join !"]
@@ -319,7 +319,7 @@ def shared_walk(name):
           f"        {at(1, 0)} $ use2 W (raw (Callee 𝓤 H A mem run .pre (to r u))) (goes r u) $",
           f"        calls-at ! fm (Callee 𝓤 H A mem run) known-callee (to r u) {w.operands(looks)} (λ c.")
     kept = len(w.kept)
-    w.answered(order, "Tokens", "lasts callee.ended lives (asked r) zs", "Said r j zs", "said", w.place(0, kept + 3))
+    w.answered(order, "Tokens", "lasts callee.ended lives (asked r) zs", "Promised r j zs", "said", w.place(0, kept + 3))
     places = [w.place(i, kept + 3) for i in range(w.locals)]
     w.leave(places[::-1], [(p, p + 1) for p in places], [0, kept + 1] + list(range(kept, 0, -1)), order, f"({name}-records ys {w.of} e said)", 6)
     w.close("shared-records", [("known-numbers", "#watches·numbers", "Numbers", "numbers"), ("known-callee", f"#lending·{name}-lent", "Callee", "callee")])
@@ -354,8 +354,8 @@ def valued_walk(name):
           "  goes : (ν l : ℕ) (δ : GName) → ent 𝓤 (sep 𝓤 (mean 𝓤 H A (Tokens ν)) (sem 𝓤 H A (Passed ν l δ))) (Callee 𝓤 H A mem run .pre (to ν l δ))",
           "  goes ν l δ = qed W (Tokens ν ∷ ‵ (Passed ν l δ) ∷ []) ∵ join ! $ frame ! $ nothing ! $ done !", "",
           "  abbrev Ends : Type 0", "  Ends = " + product(["List ℕ" if n in w.kept else "Unit {0}" for n in order]), "",
-          f"  abbrev Said : {w.result} → Ends → Type 0",
-          f"  Said j zs = {w.promise} " + w.promised("(watched records)", "j", {n: f"(zs {'.1 ' * order.index(n)}.0)" for n in w.kept}), "")
+          f"  abbrev Promised : {w.result} → Ends → Type 0",
+          f"  Promised j zs = {w.promise} " + w.promised("(watched records)", "j", {n: f"(zs {'.1 ' * order.index(n)}.0)" for n in w.kept}), "")
     w.exits([f"‵ (flft κ{low(i)} q{low(i)})" for i in range(k)], ["nothing !"] + sum([[at(i, 0), "join !"] for i in range(k, 0, -1)], []))
     w.add(f"  module _ {w.fits()}",
           f"      (C : Calls 𝓤 H) (Λ : Loops 𝓤 H) (fm : FmC 𝓤 H (W .laws) C) (known : Triple 𝓤 (C #shared-records·{name}) (Callee 𝓤 H A mem run)) where",
@@ -386,7 +386,7 @@ def valued_walk(name):
           f"        lft-new ! tt (λ ν. {at(w.place(held, off) + 1)} $ shows-records ! tt (ν ∷ []) l{l} records eight is-records (λ δ.",
           f"        {steps(gather + [at(1, 0)])}", f"        use2 W (raw (Callee 𝓤 H A mem run .pre (to ν l{l} δ))) (goes ν l{l} δ) $",
           f"        calls-at ! fm (Callee 𝓤 H A mem run) known (to ν l{l} δ) {w.operands(looks)} (λ c.")
-    w.answered(order, "Tokens ν", f"lasts callee.ended (lives ν) (asked l{l} δ) zs", "Said j zs", "kept", w.place(0, kept + 5) - 1)
+    w.answered(order, "Tokens ν", f"lasts callee.ended (lives ν) (asked l{l} δ) zs", "Promised j zs", "kept", w.place(0, kept + 5) - 1)
     apart = (["true"] + lives[::-1]).index("ν")
     w.add("        -- ν ends, and they come back",
           f"        {steps([at(0)] + ['split !', at(1)] * (k + 1) + [at(apart), 'lft-end ! tt', at(0, 2 + k + kept)])} shown-back ! tt l{l} records eight $")

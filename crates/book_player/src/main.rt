@@ -1,6 +1,6 @@
 // The book player: makes the calls that the lines of standard input ask for on real buffers, and prints what was seen
 // of each.
-use player_input::Stand;
+use player_input::Cursor;
 use player_input::next_line;
 use player_output::Print;
 use player_output::flush;
@@ -26,13 +26,13 @@ fn main() {
         used: 0,
         failed: false,
     };
-    let mut stand = Stand::first();
+    let mut cursor = Cursor::first();
     let mut turns = u64::MAX;
-    while 0 < turns && !(stand.over | print.failed) {
+    while 0 < turns && !(cursor.over | print.failed) {
         turns -= 1;
-        let next = next_line(stand, &mut text);
+        let next = next_line(cursor, &mut text);
         let line = next.line;
-        stand = next.stand;
+        cursor = next.cursor;
         state = play(
             state,
             line,
@@ -45,7 +45,7 @@ fn main() {
         );
         print = print_line(
             print,
-            stand.found,
+            cursor.found,
             state,
             &columns,
             &positions,

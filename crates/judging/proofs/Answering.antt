@@ -110,7 +110,7 @@ pub record Passed (h : Head) (t : Tables) : Type 0 where
   pub settings : Within (h .dimensions) (h .capacity)
   pub long : Long t (h .dimensions) (h .capacity)
   pub untorn : tornRows h (bookRows h t) ≡ false
-  pub pair-fair : tornPair h ≡ false
+  pub pair-untorn : tornPair h ≡ false
   pub whole : Whole h (bookRows h t)
   pub few-held : h .held ≤ h .capacity
 
@@ -154,7 +154,7 @@ module _ (h : Head) (t : Tables) where
         settings = within;
         long = long-enough t (h .dimensions) (h .capacity) l;
         untorn = untorn;
-        pair-fair = none-right (tornRows h (bookRows h t)) (tornPair h) r;
+        pair-untorn = none-right (tornRows h (bookRows h t)) (tornPair h) r;
         whole = whole;
         few-held = omega (arith, as-many, window-few (h .capacity) (within .some-capacity) (h .newest));
       }

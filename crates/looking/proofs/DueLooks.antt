@@ -66,7 +66,7 @@ module _ (h : Head) (t : Tables) where
   due-passed {a} e f some =
       let p = answer-passed h t [] (accepted-number a e f) .0 in
       let stands : pairStands h ≡ true = rw (ne-eqb (h .n1) 0 some) in
-      record { passed = p; pair = pair-within h (p .pair-fair) stands; stands = stands }
+      record { passed = p; pair = pair-within h (p .pair-untorn) stands; stands = stands }
 
   -- the rows that can be due lie within the cells
   pub due-window : Standing → Window (first h t) (windowStart (h .newest) (h .n1 - 1)) (h .newest) (t .lowerEnds) (t .lowerEnds)

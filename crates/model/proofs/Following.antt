@@ -25,10 +25,10 @@ use Rattle.model.specs.Changes.{join, pairJoin, allChanges, pairChanges,
 use Rattle.model.specs.Reference.{Reference, newest, over, skylineOf, pastOf, paired, pairOf, outside, outsidePair, withQuote, withWatched, withPairOf, opening, tells, foretells, referenceStep}
 use Rattle.model.specs.Book.{isWatch}
 use Rattle.model.specs.Calls.{Call, Open, Quote, Look, Watch, End, Past, Pair, Unpair, Due, Preview, Outputs, Lent, Seen, lengthsOf, expectedStep}
-use Rattle.model.specs.Watcher.{Follower, OfSize, OfPair, Held, Nothing, Holding, heedsAll, reads, sizedFor, pairedFor, watcherStep, watchedFor, listFor, heldBy}
+use Rattle.model.specs.Watcher.{Follower, OfSize, OfPair, Held, Nothing, Holding, appliedAll, reads, sizedFor, pairedFor, watcherStep, watchedFor, listFor, heldBy}
 use Rattle.model.proofs.Desks.{size-of-watch, watch-parts, watch-is}
 use Rattle.model.proofs.Simulation.{Bounded, in-range, in-unit, in-pair-range}
-use Rattle.model.proofs.Heeding.{PutsIn, Ignores, first-heeded, unheeded, same-size, size-puts, size-keeps-join, sized-once, size-keeps-pair-join, pair-keeps-join, pair-puts, size-led, pair-led}
+use Rattle.model.proofs.Applying.{PutsIn, Ignores, first-applied, unapplied, same-size, size-puts, size-keeps-join, sized-once, size-keeps-pair-join, pair-keeps-join, pair-puts, size-led, pair-led}
 use Rattle.model.proofs.ReadBack.{Sent, read-back, sent-joins, sent-pair-joins, sent-both}
 
 -- ---- what is read
@@ -37,7 +37,7 @@ module _ (f : Follower) where
   -- what is held after messages
   heldAfter : List Message → Held → Held
   heldAfter ms Nothing = Nothing
-  heldAfter ms (Holding held) = Holding (heedsAll f held ms)
+  heldAfter ms (Holding held) = Holding (appliedAll f held ms)
 
   -- frames at the start of an output are read as their messages
   reads-frames : (ms : List Message) → Sent ms → (seen : Seen) (before : List ℕ)
@@ -47,21 +47,21 @@ module _ (f : Follower) where
   reads-frames ms s seen before c o Nothing = refl
   reads-frames ms s seen before c o (Holding held) =
       rw (c, o, take-append-seam (frames ms) (drop (length (frames ms)) before))
-      (ap (λ (l : List Message). Holding (heedsAll f held l)) (read-back ms s [] (length (frames ms)) (le-refl (length (frames ms)))))
+      (ap (λ (l : List Message). Holding (appliedAll f held l)) (read-back ms s [] (length (frames ms)) (le-refl (length (frames ms)))))
 
   -- where nothing is written, nothing changes
   reads-nothing : (seen : Seen) → seen .outcome .count ≡ 0 → (held : Held) → reads f seen held ≡ held
-  unfolding reads messagesFrom heedsAll
+  unfolding reads messagesFrom appliedAll
   reads-nothing seen c Nothing = refl
   reads-nothing seen c (Holding held) = rw c
 
   -- messages that lead from the list before to the list after
   held-on : (s next : Reference) (ms : List Message) → watchedFor f next ≡ watchedFor f s
-      → (watchedFor f s ≡ true → heedsAll f (listFor f s) ms ≡ listFor f next) → heldAfter ms (heldBy f s) ≡ heldBy f next
+      → (watchedFor f s ≡ true → appliedAll f (listFor f s) ms ≡ listFor f next) → heldAfter ms (heldBy f s) ≡ heldBy f next
   unfolding heldAfter heldBy
   held-on s next ms e g = rw e (go (watchedFor f s) g)
     where
-      go : (b : Bool) → (b ≡ true → heedsAll f (listFor f s) ms ≡ listFor f next)
+      go : (b : Bool) → (b ≡ true → appliedAll f (listFor f s) ms ≡ listFor f next)
           → heldAfter ms (cond b (Holding (listFor f s)) Nothing) ≡ cond b (Holding (listFor f next)) Nothing
       go true h = ap Holding (h refl)
       go false h = refl
@@ -127,7 +127,7 @@ module _ (s : Reference) (ok : Bounded s) where
     quote-keeps OfPair = refl
 
     -- they lead each watcher from the list before to the list after
-    quote-leads : (f : Follower) → watchedFor f s ≡ true → heedsAll f (listFor f s) messages ≡ listFor f (withQuote s x)
+    quote-leads : (f : Follower) → watchedFor f s ≡ true → appliedAll f (listFor f s) messages ≡ listFor f (withQuote s x)
     unfolding watchedFor listFor
     quote-leads (OfSize desk n) t =
         size-led 1 lastPosition (s .watched) (skylineOf s) (skylineOf (withQuote s x)) (pairOf s) (pairOf (withQuote s x))
@@ -154,10 +154,10 @@ begun : (f : Follower) (s : Reference) (own : Bool) (joins : ℕ → Message) (l
 unfolding heldAfter heldBy
 begun f s true joins list next b r =
     let m = b .mine refl in
-    rw (m .1, m .2) (ap Holding (first-heeded 1 lastPosition f (m .0) list r))
+    rw (m .1, m .2) (ap Holding (first-applied 1 lastPosition f (m .0) list r))
 begun f s false joins list next b r =
     let m = b .others refl in
-    held-on f s next (map joins list) (m .1) (λ t. unheeded f (m .0) list (listFor f s) ∙ sym (m .2))
+    held-on f s next (map joins list) (m .1) (λ t. unapplied f (m .0) list (listFor f s) ∙ sym (m .2))
 
 -- some watch passes a test, with one more
 any-insert : (f : ℕ → Bool) (w : ℕ) (ws : List ℕ) → any f (insert w ws) ≡ f w || any f ws

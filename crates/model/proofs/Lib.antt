@@ -18,7 +18,7 @@ pub mod Reached
 pub mod Places
 pub mod Kept
 pub mod ChangeFrames
-pub mod Heeding
+pub mod Applying
 pub mod ReadBack
 pub mod Following
 pub mod Watcher

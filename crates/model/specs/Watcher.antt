@@ -27,32 +27,32 @@ unfoldable pub applied : ℕ → ℕ → ℕ → ℕ → List ℕ → List ℕ
 applied leaves joins kind p held = cond (eqb kind leaves) (without p held) (cond (eqb kind joins) (insert p held) held)
 
 -- the list that a watcher holds after a change of the list of m
-unfoldable pub heedsChange : Follower → ℕ → ℕ → ℕ → List ℕ → List ℕ
-heedsChange (OfSize desk n) k m p held =
+unfoldable pub appliedChange : Follower → ℕ → ℕ → ℕ → List ℕ → List ℕ
+appliedChange (OfSize desk n) k m p held =
     cond (eqb m n) (applied (leaveKindOf (deskNumber desk)) (joinKindOf (deskNumber desk)) k p held) held
-heedsChange OfPair k m p held = held
+appliedChange OfPair k m p held = held
 
 -- the list that a watcher holds after a change of the past list of the pair
-unfoldable pub heedsPosition : Follower → ℕ → ℕ → List ℕ → List ℕ
-heedsPosition (OfSize desk n) k p held = held
-heedsPosition OfPair k p held = applied pairLeaveKind pairJoinKind k p held
+unfoldable pub appliedPosition : Follower → ℕ → ℕ → List ℕ → List ℕ
+appliedPosition (OfSize desk n) k p held = held
+appliedPosition OfPair k p held = applied pairLeaveKind pairJoinKind k p held
 
 -- the list that a watcher holds after a message
-unfoldable pub heeds : Follower → List ℕ → Message → List ℕ
-heeds f held (Quote k) = held
-heeds f held (Sized k m) = held
-heeds f held (Change k m p) = heedsChange f k m p held
-heeds f held (Pair k n1 n2) = held
-heeds f held (Bare k) = held
-heeds f held (Position k p) = heedsPosition f k p held
-heeds f held (Open d N directions) = held
-heeds f held End = held
-heeds f held (Refused k) = held
+unfoldable pub appliedMessage : Follower → List ℕ → Message → List ℕ
+appliedMessage f held (Quote k) = held
+appliedMessage f held (Sized k m) = held
+appliedMessage f held (Change k m p) = appliedChange f k m p held
+appliedMessage f held (Pair k n1 n2) = held
+appliedMessage f held (Bare k) = held
+appliedMessage f held (Position k p) = appliedPosition f k p held
+appliedMessage f held (Open d N directions) = held
+appliedMessage f held End = held
+appliedMessage f held (Refused k) = held
 
 -- the list that a watcher holds after messages
-unfoldable pub heedsAll : Follower → List ℕ → List Message → List ℕ
-heedsAll f held [] = held
-heedsAll f held (m ∷ ms) = heedsAll f (heeds f held m) ms
+unfoldable pub appliedAll : Follower → List ℕ → List Message → List ℕ
+appliedAll f held [] = held
+appliedAll f held (m ∷ ms) = appliedAll f (appliedMessage f held m) ms
 
 -- what a watcher holds: nothing while its list is not watched, else a list
 pub data Held : Type 0 where
@@ -64,7 +64,7 @@ unfoldable pub reads : Follower → Seen → Held → Held
 reads f seen Nothing = Nothing
 reads f seen (Holding held) =
     let bytes = take (seen .outcome .count) (seen .outputs .bytes) in
-    Holding (heedsAll f held (messagesFrom (length bytes) bytes 0))
+    Holding (appliedAll f held (messagesFrom (length bytes) bytes 0))
 
 -- this watch is that of the watcher: of its desk and of its n
 unfoldable pub sizedFor : Follower → ℕ → Bool

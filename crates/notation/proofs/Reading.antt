@@ -98,11 +98,11 @@ module _ (f : Fields) where
     unfolding sizedOf
     sized-of t = rw t
 
-    pub said-unfair : not (f .fair) || f .empty ≡ true → nothing ≡ said sign f
+    pub said-invalid : not (f .valid) || f .empty ≡ true → nothing ≡ said sign f
     unfolding said
-    said-unfair t = rw t
+    said-invalid t = rw t
 
-    module _ (t : not (f .fair) || f .empty ≡ false) where
+    module _ (t : not (f .valid) || f .empty ≡ false) where
       pub said-opening : sign ≡ 79 → opening f ≡ said sign f
       unfolding said
       said-opening e = rw (t, e)

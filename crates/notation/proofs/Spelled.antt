@@ -17,7 +17,7 @@ use Rattle.frames.specs.declared.Message.the-variants.{Quote, Sized, Pair, Bare
 use Rattle.frame_kinds.specs.Kinds.{lookKind, watchKind, unwatchKind, watchTwoKind, unwatchTwoKind, pairKind, unpairKind, pastKind}
 use Rattle.notation.specs.declared.Fields.{Fields}
 use Rattle.notation.specs.Fields.{noField, grown, after, fieldsFrom}
-use Rattle.notation.specs.declared.Said.{Said}
+use Rattle.notation.specs.declared.Parsed.{Parsed}
 use Rattle.notation.specs.Lines.{opens, opening, quoteOf, pairs, pairOf, bareOf, fits, ofNumber, sizedOf, said, marked, signOf, saidBy}
 use Rattle.notation.proofs.Steps.{begun-next, grown-next, after-space, after-digit}
 
@@ -29,7 +29,7 @@ fields-append f (x ∷ xs) ys = fields-append (after f x) xs ys
 
 -- the fields with numbers before the last, the last number and what stands behind it
 unfoldable pub fieldsWith : Bool → List ℕ → ℕ → List ℕ → Fields
-fieldsWith empty before number behind = record { fair = true; empty = empty; count = length before + 1; numbers = before ++ (number ∷ behind) }
+fieldsWith empty before number behind = record { valid = true; empty = empty; count = length before + 1; numbers = before ++ (number ∷ behind) }
 
 module _ (before behind : List ℕ) (h : length before < 6) where
   -- a digit behind a number that goes on
@@ -44,7 +44,7 @@ module _ (before behind : List ℕ) (h : length before < 6) where
       sym (after-digit f (48 + digit) refl (omega arith) (omega arith))
       ∙ ap (grown f) e
       ∙ sym (grown-next f digit (omega arith) (omega arith) (rw here z) {value = number * 10 + digit} (rw here refl) (omega arith))
-      ∙ ap (λ (l : List ℕ). record { fair = true; empty = false; count = length before + 1; numbers = l })
+      ∙ ap (λ (l : List ℕ). record { valid = true; empty = false; count = length before + 1; numbers = l })
       (ap (λ (i : ℕ). set (before ++ (number ∷ behind)) i (number * 10 + digit)) last ∙ set-at before number behind (number * 10 + digit) (length before) refl)
 
   -- the digits of a number
@@ -74,7 +74,7 @@ module _ (before behind : List ℕ) (h : length before < 6) where
 
 -- the fields that are these numbers, and what stands behind them
 unfoldable pub fieldsOf : List ℕ → List ℕ → Fields
-fieldsOf numbers behind = record { fair = true; empty = false; count = length numbers; numbers = numbers ++ behind }
+fieldsOf numbers behind = record { valid = true; empty = false; count = length numbers; numbers = numbers ++ behind }
 
 -- one more field
 field-read : (before behind : List ℕ) (n : ℕ) → length before < 6 → n < 4294967296 → fieldsFrom (fieldsOf before (0 ∷ behind)) (field n) ≡ fieldsOf (before ++ (n ∷ [])) behind
@@ -157,30 +157,30 @@ module _ (n : ℕ) (h : n < 65536) where
   -- the lines of a look, a watch and the end of a watch are read back
   pub look-read : saidBy (spelled 76 (n ∷ [])) .message ≡ Sized lookKind n
   unfolding noField said sizedOf fieldsOf fits ofNumber zeros
-  look-read = ap (λ (s : Said). s .message) (line-read 76 (n ∷ []) zeros refl (omega arith) one-small) ∙ rw (lt-ltb n 65536 h)
+  look-read = ap (λ (s : Parsed). s .message) (line-read 76 (n ∷ []) zeros refl (omega arith) one-small) ∙ rw (lt-ltb n 65536 h)
 
   pub watch-read : saidBy (spelled 87 (n ∷ [])) .message ≡ Sized watchKind n
   unfolding noField said sizedOf fieldsOf fits ofNumber zeros
-  watch-read = ap (λ (s : Said). s .message) (line-read 87 (n ∷ []) zeros refl (omega arith) one-small) ∙ rw (lt-ltb n 65536 h)
+  watch-read = ap (λ (s : Parsed). s .message) (line-read 87 (n ∷ []) zeros refl (omega arith) one-small) ∙ rw (lt-ltb n 65536 h)
 
   pub end-read : saidBy (spelled 85 (n ∷ [])) .message ≡ Sized unwatchKind n
   unfolding noField said sizedOf fieldsOf fits ofNumber zeros
-  end-read = ap (λ (s : Said). s .message) (line-read 85 (n ∷ []) zeros refl (omega arith) one-small) ∙ rw (lt-ltb n 65536 h)
+  end-read = ap (λ (s : Parsed). s .message) (line-read 85 (n ∷ []) zeros refl (omega arith) one-small) ∙ rw (lt-ltb n 65536 h)
 
   -- so are desk two's
   pub watch-two-read : saidBy (spelledTwo 87 (n ∷ [])) .message ≡ Sized watchTwoKind n
   unfolding noField said sizedOf fieldsOf fits ofNumber zeros
-  watch-two-read = ap (λ (s : Said). s .message) (line-read-two 87 (n ∷ []) zeros refl (omega arith) one-small) ∙ rw (lt-ltb n 65536 h)
+  watch-two-read = ap (λ (s : Parsed). s .message) (line-read-two 87 (n ∷ []) zeros refl (omega arith) one-small) ∙ rw (lt-ltb n 65536 h)
 
   pub end-two-read : saidBy (spelledTwo 85 (n ∷ [])) .message ≡ Sized unwatchTwoKind n
   unfolding noField said sizedOf fieldsOf fits ofNumber zeros
-  end-two-read = ap (λ (s : Said). s .message) (line-read-two 85 (n ∷ []) zeros refl (omega arith) one-small) ∙ rw (lt-ltb n 65536 h)
+  end-two-read = ap (λ (s : Parsed). s .message) (line-read-two 85 (n ∷ []) zeros refl (omega arith) one-small) ∙ rw (lt-ltb n 65536 h)
 
 -- the line of an opening is read back
 pub opening-read : (d N directions : ℕ) → d < 256 → N < 65536 → directions < 256 → saidBy (spelled 79 (d ∷ N ∷ directions ∷ [])) .message ≡ Open d N directions
 unfolding noField said fieldsOf opening opens small
 opening-read d N directions h k j =
-    ap (λ (s : Said). s .message)
+    ap (λ (s : Parsed). s .message)
     (line-read 79 (d ∷ N ∷ directions ∷ []) (0 ∷ 0 ∷ 0 ∷ []) refl (omega arith)
     (rw (lt-ltb d 4294967296 (omega arith), lt-ltb N 4294967296 (omega arith), lt-ltb directions 4294967296 (omega arith))))
     ∙ rw (lt-ltb d 256 h, lt-ltb N 65536 k, lt-ltb directions 256 j)
@@ -190,7 +190,7 @@ module _ (n1 n2 : ℕ) (h : n1 < 65536) (k : n2 < 65536) where
   two-read : (letter : ℕ) → saidBy (spelled letter (n1 ∷ n2 ∷ [])) .message ≡ said letter (fieldsOf (n1 ∷ n2 ∷ []) (0 ∷ 0 ∷ 0 ∷ 0 ∷ []))
   unfolding noField small
   two-read letter =
-      ap (λ (s : Said). s .message)
+      ap (λ (s : Parsed). s .message)
       (line-read letter (n1 ∷ n2 ∷ []) (0 ∷ 0 ∷ 0 ∷ 0 ∷ []) refl (omega arith)
       (rw (lt-ltb n1 4294967296 (omega arith), lt-ltb n2 4294967296 (omega arith))))
 

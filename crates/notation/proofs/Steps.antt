@@ -8,31 +8,31 @@ use lib.Dec.{eqb}
 use lib.ListN.{getD, set}
 use borrow.Author.Tests.{lt-ltb, le-ltb, le-leb, lt-leb, eq-eqb, ne-eqb}
 use Rattle.notation.specs.declared.Fields.{Fields}
-use Rattle.notation.specs.Fields.{unfair, begun, grown, after}
+use Rattle.notation.specs.Fields.{invalid, begun, grown, after}
 
 module _ (f : Fields) where
   -- ---- a space
 
-  pub begun-empty : f .empty ≡ true → unfair f ≡ begun f
+  pub begun-empty : f .empty ≡ true → invalid f ≡ begun f
   unfolding begun
   begun-empty e = rw e
 
-  pub begun-full : f .empty ≡ false → 6 ≤ f .count → unfair f ≡ begun f
+  pub begun-full : f .empty ≡ false → 6 ≤ f .count → invalid f ≡ begun f
   unfolding begun
   begun-full e h = rw (e, le-leb 6 (f .count) h)
 
-  pub begun-next : f .empty ≡ false → f .count < 6 → record { fair = true; empty = true; count = f .count + 1; numbers = f .numbers } ≡ begun f
+  pub begun-next : f .empty ≡ false → f .count < 6 → record { valid = true; empty = true; count = f .count + 1; numbers = f .numbers } ≡ begun f
   unfolding begun
   begun-next e h = rw (e, lt-leb 6 (f .count) h)
 
   -- ---- a digit
 
   module _ (digit : ℕ) where
-    pub grown-none : f .count < 1 → unfair f ≡ grown f digit
+    pub grown-none : f .count < 1 → invalid f ≡ grown f digit
     unfolding grown
     grown-none h = rw (lt-ltb (f .count) 1 h)
 
-    pub grown-many : 1 ≤ f .count → 6 < f .count → unfair f ≡ grown f digit
+    pub grown-many : 1 ≤ f .count → 6 < f .count → invalid f ≡ grown f digit
     unfolding grown
     grown-many h k = rw (le-ltb (f .count) 1 h, lt-ltb 6 (f .count) k)
 
@@ -41,36 +41,36 @@ module _ (f : Fields) where
       abbrev number : ℕ
       number = getD (f .numbers) (f .count - 1) 0
 
-      pub grown-zero : not (f .empty) && eqb number 0 ≡ true → unfair f ≡ grown f digit
+      pub grown-zero : not (f .empty) && eqb number 0 ≡ true → invalid f ≡ grown f digit
       unfolding grown
       grown-zero z = rw (le-ltb (f .count) 1 h, le-ltb 6 (f .count) k, z)
 
       module _ (z : not (f .empty) && eqb number 0 ≡ false) {value : ℕ} (e : value ≡ number * 10 + digit) where
-        pub grown-large : 4294967295 < value → unfair f ≡ grown f digit
+        pub grown-large : 4294967295 < value → invalid f ≡ grown f digit
         unfolding grown
         grown-large v = rw (le-ltb (f .count) 1 h, le-ltb 6 (f .count) k, z, ← e, lt-ltb 4294967295 value v)
 
-        pub grown-next : value ≤ 4294967295 → record { fair = true; empty = false; count = f .count; numbers = set (f .numbers) (f .count - 1) value } ≡ grown f digit
+        pub grown-next : value ≤ 4294967295 → record { valid = true; empty = false; count = f .count; numbers = set (f .numbers) (f .count - 1) value } ≡ grown f digit
         unfolding grown
         grown-next v = rw (le-ltb (f .count) 1 h, le-ltb 6 (f .count) k, z, ← e, le-ltb 4294967295 value v)
 
   -- ---- any byte
 
   module _ (byte : ℕ) where
-    pub after-unfair : f .fair ≡ false → f ≡ after f byte
+    pub after-invalid : f .valid ≡ false → f ≡ after f byte
     unfolding after
-    after-unfair e = rw e
+    after-invalid e = rw e
 
-    module _ (e : f .fair ≡ true) where
+    module _ (e : f .valid ≡ true) where
       pub after-space : byte ≡ 32 → begun f ≡ after f byte
       unfolding after
       after-space s = rw (e, eq-eqb byte 32 s)
 
-      pub after-low : byte < 48 → (byte ≡ 32 → ⊥) → unfair f ≡ after f byte
+      pub after-low : byte < 48 → (byte ≡ 32 → ⊥) → invalid f ≡ after f byte
       unfolding after
       after-low h s = rw (e, ne-eqb byte 32 s, lt-ltb byte 48 h)
 
-      pub after-high : 57 < byte → unfair f ≡ after f byte
+      pub after-high : 57 < byte → invalid f ≡ after f byte
       unfolding after
       after-high h = rw (e, ne-eqb byte 32 (λ s. omega arith), le-ltb byte 48 (omega arith), lt-ltb 57 byte h)
 

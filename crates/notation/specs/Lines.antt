@@ -9,7 +9,7 @@ use Rattle.frames.specs.declared.Message.{Message}
 use Rattle.frames.specs.declared.Message.the-variants.{Quote, Sized, Pair, Bare, Open, Refused}
 use Rattle.frame_kinds.specs.Kinds.{lookKind, watchKind, unwatchKind, watchTwoKind, unwatchTwoKind, pairKind, unpairKind, pastKind}
 use Rattle.notation.specs.declared.Fields.{Fields}
-use Rattle.notation.specs.declared.Said.{Said}
+use Rattle.notation.specs.declared.Parsed.{Parsed}
 use Rattle.notation.specs.Fields.{noField, fieldsFrom}
 
 -- no message
@@ -69,7 +69,7 @@ sizedOf sign f = cond (fits f) (ofNumber sign (getD (f .numbers) 0 0)) nothing
 -- the message of a sign and its fields: O, Q, P, B, E, L, W, U, W2 or U2
 unfoldable pub said : ℕ → Fields → Message
 said sign f =
-    cond (not (f .fair) || f .empty) nothing
+    cond (not (f .valid) || f .empty) nothing
     (cond (eqb sign 79) (opening f)
     (cond (eqb sign 81) (quoteOf f)
     (cond (eqb sign 80) (pairOf pastKind f)
@@ -77,7 +77,7 @@ said sign f =
     (cond (eqb sign 69) (bareOf unpairKind f) (sizedOf sign f))))))
 
 -- what a line says
-unfoldable pub saidBy : List ℕ → Said
+unfoldable pub saidBy : List ℕ → Parsed
 saidBy [] = record { message = nothing; numbers = noField .numbers }
 saidBy (letter ∷ bytes) =
     let two = marked (letter ∷ bytes) in

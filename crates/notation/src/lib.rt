@@ -10,14 +10,14 @@ pub use lines::write_line;
 pub use scanning::fields_from;
 
 // What a line says: its message, or a refusal where it says none, and its numbers with zeros behind them.
-pub struct Said {
+pub struct Parsed {
     pub message: Message,
     pub numbers: [u32; 6],
 }
 
-// The fields read so far: whether they are fair, whether the last has no digit yet, how many are begun, and their numbers.
+// The fields read so far: whether they are valid, whether the last has no digit yet, how many are begun, and their numbers.
 pub struct Fields {
-    pub fair: bool,
+    pub valid: bool,
     pub empty: bool,
     pub count: usize,
     pub numbers: [u32; 6],

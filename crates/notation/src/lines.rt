@@ -6,7 +6,7 @@ ghost use lib.ListN.{drop};
 ghost use Rattle.frame_writer.specs.Writing.{Wrote};
 ghost use Rattle.notation.specs.Lines.{opens, opening, quoteOf, pairs, pairOf, bareOf, fits, sizedOf, said, marked, signOf, saidBy, lineLength};
 use crate::Fields;
-use crate::Said;
+use crate::Parsed;
 use crate::scanning::fields_from;
 use frame_writer::Written;
 use frames::LOOK;
@@ -113,7 +113,7 @@ fn sized(sign: u16, fields: Fields) -> Message
 fn message_of(sign: u16, fields: Fields) -> Message
     ensures { λ r. ⌜ r ≡ said sign fields ⌝ }
 {
-    if !fields.fair | fields.empty {
+    if !fields.valid | fields.empty {
         return Message::Refused(Refusal::UnknownKind);
     }
     match sign {
@@ -155,19 +155,19 @@ fn fields_place(two: bool) -> usize
 }
 
 // Reads a line, without its newline.
-pub fn read_line(line: &[u8]) -> Said
+pub fn read_line(line: &[u8]) -> Parsed
     ensures { λ r. ⌜ r ≡ saidBy (now (line .entry)) ⌝ }
 {
     let two = marked(line);
     let fields = fields_from(line, fields_place(two));
     let numbers = fields.numbers;
     if line.len() < 1 {
-        return Said {
+        return Parsed {
             message: Message::Refused(Refusal::UnknownKind),
             numbers,
         };
     }
-    Said {
+    Parsed {
         message: message_of(sign_of(two, line[0]), fields),
         numbers,
     }

@@ -2,7 +2,7 @@
 ghost use mathlib.Core.Path.{_≡_};
 ghost use Prim.Native.Nat.{_+_, _*_};
 ghost use lib.ListN.{drop};
-ghost use Rattle.notation.specs.Fields.{noField, unfair, begun, grown, after, fieldsFrom};
+ghost use Rattle.notation.specs.Fields.{noField, invalid, begun, grown, after, fieldsFrom};
 use crate::Fields;
 
 // A number with one more digit behind it.
@@ -18,20 +18,20 @@ impl Fields {
         ensures { λ r. ⌜ r ≡ noField ⌝ }
     {
         Fields {
-            fair: true,
+            valid: true,
             empty: false,
             count: 0,
             numbers: [0; 6],
         }
     }
 
-    // The same fields, no longer fair.
-    fn unfair(self) -> Fields
-        ensures { λ r. ⌜ r ≡ unfair self ⌝ }
+    // The same fields, no longer valid.
+    fn invalid(self) -> Fields
+        ensures { λ r. ⌜ r ≡ invalid self ⌝ }
     {
         let numbers = self.numbers;
         Fields {
-            fair: false,
+            valid: false,
             empty: self.empty,
             count: self.count,
             numbers,
@@ -45,13 +45,13 @@ impl Fields {
         let count = self.count;
         let numbers = self.numbers;
         if self.empty {
-            return self.unfair();
+            return self.invalid();
         }
         if 6 <= count {
-            return self.unfair();
+            return self.invalid();
         }
         Fields {
-            fair: true,
+            valid: true,
             empty: true,
             count: count + 1,
             numbers,
@@ -66,23 +66,23 @@ impl Fields {
         let empty = self.empty;
         let mut numbers = self.numbers;
         if count < 1 {
-            return self.unfair();
+            return self.invalid();
         }
         if 6 < count {
-            return self.unfair();
+            return self.invalid();
         }
         let last = count - 1;
         let number = numbers[last];
         if !empty & (number == 0) {
-            return self.unfair();
+            return self.invalid();
         }
         let value = extended(number, digit);
         if 4294967295 < value {
-            return self.unfair();
+            return self.invalid();
         }
         numbers[last] = value as u32;
         Fields {
-            fair: true,
+            valid: true,
             empty: false,
             count,
             numbers,
@@ -93,17 +93,17 @@ impl Fields {
     fn after(self, byte: u8) -> Fields
         ensures { λ r. ⌜ r ≡ after self byte ⌝ }
     {
-        if !self.fair {
+        if !self.valid {
             return self;
         }
         if byte == 32 {
             return self.begun();
         }
         if byte < 48 {
-            return self.unfair();
+            return self.invalid();
         }
         if 57 < byte {
-            return self.unfair();
+            return self.invalid();
         }
         self.grown((byte - 48) as u32)
     }

@@ -33,7 +33,7 @@ early : (M n1 n2 : ℕ) → n1 ≤ n2 → M + 1 < n1 → (windowStart (M + 1) n2
 unfolding windowStart
 early M n1 n2 h k = (omega arith, omega arith, omega arith)
 
-module _ (h : Head) (t : Tables) (whole : Whole h (bookRows h t)) (fair : tornPair h ≡ false) (space : h .newest < lastPosition) where
+module _ (h : Head) (t : Tables) (whole : Whole h (bookRows h t)) (untorn-pair : tornPair h ≡ false) (space : h .newest < lastPosition) where
   -- the frames of the pair's changes are those of the model's
   pub pair-frames : (x ws : List ℕ) → pairFrames h (t .lowerEnds) (t .upperEnds) ≡ frames (pairChanges (pairListOf h (bookRows h t)) (pairListOf (quoteHead h x t ws) (quoteRows h x t ws)))
   unfolding pairFrames begun pairStands frames flat moved leaving joining dropped gained falls enters sought shiftOf endShift
@@ -43,11 +43,11 @@ module _ (h : Head) (t : Tables) (whole : Whole h (bookRows h t)) (fair : tornPa
           → pairFrames h (t .lowerEnds) (t .upperEnds) ≡ frames (pairChanges (pairListOf h (bookRows h t)) (pairListOf (quoteHead h x t ws) (quoteRows h x t ws)))
       go false e d = rw (e, pair-changes-none h x t ws e)
       go true e (yes l) =
-          let within = pair-within h fair e in
+          let within = pair-within h untorn-pair e in
           let z = early (h .newest) (h .n1) (h .n2) (within .order) l in
           rw (e, lt-leb (h .n1) (h .newest + 1) l, pair-changes-are h t whole within x ws e space, none-moved (windowStart (h .newest) (h .capacity)) (startBefore h) (startAfter h) (endBefore h) (endAfter h) (t .lowerEnds) (t .upperEnds) (z .0) (z .1) (z .2))
       go true e (no l) =
-          rw (e, le-leb (h .n1) (h .newest + 1) (omega arith), pair-changes-are h t whole (pair-within h fair e) x ws e space)
+          rw (e, le-leb (h .n1) (h .newest + 1) (omega arith), pair-changes-are h t whole (pair-within h untorn-pair e) x ws e space)
 
   -- the lower end of a row is before it
   low : (i : ℕ) → i < h .held → getD (t .lowerEnds) i 0 < windowStart (h .newest) (h .capacity) + i
@@ -61,7 +61,7 @@ module _ (h : Head) (t : Tables) (whole : Whole h (bookRows h t)) (fair : tornPa
   -- what is asked before they are written
   pub paired : h .held ≤ length (t .lowerEnds) → h .held ≤ length (t .upperEnds) → Paired h (t .lowerEnds) (t .upperEnds)
   paired lower-room upper-room = record {
-    fair = fair;
+    untorn-pair = untorn-pair;
     filled = places-full h t whole;
     space = space;
     lower-room = lower-room;

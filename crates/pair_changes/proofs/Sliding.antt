@@ -43,7 +43,7 @@ module _ (kind p : ℕ) {asked : Bool} where
 begun-within : {h : Head} {lowers uppers : List ℕ} → Paired h lowers uppers → begun h ≡ true → PairWithin (h .n1) (h .n2) (h .capacity) × (h .n1 ≤ h .newest + 1)
 unfolding begun pairStands
 begun-within {h} v b =
-    (pair-within h (v .fair) (and-left (not (eqb (h .n1) 0)) (leb (h .n1) (h .newest + 1)) b), leb-true (h .n1) (h .newest + 1) (and-right (not (eqb (h .n1) 0)) (leb (h .n1) (h .newest + 1)) b))
+    (pair-within h (v .untorn-pair) (and-left (not (eqb (h .n1) 0)) (leb (h .n1) (h .newest + 1)) b), leb-true (h .n1) (h .newest + 1) (and-right (not (eqb (h .n1) 0)) (leb (h .n1) (h .newest + 1)) b))
 
 pub begun-low : {h : Head} {lowers uppers : List ℕ} → Paired h lowers uppers → begun h ≡ true → h .n1 ≤ h .newest + 1
 begun-low v b = begun-within v b .1

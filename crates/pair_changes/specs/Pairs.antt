@@ -95,7 +95,7 @@ module _ (h : Head) (lowers uppers : List ℕ) where
 
   -- the rows stand in their tables and fill the window of N, their lower ends are below their positions, and the tape has space for a quote
   pub record Paired : Type 0 where
-    pub fair : tornPair h ≡ false
+    pub untorn-pair : tornPair h ≡ false
     pub filled : h .newest + 1 ≡ windowStart (h .newest) (h .capacity) + h .held
     pub space : h .newest < lastPosition
     pub lower-room : h .held ≤ length lowers

@@ -11,7 +11,7 @@ const TOO_LONG: usize = 200;
 
 // Where the player stands in its input: the line that was found, the place behind it, the end of the text that has
 // come, whether the input has ended, whether a line was found, and whether all is over.
-pub struct Stand {
+pub struct Cursor {
     from: usize,
     to: usize,
     place: usize,
@@ -23,14 +23,14 @@ pub struct Stand {
 
 // Where the player stands at the next line, and the line; none where none was found.
 pub struct Next {
-    pub stand: Stand,
+    pub cursor: Cursor,
     pub line: Line,
 }
 
-impl Stand {
+impl Cursor {
     // Where the player stands before the first line: nothing has come.
-    pub fn first() -> Stand {
-        Stand {
+    pub fn first() -> Cursor {
+        Cursor {
             from: 0,
             to: 0,
             place: 0,
@@ -43,10 +43,10 @@ impl Stand {
 }
 
 // Finds the next line of the text that has come; the begun line at its end is one where the input has ended.
-fn find_line(stand: Stand, text: &[u8]) -> Stand {
-    let mut now = stand;
-    let place = stand.place;
-    let end = stand.end;
+fn find_line(cursor: Cursor, text: &[u8]) -> Cursor {
+    let mut now = cursor;
+    let place = cursor.place;
+    let end = cursor.end;
     now.found = false;
     if text.len() < end {
         now.over = true;
@@ -64,7 +64,7 @@ fn find_line(stand: Stand, text: &[u8]) -> Stand {
         now.found = true;
         return now;
     }
-    if stand.ended {
+    if cursor.ended {
         now.place = stop;
         now.found = place < stop;
         now.over = stop <= place;
@@ -84,11 +84,11 @@ fn kept_end(place: usize, end: usize) -> usize
 }
 
 // Reads on behind the begun line, where no line was found.
-fn read_on(stand: Stand, text: &mut [u8]) -> Stand {
-    let mut now = stand;
-    let place = stand.place;
-    let end = stand.end;
-    if stand.found {
+fn read_on(cursor: Cursor, text: &mut [u8]) -> Cursor {
+    let mut now = cursor;
+    let place = cursor.place;
+    let end = cursor.end;
+    if cursor.found {
         return now;
     }
     if text.len() < end {
@@ -118,10 +118,10 @@ fn no_line() -> Line {
 }
 
 // The line that was found; none where there is none.
-fn line_of(stand: Stand, text: &[u8]) -> Line {
-    let from = stand.from;
-    let to = stand.to;
-    if !stand.found {
+fn line_of(cursor: Cursor, text: &[u8]) -> Line {
+    let from = cursor.from;
+    let to = cursor.to;
+    if !cursor.found {
         return no_line();
     }
     if text.len() < to {
@@ -134,9 +134,9 @@ fn line_of(stand: Stand, text: &[u8]) -> Line {
 }
 
 // Goes on to the next line of the text, and reads more text first where no line was found before.
-pub fn next_line(stand: Stand, text: &mut [u8]) -> Next {
-    let there = read_on(stand, text);
-    let stand = find_line(there, text);
-    let line = line_of(stand, text);
-    Next { stand, line }
+pub fn next_line(cursor: Cursor, text: &mut [u8]) -> Next {
+    let there = read_on(cursor, text);
+    let cursor = find_line(there, text);
+    let line = line_of(cursor, text);
+    Next { cursor, line }
 }

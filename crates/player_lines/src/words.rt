@@ -5,9 +5,9 @@ use crate::Name;
 use head::Desk;
 use notation::fields_from;
 
-// The numbers of a line behind its words: whether they are fair, how many there are, and zeros behind them.
+// The numbers of a line behind its words: whether they are valid, how many there are, and zeros behind them.
 struct Numbers {
-    fair: bool,
+    valid: bool,
     count: usize,
     numbers: [u32; 12],
 }
@@ -65,7 +65,7 @@ fn numbers_from(line: &[u8], place: usize) -> Numbers {
     let middle = field_start(line, place, 6);
     if line.len() < middle {
         return Numbers {
-            fair: false,
+            valid: false,
             count: 0,
             numbers: [0; 12],
         };
@@ -75,7 +75,7 @@ fn numbers_from(line: &[u8], place: usize) -> Numbers {
     let a = first.numbers;
     let b = last.numbers;
     Numbers {
-        fair: first.fair & !first.empty & last.fair & !last.empty,
+        valid: first.valid & !first.empty & last.valid & !last.empty,
         count: std::num::wrapping_add_u64(first.count as u64, last.count as u64) as usize,
         numbers: [
             a[0],
@@ -230,7 +230,7 @@ pub fn read_line(line: &[u8]) -> Line {
     let said = numbers_from(line, place);
     let numbers = said.numbers;
     let count = said.count;
-    if !said.fair || !fits(command, count) {
+    if !said.valid || !fits(command, count) {
         return Line {
             command: Command::Unread,
             name: Name::None,

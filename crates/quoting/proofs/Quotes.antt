@@ -89,7 +89,7 @@ module _ {h : Head} {x : List ℕ} {t : Tables} {ws : List ℕ} {room : ℕ} {f 
       ap₂ {C = List ℕ} (λ (k l : List ℕ). k ++ l)
       (ap (allFrames h (t .lowerEnds) rows (f .lower)) (sym (take-all 8 ws (omega (arith, v .eight))))
       ∙ quote-frames h t x (f .lower) (whole book) (book .below) (within book .some-capacity) (found-lower book (v .finds)) ws (taken h x t ws room (v .accepted) .untorn))
-      (pair-frames h t (whole book) (book .passed .pair-fair) (book .below) x ws)
+      (pair-frames h t (whole book) (book .passed .pair-untorn) (book .below) x ws)
       ∙ sym (frames-append (allChanges (standing ws) (listOf h (bookRows h t)) (listOf next rest)) (pairChanges (pairListOf h (bookRows h t)) (pairListOf next rest)))
     where
       next : Head
@@ -122,12 +122,12 @@ module _ {h : Head} {x : List ℕ} {t : Tables} {ws : List ℕ} {room : ℕ} {f 
       space = book .below;
     };
     outdone = record { from = expiredPlaces h; stays = window-filled .1; listed = retired-is ∙ v .finds .listed };
-    paired = paired h t (whole book) (book .passed .pair-fair) (book .below) (omega (arith, places book .2, long book .lowerEnds)) (omega (arith, places book .2, long book .upperEnds));
+    paired = paired h t (whole book) (book .passed .pair-untorn) (book .below) (omega (arith, places book .2, long book .lowerEnds)) (omega (arith, places book .2, long book .upperEnds));
     fits =
         rw bytes-are
         (omega (
           arith,
-          changes-fit h x t ws (book .passed .held) (book .passed .untorn) (book .passed .pair-fair) .bytes-most,
+          changes-fit h x t ws (book .passed .held) (book .passed .untorn) (book .passed .pair-untorn) .bytes-most,
           taken h x t ws room (v .accepted) .wide,
         ));
   }

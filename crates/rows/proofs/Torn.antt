@@ -188,10 +188,10 @@ unfolding windowStart
 likely-fits h some likely = let f = likely .fills in let n = likely .low-newest in omega arith
 
 -- by what the loop finds on tables without columns
-pub by-places : (h : Head) (ps ls us : List ℕ) (first : ℕ) (fair : Bool) → 1 ≤ h .capacity → tornHead h ≡ false → first ≡ windowStart (h .newest) (h .capacity)
-    → fair ≡ inPlaces (h .newest) first (rowsIn 0 (h .held) (tables [] ps ls us)) && eqb (h .live) (length (liveRows (rowsIn 0 (h .held) (tables [] ps ls us))))
-    → not fair ≡ tornRows h (bookRows h (tables [] ps ls us))
+pub by-places : (h : Head) (ps ls us : List ℕ) (first : ℕ) (placed : Bool) → 1 ≤ h .capacity → tornHead h ≡ false → first ≡ windowStart (h .newest) (h .capacity)
+    → placed ≡ inPlaces (h .newest) first (rowsIn 0 (h .held) (tables [] ps ls us)) && eqb (h .live) (length (liveRows (rowsIn 0 (h .held) (tables [] ps ls us))))
+    → not placed ≡ tornRows h (bookRows h (tables [] ps ls us))
 unfolding bookRows rowsIn
-by-places h ps ls us first fair some e b f =
+by-places h ps ls us first placed some e b f =
     rw (f, b, places-columns (h .newest) (windowStart (h .newest) (h .capacity)) 0 (h .dimensions) [] [] ps ls us (run 0 (h .held)), live-columns 0 (h .dimensions) [] [] ps ls us (run 0 (h .held)))
     (sym (torn-places h (rowsIn (h .dimensions) (h .held) (tables [] ps ls us)) (length-rows (h .dimensions) (h .held) (tables [] ps ls us)) some (head-likely h e)))

@@ -55,7 +55,7 @@ fn in_places(
 {
     let newest = head.newest;
     let count = head.held as usize;
-    let mut fair = true;
+    let mut placed = true;
     let mut live: u32 = 0;
     let mut position = first;
     let mut i = 0;
@@ -65,12 +65,12 @@ fn in_places(
         let upper = upper_ends[i];
         let open = upper == 0;
         let behind = (stands < upper) & (upper <= newest);
-        fair = fair & (stands == position) & (lower < stands) & (open | behind);
+        placed = placed & (stands == position) & (lower < stands) & (open | behind);
         live += chosen(open, 1, 0);
         position += 1;
         i += 1;
     }
-    fair & (head.live == live)
+    placed & (head.live == live)
 }
 
 // Whether the rows of a book, or its head, could not be (01: torn).

@@ -8,7 +8,7 @@ use libc::STDIN_FILENO;
 use libc::STDOUT_FILENO;
 
 // What a read gave: how many bytes, and whether the input goes on.
-pub struct Came {
+pub struct Chunk {
     pub count: usize,
     pub more: bool,
 }
@@ -36,14 +36,14 @@ pub fn put_out(gathered: &[u8], program: &[u8]) -> bool {
 }
 
 // Reads from standard input into the buffer. A read that fails is the end of the input, said on standard error.
-pub fn take_in(buffer: &mut [u8], program: &[u8]) -> Came
+pub fn take_in(buffer: &mut [u8], program: &[u8]) -> Chunk
     ensures { λ r. ⌜ Counts (r .count) (now (buffer .exit)) ⌝ }
 {
     let got = libc::read(STDIN_FILENO, buffer);
     if got < 0 {
         os::fail(program);
     }
-    Came {
+    Chunk {
         count: io::count(got, buffer),
         more: 0 < got,
     }

@@ -10,14 +10,14 @@ use borrow.Author.Tests.{leb-true, le-leb, lt-leb}
 use Rattle.lists.proofs.Booleans.{and-left, and-right}
 use Rattle.turn_lines.specs.Turns.{textBytes}
 use Rattle.model.specs.Rows.{Tables}
-use Rattle.tape_stands.specs.declared.Stand.{Stand}
-use Rattle.tape_stands.specs.Starts.{Long}
-use Rattle.tape_stands.specs.Stands.{left, Advanced}
+use Rattle.tape_playback.specs.declared.Playback.{Playback}
+use Rattle.tape_playback.specs.Starts.{Long}
+use Rattle.tape_playback.specs.Played.{left, Advanced}
 use Rattle.tape_pieces.specs.Pieces.{GoesOn, PiecePlayed}
 
 -- what holds from frame to frame: the tables and the text are as long as they were, and what is promised once the piece is played holds of the
 -- frames that were
-pub record Playing (tape : List ℕ) (t₀ : Tables) (text₀ : List ℕ) (now₀ : Stand) (t : Tables) (text : List ℕ) (now : Stand) : Type 0 where
+pub record Playing (tape : List ℕ) (t₀ : Tables) (text₀ : List ℕ) (now₀ : Playback) (t : Tables) (text : List ℕ) (now : Playback) : Type 0 where
   pub columns : length (t .columns) ≡ length (t₀ .columns)
   pub positions : length (t .positions) ≡ length (t₀ .positions)
   pub lowerEnds : length (t .lowerEnds) ≡ length (t₀ .lowerEnds)

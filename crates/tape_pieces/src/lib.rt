@@ -5,33 +5,33 @@ ghost use lib.ListN.{length};
 ghost use Rattle.model.specs.Calls.{Reached};
 ghost use Rattle.model.specs.Promises.{tables, world};
 ghost use Rattle.tape_model.specs.Streams.{ready};
-ghost use Rattle.tape_stands.specs.Starts.{Long, Within, onward};
+ghost use Rattle.tape_playback.specs.Starts.{Long, Within, onward};
 ghost use Rattle.tape_pieces.specs.Pieces.{GoesOn, PiecePlayed};
-use tape_stands::Stand;
-use tape_stands::play_frame;
-use tape_stands::rewind;
+use tape_playback::Playback;
+use tape_playback::play_frame;
+use tape_playback::rewind;
 
 // Whether a frame is played: its lines have room behind those that are gathered, and it has come whole, or nothing more comes.
-fn plays(stand: Stand, tape: &[u8], room: usize) -> bool
-    requires { ⌜ stand .used ≤ room ⌝ }
-    ensures { λ r. ⌜ GoesOn (stand .over) (room - stand .used)
-        (stand .ended || ready (now (tape .entry)) (stand .place)) r ⌝ }
+fn plays(playback: Playback, tape: &[u8], room: usize) -> bool
+    requires { ⌜ playback .used ≤ room ⌝ }
+    ensures { λ r. ⌜ GoesOn (playback .over) (room - playback .used)
+        (playback .ended || ready (now (tape .entry)) (playback .place)) r ⌝ }
 {
-    if stand.over {
+    if playback.over {
         return false;
     }
-    if room - stand.used < tape::TEXT_BYTES {
+    if room - playback.used < tape::TEXT_BYTES {
         return false;
     }
-    if stand.ended {
+    if playback.ended {
         return true;
     }
-    tape::ready(tape, stand.place)
+    tape::ready(tape, playback.place)
 }
 
 // Plays the frames of this piece of the tape, until one has not come whole or its lines may find no room.
 pub fn play_piece(
-    stand: Stand,
+    playback: Playback,
     tape: &[u8],
     columns: &mut [u32],
     positions: &mut [u32],
@@ -39,16 +39,16 @@ pub fn play_piece(
     upper_ends: &mut [u32],
     bytes: &mut [u8; tape::CHANGE_BYTES],
     text: &mut [u8],
-) -> Stand
-    requires { ⌜ (stand .used ≤ length (now text)) × (stand .place ≤ length (now tape)) ⌝ }
+) -> Playback
+    requires { ⌜ (playback .used ≤ length (now text)) × (playback .place ≤ length (now tape)) ⌝ }
     requires { ⌜ Long (tables (now columns) (now positions) (now «lower_ends») (now «upper_ends»)) ⌝ }
-    requires { ⌜ Within 1023 (stand .start) ⌝ }
-    requires { ⌜ Reached (world (stand .head) (onward (stand .start)
-        (tables (now columns) (now positions) (now «lower_ends») (now «upper_ends»))) (stand .watches)) ⌝ }
-    ensures { λ r. ⌜ PiecePlayed (length (now (tape .entry))) (length (now (text .entry))) stand r
+    requires { ⌜ Within 1023 (playback .start) ⌝ }
+    requires { ⌜ Reached (world (playback .head) (onward (playback .start)
+        (tables (now columns) (now positions) (now «lower_ends») (now «upper_ends»))) (playback .watches)) ⌝ }
+    ensures { λ r. ⌜ PiecePlayed (length (now (tape .entry))) (length (now (text .entry))) playback r
         (tables (now (columns .exit)) (now (positions .exit)) (now («lower_ends» .exit)) (now («upper_ends» .exit))) ⌝ }
 {
-    let mut now = stand;
+    let mut now = playback;
     while plays(now, tape, text.len()) {
         now = play_frame(
             now,

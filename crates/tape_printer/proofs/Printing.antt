@@ -10,26 +10,26 @@ use Rattle.head.specs.declared.Head.{Head}
 use Rattle.head.specs.Heads.{freshHead}
 use Rattle.model.specs.Promises.{world}
 use Rattle.model.proofs.Reached.{reached-first}
-use Rattle.tape_stands.specs.declared.Stand.{Stand}
-use Rattle.tape_stands.specs.Starts.{Long, Within, onward}
+use Rattle.tape_playback.specs.declared.Playback.{Playback}
+use Rattle.tape_playback.specs.Starts.{Long, Within, onward}
 
 -- the buffers are as long as they are declared, the lines stand within the text and what has come of the tape within its buffer, and the book is
 -- one that calls left
-pub record Printing (t : Tables) (tape text : List ℕ) (stand : Stand) : Type 0 where
+pub record Printing (t : Tables) (tape text : List ℕ) (playback : Playback) : Type 0 where
   pub columns : length (t .columns) ≡ 12288
   pub positions : length (t .positions) ≡ 2048
   pub lowerEnds : length (t .lowerEnds) ≡ 2048
   pub upperEnds : length (t .upperEnds) ≡ 2048
   pub tape-long : length tape ≡ 65536
   pub text-long : length text ≡ 300100
-  pub fits : stand .used ≤ length text
-  pub inside : stand .place ≤ stand .end
-  pub come : stand .end ≤ length tape
-  pub starts : Within 1023 (stand .start)
-  pub reached : Reached (world (stand .head) (onward (stand .start) t) (stand .watches))
+  pub fits : playback .used ≤ length text
+  pub inside : playback .place ≤ playback .end
+  pub come : playback .end ≤ length tape
+  pub starts : Within 1023 (playback .start)
+  pub reached : Reached (world (playback .head) (onward (playback .start) t) (playback .watches))
 
 -- the tables are long enough for the rows to slide through
-pub slides-through : {t : Tables} {tape text : List ℕ} {stand : Stand} → Printing t tape text stand → Long t
+pub slides-through : {t : Tables} {tape text : List ℕ} {playback : Playback} → Printing t tape text playback → Long t
 slides-through p = record {
   columns = omega (arith, p .columns);
   positions = omega (arith, p .positions);

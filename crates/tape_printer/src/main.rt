@@ -1,10 +1,10 @@
 // The tape printer: plays the tape on standard input, and prints it on standard output. It keeps one piece of the tape at a time.
 use head::Head;
 use tape_pieces::play_piece;
-use tape_stands::SLIDING_CELLS;
-use tape_stands::SLIDING_PLACES;
-use tape_stands::Stand;
-use tape_stands::Start;
+use tape_playback::Playback;
+use tape_playback::SLIDING_CELLS;
+use tape_playback::SLIDING_PLACES;
+use tape_playback::Start;
 use tape_streams::flush;
 use tape_streams::refill;
 
@@ -22,7 +22,7 @@ fn main() {
     let mut bytes = [0u8; tape::CHANGE_BYTES];
     let mut tape = [0u8; PIECE];
     let mut text = [0u8; GATHERED + tape::TEXT_BYTES];
-    let mut stand = Stand {
+    let mut playback = Playback {
         head: Head::fresh(0, 0, 0),
         watches: [0; 8],
         start: Start { row: 0, cell: 0 },
@@ -33,12 +33,12 @@ fn main() {
         over: false,
     };
     let mut turns = u64::MAX;
-    while 0 < turns && !stand.over {
+    while 0 < turns && !playback.over {
         turns -= 1;
-        stand = refill(flush(stand, &text), &mut tape);
-        let end = stand.end;
-        stand = play_piece(
-            stand,
+        playback = refill(flush(playback, &text), &mut tape);
+        let end = playback.end;
+        playback = play_piece(
+            playback,
             &tape[..end],
             &mut columns,
             &mut positions,
@@ -48,5 +48,5 @@ fn main() {
             &mut text,
         );
     }
-    flush(stand, &text);
+    flush(playback, &text);
 }

@@ -2,16 +2,16 @@
 ghost use mathlib.Core.Path.{_≡_};
 ghost use Prim.Native.Nat.{_≤_};
 ghost use lib.ListN.{length};
-ghost use Rattle.tape_stands.specs.Stands.{SameBook};
-use tape_stands::Stand;
+ghost use Rattle.tape_playback.specs.Played.{SameBook};
+use tape_playback::Playback;
 
 // Writes out the gathered lines; where that fails the tape is over.
-pub fn flush(stand: Stand, text: &[u8]) -> Stand
-    requires { ⌜ stand .used ≤ length (now text) ⌝ }
-    ensures { λ r. ⌜ (r .used ≡ 0) × (r .place ≡ stand .place) × (r .end ≡ stand .end) × SameBook stand r ⌝ }
+pub fn flush(playback: Playback, text: &[u8]) -> Playback
+    requires { ⌜ playback .used ≤ length (now text) ⌝ }
+    ensures { λ r. ⌜ (r .used ≡ 0) × (r .place ≡ playback .place) × (r .end ≡ playback .end) × SameBook playback r ⌝ }
 {
-    let used = stand.used;
-    let mut now = stand;
+    let used = playback.used;
+    let mut now = playback;
     now.used = 0;
     if !streams::put_out(&text[..used], b"tape_printer: standard output") {
         now.over = true;
@@ -21,12 +21,12 @@ pub fn flush(stand: Stand, text: &[u8]) -> Stand
 
 // Reads on behind a frame that has not come whole, which is moved to the front of what has come of the tape; nothing once the input has
 // ended or the tape is over.
-pub fn refill(stand: Stand, tape: &mut [u8]) -> Stand
-    requires { ⌜ (stand .place ≤ stand .end) × (stand .end ≤ length (now tape)) ⌝ }
-    ensures { λ r. ⌜ (r .used ≡ stand .used) × (r .place ≤ r .end) × (r .end ≤ length (now (tape .entry))) × SameBook
-        stand r ⌝ }
+pub fn refill(playback: Playback, tape: &mut [u8]) -> Playback
+    requires { ⌜ (playback .place ≤ playback .end) × (playback .end ≤ length (now tape)) ⌝ }
+    ensures { λ r. ⌜ (r .used ≡ playback .used) × (r .place ≤ r .end) × (r .end ≤ length (now (tape .entry))) × SameBook
+        playback r ⌝ }
 {
-    let mut now = stand;
+    let mut now = playback;
     let end = now.end;
     if now.over | now.ended | tape::ready(&tape[..end], now.place) {
         return now;

@@ -15,7 +15,7 @@ const TOO_LONG: usize = 68;
 
 // Where the writer stands: how many lines it has seen, how many bytes of a begun line stand at the front of the text, how many bytes of
 // the tape are gathered, and whether it is over.
-struct Stand {
+struct Cursor {
     lines: u64,
     rest: usize,
     used: usize,
@@ -30,12 +30,12 @@ fn name_line(number: u64) {
 }
 
 // Writes out what is gathered; where that fails it is over.
-fn flush(stand: Stand, out: &[u8]) -> Stand
-    requires { ⌜ stand .used ≤ length (now out) ⌝ }
-    ensures { λ r. ⌜ (r .used ≡ 0) × (r .rest ≡ stand .rest) ⌝ }
+fn flush(cursor: Cursor, out: &[u8]) -> Cursor
+    requires { ⌜ cursor .used ≤ length (now out) ⌝ }
+    ensures { λ r. ⌜ (r .used ≡ 0) × (r .rest ≡ cursor .rest) ⌝ }
 {
-    let used = stand.used;
-    let mut now = stand;
+    let used = cursor.used;
+    let mut now = cursor;
     now.used = 0;
     if !streams::put_out(&out[..used], b"tape_writer: standard output") {
         now.over = true;
@@ -44,22 +44,22 @@ fn flush(stand: Stand, out: &[u8]) -> Stand
 }
 
 // Writes out what is gathered if there is no room behind it for the longest frame.
-fn with_room(stand: Stand, out: &[u8]) -> Stand
-    requires { ⌜ stand .used ≤ length (now out) ⌝ }
-    ensures { λ r. ⌜ (r .used ≤ length (now (out .entry))) × (r .rest ≡ stand .rest) ⌝ }
+fn with_room(cursor: Cursor, out: &[u8]) -> Cursor
+    requires { ⌜ cursor .used ≤ length (now out) ⌝ }
+    ensures { λ r. ⌜ (r .used ≤ length (now (out .entry))) × (r .rest ≡ cursor .rest) ⌝ }
 {
-    if LONGEST_FRAME <= out.len() - stand.used {
-        return stand;
+    if LONGEST_FRAME <= out.len() - cursor.used {
+        return cursor;
     }
-    flush(stand, out)
+    flush(cursor, out)
 }
 
 // Lays the frame of a line behind what is gathered, or names the line.
-fn take_line(stand: Stand, line: &[u8], out: &mut [u8]) -> Stand
-    requires { ⌜ stand .used ≤ length (now out) ⌝ }
-    ensures { λ r. ⌜ (r .used ≤ length (now (out .entry))) × (r .rest ≡ stand .rest) ⌝ }
+fn take_line(cursor: Cursor, line: &[u8], out: &mut [u8]) -> Cursor
+    requires { ⌜ cursor .used ≤ length (now out) ⌝ }
+    ensures { λ r. ⌜ (r .used ≤ length (now (out .entry))) × (r .rest ≡ cursor .rest) ⌝ }
 {
-    let mut now = with_room(stand, out);
+    let mut now = with_room(cursor, out);
     let used = now.used;
     now.lines = std::num::wrapping_add_u64(now.lines, 1);
     let written = notation::write_line(line, &mut out[used..]);
@@ -72,11 +72,11 @@ fn take_line(stand: Stand, line: &[u8], out: &mut [u8]) -> Stand
 }
 
 // Takes the whole lines of the text, and tells in rest how many bytes stand behind them.
-fn take_lines(stand: Stand, text: &[u8], out: &mut [u8]) -> Stand
-    requires { ⌜ stand .used ≤ length (now out) ⌝ }
+fn take_lines(cursor: Cursor, text: &[u8], out: &mut [u8]) -> Cursor
+    requires { ⌜ cursor .used ≤ length (now out) ⌝ }
     ensures { λ r. ⌜ (r .used ≤ length (now (out .entry))) × (r .rest ≤ length (now (text .entry))) ⌝ }
 {
-    let mut now = stand;
+    let mut now = cursor;
     let mut place = 0;
     let mut stop = line_end(text, 0);
     while stop < text.len() {
@@ -100,11 +100,11 @@ fn kept_end(place: usize, end: usize) -> usize
 }
 
 // Writes out what is gathered, reads on behind the begun line, and takes the lines that came; at the input's end, the begun line.
-fn read_on(stand: Stand, text: &mut [u8], out: &mut [u8]) -> Stand
-    requires { ⌜ (stand .used ≤ length (now out)) × (stand .rest ≤ 68) × (68 ≤ length (now text)) ⌝ }
+fn read_on(cursor: Cursor, text: &mut [u8], out: &mut [u8]) -> Cursor
+    requires { ⌜ (cursor .used ≤ length (now out)) × (cursor .rest ≤ 68) × (68 ≤ length (now text)) ⌝ }
     ensures { λ r. ⌜ (r .used ≤ length (now (out .entry))) × (r .rest ≤ 68) ⌝ }
 {
-    let mut now = flush(stand, out);
+    let mut now = flush(cursor, out);
     if now.over {
         return now;
     }
@@ -129,16 +129,16 @@ fn read_on(stand: Stand, text: &mut [u8], out: &mut [u8]) -> Stand
 fn main() {
     let mut text = [0u8; 65536];
     let mut out = [0u8; 65536];
-    let mut stand = Stand {
+    let mut cursor = Cursor {
         lines: 0,
         rest: 0,
         used: 0,
         over: false,
     };
     let mut turns = u64::MAX;
-    while 0 < turns && !stand.over {
+    while 0 < turns && !cursor.over {
         turns -= 1;
-        stand = read_on(stand, &mut text, &mut out);
+        cursor = read_on(cursor, &mut text, &mut out);
     }
-    flush(stand, &out);
+    flush(cursor, &out);
 }

@@ -46,7 +46,7 @@ module _ {h : Head} {t : Tables} {r : Reply} {before after : List ℕ} where
         counted (quoteAnswer h x t ws room) (length (quoteBytes h x t ws)) room
             (λ e.
             let p = third-room h t ws _ _ _ _ _ room e in
-            le-trans (fit.changes-fit h x t ws (p .0 .held) (p .0 .untorn) (p .0 .pair-fair) .bytes-most) (p .1)),
+            le-trans (fit.changes-fit h x t ws (p .0 .held) (p .0 .untorn) (p .0 .pair-untorn) .bytes-most) (p .1)),
       )
 
   -- the joins of a watch fit its output

@@ -12,12 +12,12 @@ abbrev room : ℕ
 room = 62520
 
 abbrev Inv-loop : tie.InvT-loop
-Inv-loop columns₀ positions₀ lower-ends₀ upper-ends₀ out₀ cells₀ text₀ lines₀ state₀ print₀ stand₀ turns₀ columns positions lower-ends upper-ends out cells text lines state print stand turns =
+Inv-loop columns₀ positions₀ lower-ends₀ upper-ends₀ out₀ cells₀ text₀ lines₀ state₀ print₀ cursor₀ turns₀ columns positions lower-ends upper-ends out cells text lines state print cursor turns =
     (length columns ≡ 6144) × (length positions ≡ 1024) × (length lower-ends ≡ 1024) × (length upper-ends ≡ 1024)
     × (length out ≡ room) × (length cells ≡ room) × (length text ≡ 65536) × (length lines ≡ 65536)
 
 abbrev μ-loop : tie.MeasureT-loop
-μ-loop columns₀ positions₀ lower-ends₀ upper-ends₀ out₀ cells₀ text₀ lines₀ state₀ print₀ stand₀ turns₀ columns positions lower-ends upper-ends out cells text lines state print stand turns =
+μ-loop columns₀ positions₀ lower-ends₀ upper-ends₀ out₀ cells₀ text₀ lines₀ state₀ print₀ cursor₀ turns₀ columns positions lower-ends upper-ends out cells text lines state print cursor turns =
     turns
 
 -- how long the buffers of a line are once it is played

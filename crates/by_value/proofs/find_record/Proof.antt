@@ -119,8 +119,8 @@ module _ {M : Type 1} (𝓤 : URA M) (H : Heap 𝓤) (A : Atoms 𝓤) (W : Given
   abbrev Ends : Type 0
   Ends = Unit {0} × (Unit {0} × (Unit {0} × Unit {0}))
 
-  abbrev Said : Bool → Ends → Type 0
-  Said j zs = j ≡ contains (watchOf desk n) (standing (watched records))
+  abbrev Promised : Bool → Ends → Type 0
+  Promised j zs = j ≡ contains (watchOf desk n) (standing (watched records))
 
   -- what is left at the return, with what is lent at its last values
   abbrev Left : List (Item 𝓤)
@@ -151,7 +151,7 @@ module _ {M : Type 1} (𝓤 : URA M) (H : Heap 𝓤) (A : Atoms 𝓤) (W : Given
         nothing ! $ move ! (3 ∷ 0 ∷ []) $ join ! $ nothing ! $ move ! (5 ∷ 0 ∷ []) $ fjoin ! $ move ! (5 ∷ 0 ∷ []) $ fjoin ! $ move ! (2 ∷ 0 ∷ []) $ fjoin ! $ move ! (1 ∷ 0 ∷ []) $
         use2 W (raw (Callee 𝓤 H A mem run .pre (to ν l₄ δ))) (goes ν l₄ δ) $
         calls-at ! fm (Callee 𝓤 H A mem run) known (to ν l₄ δ) (and-then ! (load ! (from ! (stop !)) (look ! 4 refl)) (and-then ! (load ! (from ! (stop !)) (look ! 11 refl)) (and-then ! (load ! (from ! (stop !)) (look ! 9 refl)) (no-more !)))) (λ c.
-        use1 W (later (some (λ (j : Bool). (Tokens ν ⊛ ‵ (bool .own j (c ∷ []))) ⊛ some (λ (zs : Ends). ‵ (lasts callee.ended (lives ν) (asked l₄ δ) zs) ⊛ raw (fact 𝓤 (Said j zs)))))) (id⊢ 𝓤 _) $ await ! tt $ pick ! (λ j. split ! $ move ! (1 ∷ []) $ pick ! (λ zs. split ! $ move ! (1 ∷ []) $ heard ! (Said j zs) (λ kept.
+        use1 W (later (some (λ (j : Bool). (Tokens ν ⊛ ‵ (bool .own j (c ∷ []))) ⊛ some (λ (zs : Ends). ‵ (lasts callee.ended (lives ν) (asked l₄ δ) zs) ⊛ raw (fact 𝓤 (Promised j zs)))))) (id⊢ 𝓤 _) $ await ! tt $ pick ! (λ j. split ! $ move ! (1 ∷ []) $ pick ! (λ zs. split ! $ move ! (1 ∷ []) $ heard ! (Promised j zs) (λ kept.
         move ! (0 ∷ []) $ fsplit ! $ drop ! $ move ! (0 ∷ []) $ fsplit ! $ drop ! $ move ! (0 ∷ []) $ fsplit ! $ drop ! $ move ! (0 ∷ []) $ drop ! $
         move ! (0 ∷ []) $ split ! $ move ! (1 ∷ []) $ peeks ! bool (Is bool) (shows 𝓤 H A bool) j (c ∷ []) (λ has. drop ! $
         land ! (from ! (stop !)) (init ! 15 refl (bool-lawful 𝓤 H A W .typed j _ has .0)) $

@@ -123,8 +123,8 @@ module _ {M : Type 1} (𝓤 : URA M) (H : Heap 𝓤) (A : Atoms 𝓤) (W : Given
   abbrev Ends : Type 0
   Ends = Unit {0} × (Unit {0} × (List ℕ × (List ℕ × (List ℕ × (List ℕ × (Unit {0} × (List ℕ × Unit {0})))))))
 
-  abbrev Said : Reply → Ends → Type 0
-  Said j zs = Quoted head (quoted .now) lent (watched records) (out .now) j (lent-tables (zs .1 .1 .0) (zs .1 .1 .1 .0) (zs .1 .1 .1 .1 .0) (zs .1 .1 .1 .1 .1 .0)) (zs .1 .1 .1 .1 .1 .1 .1 .0)
+  abbrev Promised : Reply → Ends → Type 0
+  Promised j zs = Quoted head (quoted .now) lent (watched records) (out .now) j (lent-tables (zs .1 .1 .0) (zs .1 .1 .1 .0) (zs .1 .1 .1 .1 .0) (zs .1 .1 .1 .1 .1 .0)) (zs .1 .1 .1 .1 .1 .1 .1 .0)
 
   -- what is left at the return, with what is lent at its last values
   abbrev Left : List ℕ → List ℕ → List ℕ → List ℕ → List ℕ → List (Item 𝓤)
@@ -167,7 +167,7 @@ module _ {M : Type 1} (𝓤 : URA M) (H : Heap 𝓤) (A : Atoms 𝓤) (W : Given
         nothing ! $ move ! (5 ∷ 0 ∷ []) $ join ! $ move ! (3 ∷ 0 ∷ []) $ join ! $ move ! (4 ∷ 0 ∷ []) $ join ! $ move ! (4 ∷ 0 ∷ []) $ join ! $ move ! (4 ∷ 0 ∷ []) $ join ! $ move ! (4 ∷ 0 ∷ []) $ join ! $ move ! (4 ∷ 0 ∷ []) $ join ! $ nothing ! $ move ! (6 ∷ 0 ∷ []) $ fjoin ! $ move ! (2 ∷ 0 ∷ []) $ fjoin ! $ move ! (6 ∷ 0 ∷ []) $ fjoin ! $ move ! (6 ∷ 0 ∷ []) $ fjoin ! $ move ! (6 ∷ 0 ∷ []) $ fjoin ! $ move ! (6 ∷ 0 ∷ []) $ fjoin ! $ move ! (6 ∷ 0 ∷ []) $ fjoin ! $ move ! (6 ∷ 0 ∷ []) $ fjoin ! $ move ! (1 ∷ 0 ∷ []) $
         use2 W (raw (Callee 𝓤 H A mem run .pre (to ν l₉ δ))) (goes ν l₉ δ) $
         calls-at ! fm (Callee 𝓤 H A mem run) known (to ν l₉ δ) (and-then ! (load ! (from ! (stop !)) (look ! 44 refl)) (and-then ! (load ! (from ! (stop !)) (look ! 42 refl)) (and-then ! (load ! (from ! (stop !)) (look ! 25 refl)) (and-then ! (load ! (from ! (stop !)) (look ! 21 refl)) (and-then ! (load ! (from ! (stop !)) (look ! 17 refl)) (and-then ! (load ! (from ! (stop !)) (look ! 13 refl)) (and-then ! (load ! (from ! (stop !)) (look ! 9 refl)) (and-then ! (load ! (from ! (stop !)) (look ! 5 refl)) (no-more !))))))))) (λ c.
-        use1 W (later (some (λ (j : Reply). (Tokens ν ⊛ ‵ (R.the-row .own j (c ∷ []))) ⊛ some (λ (zs : Ends). ‵ (lasts callee.ended (lives ν) (asked l₉ δ) zs) ⊛ raw (fact 𝓤 (Said j zs)))))) (id⊢ 𝓤 _) $ await ! tt $ pick ! (λ j. split ! $ move ! (1 ∷ []) $ pick ! (λ zs. split ! $ move ! (1 ∷ []) $ heard ! (Said j zs) (λ kept.
+        use1 W (later (some (λ (j : Reply). (Tokens ν ⊛ ‵ (R.the-row .own j (c ∷ []))) ⊛ some (λ (zs : Ends). ‵ (lasts callee.ended (lives ν) (asked l₉ δ) zs) ⊛ raw (fact 𝓤 (Promised j zs)))))) (id⊢ 𝓤 _) $ await ! tt $ pick ! (λ j. split ! $ move ! (1 ∷ []) $ pick ! (λ zs. split ! $ move ! (1 ∷ []) $ heard ! (Promised j zs) (λ kept.
         fsplit ! $ drop ! $ move ! (0 ∷ []) $ fsplit ! $ drop ! $ move ! (0 ∷ []) $ fsplit ! $ fsplit ! $ move ! (1 ∷ []) $ feqL ! (λ columns-same. move ! (1 ∷ []) $ fsplit ! $ fsplit ! $ move ! (1 ∷ []) $ feqL ! (λ positions-same. move ! (1 ∷ []) $ fsplit ! $ fsplit ! $ move ! (1 ∷ []) $ feqL ! (λ lowerEnds-same. move ! (1 ∷ []) $ fsplit ! $ fsplit ! $ move ! (1 ∷ []) $ feqL ! (λ upperEnds-same. move ! (1 ∷ []) $ fsplit ! $ drop ! $ move ! (0 ∷ []) $ fsplit ! $ fsplit ! $ move ! (1 ∷ []) $ feqL ! (λ out-same. move ! (1 ∷ []) $ drop ! $
         move ! (5 ∷ []) $ split ! $ move ! (1 ∷ []) $ peeks ! R.the-row (Is R.the-row) (shows 𝓤 H A R.the-row) j (c ∷ []) (λ has. drop ! $
         land ! (from ! (stop !)) (init ! 51 refl (LL.lawful R.the-type R′.the-laws 𝓤 H A W .typed j _ has .0)) $ rewrite ! 51 (λ (z : Val). ‵ (fat fullShare R′.mir l₀ 0 z)) (ap only (LL.tells R.the-type R′.the-laws j (c ∷ []) has)) refl $

@@ -106,8 +106,8 @@ module _ {M : Type 1} (𝓤 : URA M) (H : Heap 𝓤) (A : Atoms 𝓤) (W : Given
   abbrev Ends : Type 0
   Ends = Unit {0} × (Place × Unit {0})
 
-  abbrev Said : Read → Ends → Type 0
-  Said r zs = Moved (tape .now) place r (zs .1 .0)
+  abbrev Promised : Read → Ends → Type 0
+  Promised r zs = Moved (tape .now) place r (zs .1 .0)
 
   exits : (r : Read) (after : Place) → Is Rd.the-row r (reads r) → Is P.the-row after (placed after) → Moved (tape .now) place r after → ent 𝓤 (⋆ 𝓤 H A (‵ (flft κ₀ q₀) ∷ [])) (Post (found-value r after))
   exits r after is is-after kept =
@@ -130,7 +130,7 @@ module _ {M : Type 1} (𝓤 : URA M) (H : Heap 𝓤) (A : Atoms 𝓤) (W : Given
         nothing ! $ move ! (3 ∷ 0 ∷ []) $ join ! $ move ! (3 ∷ 0 ∷ []) $ join ! $ nothing ! $ move ! (2 ∷ 0 ∷ []) $ fjoin ! $ move ! (6 ∷ 0 ∷ []) $ fjoin ! $ move ! (1 ∷ 0 ∷ []) $
         use2 W (raw (Callee 𝓤 H A mem run .pre (to ν l₃ δ))) (goes ν l₃ δ) $
         calls-at ! fm (Callee 𝓤 H A mem run) known (to ν l₃ δ) (and-then ! (load ! (from ! (stop !)) (look ! 14 refl)) (and-then ! (load ! (from ! (stop !)) (look ! 7 refl)) (no-more !))) (λ c.
-        use1 W (later (some (λ (r : Read). (Tokens ν ⊛ ‵ (Rd.the-row .own r (c ∷ []))) ⊛ some (λ (zs : Ends). ‵ (lasts callee.ended (lives ν) (asked l₃ δ) zs) ⊛ raw (fact 𝓤 (Said r zs)))))) (id⊢ 𝓤 _) $ await ! tt $ pick ! (λ r. split ! $ move ! (1 ∷ []) $ pick ! (λ zs. split ! $ move ! (1 ∷ []) $ heard ! (Said r zs) (λ kept.
+        use1 W (later (some (λ (r : Read). (Tokens ν ⊛ ‵ (Rd.the-row .own r (c ∷ []))) ⊛ some (λ (zs : Ends). ‵ (lasts callee.ended (lives ν) (asked l₃ δ) zs) ⊛ raw (fact 𝓤 (Promised r zs)))))) (id⊢ 𝓤 _) $ await ! tt $ pick ! (λ r. split ! $ move ! (1 ∷ []) $ pick ! (λ zs. split ! $ move ! (1 ∷ []) $ heard ! (Promised r zs) (λ kept.
         move ! (0 ∷ []) $ fsplit ! $ drop ! $ move ! (0 ∷ []) $ fsplit ! $ move ! (2 ∷ []) $ split ! $ move ! (1 ∷ []) $ peeks ! Rd.the-row (Is Rd.the-row) (shows 𝓤 H A Rd.the-row) r (c ∷ []) (λ has. drop ! $
         land ! (from ! (stop !)) (init ! 11 refl (LL.lawful Rd.the-type Rd′.the-laws 𝓤 H A W .typed r _ has .0)) $ rewrite ! 11 (λ (z : Val). ‵ (fat fullShare Rd′.mir l₄ 0 z)) (ap only (LL.tells Rd.the-type Rd′.the-laws r (c ∷ []) has)) refl $
         -- ν ends, and it comes back

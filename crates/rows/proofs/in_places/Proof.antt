@@ -10,11 +10,11 @@ use Rattle.rows.proofs.in_places.Statement.{statement}
 use Rattle.rows.proofs.in_places.Tie as tie
 
 abbrev Inv-loop : tie.InvT-loop
-Inv-loop head first positions lower-ends upper-ends newest count fair₀ live₀ position₀ i₀ fair live position i =
-    Passing newest first count (tables [] positions lower-ends upper-ends) fair live position i
+Inv-loop head first positions lower-ends upper-ends newest count placed₀ live₀ position₀ i₀ placed live position i =
+    Passing newest first count (tables [] positions lower-ends upper-ends) placed live position i
 
 abbrev μ-loop : tie.MeasureT-loop
-μ-loop head first positions lower-ends upper-ends newest count fair₀ live₀ position₀ i₀ fair live position i =
+μ-loop head first positions lower-ends upper-ends newest count placed₀ live₀ position₀ i₀ placed live position i =
     count - i
 
 cast-count : tie.Need-cast-count Inv-loop μ-loop

@@ -3,18 +3,18 @@ use mathlib.Core.Path.{refl, sym, _∙_}
 use native.Mathlib.Omega.{arith}
 use lib.ListN.{length-take}
 use Rattle.model.specs.Promises.{tables}
-use Rattle.tape_stands.proofs.Starting.{same-reached, same-starts}
+use Rattle.tape_playback.proofs.Starting.{same-reached, same-starts}
 use Rattle.tape_printer.proofs.Printing.{Printing, slides-through, first-reached}
 use borrow.Author.Needs.{needs}
 use Rattle.tape_printer.proofs.main.Statement.{statement}
 use Rattle.tape_printer.proofs.main.Tie as tie
 
 abbrev Inv-loop : tie.InvT-loop
-Inv-loop columns₀ positions₀ lower-ends₀ upper-ends₀ bytes₀ tape₀ text₀ stand₀ turns₀ columns positions lower-ends upper-ends bytes tape text stand turns =
-    Printing (tables columns positions lower-ends upper-ends) tape text stand
+Inv-loop columns₀ positions₀ lower-ends₀ upper-ends₀ bytes₀ tape₀ text₀ playback₀ turns₀ columns positions lower-ends upper-ends bytes tape text playback turns =
+    Printing (tables columns positions lower-ends upper-ends) tape text playback
 
 abbrev μ-loop : tie.MeasureT-loop
-μ-loop columns₀ positions₀ lower-ends₀ upper-ends₀ bytes₀ tape₀ text₀ stand₀ turns₀ columns positions lower-ends upper-ends bytes tape text stand turns = turns
+μ-loop columns₀ positions₀ lower-ends₀ upper-ends₀ bytes₀ tape₀ text₀ playback₀ turns₀ columns positions lower-ends upper-ends bytes tape text playback turns = turns
 
 fresh-requires : tie.Need-fresh-requires Inv-loop μ-loop
 fresh-requires c κs = search needs

@@ -8,10 +8,10 @@ use Rattle.tape_writer.proofs.main.Statement.{statement}
 use Rattle.tape_writer.proofs.main.Tie as tie
 
 abbrev Inv-loop : tie.InvT-loop
-Inv-loop text₀ out₀ stand₀ turns₀ text out stand turns = (stand .used ≤ length out) × (stand .rest ≤ 68) × (length text ≡ 65536) × (length out ≡ 65536)
+Inv-loop text₀ out₀ cursor₀ turns₀ text out cursor turns = (cursor .used ≤ length out) × (cursor .rest ≤ 68) × (length text ≡ 65536) × (length out ≡ 65536)
 
 abbrev μ-loop : tie.MeasureT-loop
-μ-loop text₀ out₀ stand₀ turns₀ text out stand turns = turns
+μ-loop text₀ out₀ cursor₀ turns₀ text out cursor turns = turns
 
 loop-holds : tie.Need-loop-holds Inv-loop μ-loop
 loop-holds c = (omega arith, omega arith, refl, refl)

@@ -2,12 +2,12 @@
 use borrow.Author.Needs.{needs}
 use mathlib.Core.Path.{_∙_}
 use borrow.Author.Tests.{not-true, not-false}
-use Rattle.notation.proofs.Steps.{after-unfair, after-space, after-low, after-high, after-digit}
+use Rattle.notation.proofs.Steps.{after-invalid, after-space, after-low, after-high, after-digit}
 use Rattle.notation.proofs.Fields.after.Statement.{statement}
 use Rattle.notation.proofs.Fields.after.Tie as tie
 
 returns : tie.Need-returns
-returns c = after-unfair _ _ (not-true _ (c .if1 .taken))
+returns c = after-invalid _ _ (not-true _ (c .if1 .taken))
 
 begun-requires : tie.Need-begun-requires
 begun-requires c κs = search needs
@@ -15,17 +15,17 @@ begun-requires c κs = search needs
 returns-2 : tie.Need-returns-2
 returns-2 c = c .begun .ensures ∙ after-space _ _ (not-false _ (c .before .before .if1 .left)) (c .before .if2 .taken)
 
-unfair-requires : tie.Need-unfair-requires
-unfair-requires c κs = search needs
+invalid-requires : tie.Need-invalid-requires
+invalid-requires c κs = search needs
 
 returns-3 : tie.Need-returns-3
-returns-3 c = c .unfair .ensures ∙ after-low _ _ (not-false _ (c .before .before .before .if1 .left)) (c .before .if3 .taken) (c .before .before .if2 .left)
+returns-3 c = c .invalid .ensures ∙ after-low _ _ (not-false _ (c .before .before .before .if1 .left)) (c .before .if3 .taken) (c .before .before .if2 .left)
 
-unfair-requires-2 : tie.Need-unfair-requires-2
-unfair-requires-2 c κs = search needs
+invalid-requires-2 : tie.Need-invalid-requires-2
+invalid-requires-2 c κs = search needs
 
 returns-4 : tie.Need-returns-4
-returns-4 c = c .unfair2 .ensures ∙ after-high _ _ (not-false _ (c .before .before .before .before .if1 .left)) (c .before .if4 .taken)
+returns-4 c = c .invalid2 .ensures ∙ after-high _ _ (not-false _ (c .before .before .before .before .if1 .left)) (c .before .if4 .taken)
 
 cast-grown : tie.Need-cast-grown
 cast-grown c = search needs
@@ -43,9 +43,9 @@ after-spec =
     returns
     begun-requires
     returns-2
-    unfair-requires
+    invalid-requires
     returns-3
-    unfair-requires-2
+    invalid-requires-2
     returns-4
     cast-grown
     grown-requires

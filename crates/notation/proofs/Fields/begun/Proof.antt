@@ -5,17 +5,17 @@ use Rattle.notation.proofs.Steps.{begun-empty, begun-full, begun-next}
 use Rattle.notation.proofs.Fields.begun.Statement.{statement}
 use Rattle.notation.proofs.Fields.begun.Tie as tie
 
-unfair-requires : tie.Need-unfair-requires
-unfair-requires c κs = search needs
+invalid-requires : tie.Need-invalid-requires
+invalid-requires c κs = search needs
 
 returns : tie.Need-returns
-returns c = c .unfair .ensures ∙ begun-empty _ (c .before .if1 .taken)
+returns c = c .invalid .ensures ∙ begun-empty _ (c .before .if1 .taken)
 
-unfair-requires-2 : tie.Need-unfair-requires-2
-unfair-requires-2 c κs = search needs
+invalid-requires-2 : tie.Need-invalid-requires-2
+invalid-requires-2 c κs = search needs
 
 returns-2 : tie.Need-returns-2
-returns-2 c = c .unfair2 .ensures ∙ begun-full _ (c .before .before .if1 .left) (c .before .if2 .taken)
+returns-2 c = c .invalid2 .ensures ∙ begun-full _ (c .before .before .if1 .left) (c .before .if2 .taken)
 
 add-t5 : tie.Need-add-t5
 add-t5 c = search needs
@@ -25,4 +25,4 @@ returns-3 c = begun-next _ (c .before .if1 .left) (c .if2 .left)
 
 pub begun-spec : {M : Type 1} → statement M
 begun-spec =
-    tie.close (tie.spec unfair-requires returns unfair-requires-2 returns-2 add-t5 returns-3)
+    tie.close (tie.spec invalid-requires returns invalid-requires-2 returns-2 add-t5 returns-3)

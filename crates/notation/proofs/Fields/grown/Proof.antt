@@ -5,17 +5,17 @@ use Rattle.notation.proofs.Steps.{grown-none, grown-many, grown-zero, g
 use Rattle.notation.proofs.Fields.grown.Statement.{statement}
 use Rattle.notation.proofs.Fields.grown.Tie as tie
 
-unfair-requires : tie.Need-unfair-requires
-unfair-requires c κs = search needs
+invalid-requires : tie.Need-invalid-requires
+invalid-requires c κs = search needs
 
 returns : tie.Need-returns
-returns c = c .unfair .ensures ∙ grown-none _ _ (c .before .if1 .taken)
+returns c = c .invalid .ensures ∙ grown-none _ _ (c .before .if1 .taken)
 
-unfair-requires-2 : tie.Need-unfair-requires-2
-unfair-requires-2 c κs = search needs
+invalid-requires-2 : tie.Need-invalid-requires-2
+invalid-requires-2 c κs = search needs
 
 returns-2 : tie.Need-returns-2
-returns-2 c = c .unfair2 .ensures ∙ grown-many _ _ (c .before .before .if1 .left) (c .before .if2 .taken)
+returns-2 c = c .invalid2 .ensures ∙ grown-many _ _ (c .before .before .if1 .left) (c .before .if2 .taken)
 
 mul-number : tie.Need-mul-number
 mul-number c = search needs
@@ -23,20 +23,20 @@ mul-number c = search needs
 array-read-number : tie.Need-array-read-number
 array-read-number c = search needs
 
-unfair-requires-3 : tie.Need-unfair-requires-3
-unfair-requires-3 c κs = search needs
+invalid-requires-3 : tie.Need-invalid-requires-3
+invalid-requires-3 c κs = search needs
 
 returns-3 : tie.Need-returns-3
-returns-3 c = c .unfair3 .ensures ∙ grown-zero _ _ (c .before .before .before .if1 .left) (c .before .before .if2 .left) (c .before .if3 .taken)
+returns-3 c = c .invalid3 .ensures ∙ grown-zero _ _ (c .before .before .before .if1 .left) (c .before .before .if2 .left) (c .before .if3 .taken)
 
 extended-requires : tie.Need-extended-requires
 extended-requires c κs = search needs
 
-unfair-requires-4 : tie.Need-unfair-requires-4
-unfair-requires-4 c κs = search needs
+invalid-requires-4 : tie.Need-invalid-requires-4
+invalid-requires-4 c κs = search needs
 
 returns-4 : tie.Need-returns-4
-returns-4 c = c .unfair4 .ensures ∙ grown-large _ _ (c .before .before .before .before .before .if1 .left) (c .before .before .before .before .if2 .left) (c .before .before .before .if3 .left) (c .before .before .extended .ensures) (c .before .if4 .taken)
+returns-4 c = c .invalid4 .ensures ∙ grown-large _ _ (c .before .before .before .before .before .if1 .left) (c .before .before .before .before .if2 .left) (c .before .before .before .if3 .left) (c .before .before .extended .ensures) (c .before .if4 .taken)
 
 cast-numbers : tie.Need-cast-numbers
 cast-numbers c = search needs
@@ -54,16 +54,16 @@ pub grown-spec : {M : Type 1} → statement M
 grown-spec =
     tie.close
     (tie.spec
-    unfair-requires
+    invalid-requires
     returns
-    unfair-requires-2
+    invalid-requires-2
     returns-2
     mul-number
     array-read-number
-    unfair-requires-3
+    invalid-requires-3
     returns-3
     extended-requires
-    unfair-requires-4
+    invalid-requires-4
     returns-4
     cast-numbers
     mul-numbers

@@ -1,14 +1,14 @@
 -- `message_of` meets its contract: each answer is a case of the definition.
 use mathlib.Core.Path.{_∙_}
 use borrow.Author.Needs.{needs}
-use Rattle.notation.proofs.Reading.{said-unfair, said-opening, said-quote, said-past, said-pair, said-unpair, said-number}
+use Rattle.notation.proofs.Reading.{said-invalid, said-opening, said-quote, said-past, said-pair, said-unpair, said-number}
 use Rattle.notation.specs.Lines.{nothing}
 use Rattle.notation.proofs.lines.message_of.Statement.{statement}
 use Rattle.notation.proofs.lines.message_of.Tie as tie
 
 returns : tie.Need-returns
 unfolding nothing
-returns c = said-unfair _ _ (c .if1 .taken)
+returns c = said-invalid _ _ (c .if1 .taken)
 
 opening-requires : tie.Need-opening-requires
 opening-requires c κs = search needs

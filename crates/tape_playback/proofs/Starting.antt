@@ -23,10 +23,10 @@ use Rattle.turn_lines.specs.Turns.{player}
 use Rattle.tape_sliding.specs.declared.SlidStep.{SlidStep}
 use Rattle.tape_sliding.specs.Steps.{StepSlid}
 use Rattle.tape_sliding.proofs.Slides.{left-reached, left-few, left-holds}
-use Rattle.tape_stands.specs.declared.Start.{Start}
-use Rattle.tape_stands.specs.declared.Stand.{Stand}
-use Rattle.tape_stands.specs.Stands.{SameBook}
-use Rattle.tape_stands.specs.Starts.{Long, Within, FullOpened, onward}
+use Rattle.tape_playback.specs.declared.Start.{Start}
+use Rattle.tape_playback.specs.declared.Playback.{Playback}
+use Rattle.tape_playback.specs.Played.{SameBook}
+use Rattle.tape_playback.specs.Starts.{Long, Within, FullOpened, onward}
 
 -- tables as long as these are long enough
 pub long-same : {t t' : Tables} → length (t' .columns) ≡ length (t .columns) → length (t' .positions) ≡ length (t .positions) → length (t' .lowerEnds) ≡ length (t .lowerEnds)
@@ -39,10 +39,10 @@ long-same c p l u k = record {
 }
 
 -- players with the same book: it stands for both, and starts as near
-pub same-reached : {s r : Stand} (t : Tables) → SameBook s r → Reached (world (s .head) (onward (s .start) t) (s .watches)) → Reached (world (r .head) (onward (r .start) t) (r .watches))
+pub same-reached : {s r : Playback} (t : Tables) → SameBook s r → Reached (world (s .head) (onward (s .start) t) (s .watches)) → Reached (world (r .head) (onward (r .start) t) (r .watches))
 same-reached t b c = rw (b .head, b .watches, b .start) c
 
-pub same-starts : {s r : Stand} → SameBook s r → Within 1023 (s .start) → Within 1023 (r .start)
+pub same-starts : {s r : Playback} → SameBook s r → Within 1023 (s .start) → Within 1023 (r .start)
 same-starts b w = rw (b .start) w
 
 -- ---- the part of a table from a place on, lent and come back

@@ -1,3 +1,3 @@
 -- The definitions of the crate.
 pub mod Starts
-pub mod Stands
+pub mod Played

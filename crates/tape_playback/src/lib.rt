@@ -7,8 +7,8 @@ ghost use lib.ListN.{length};
 ghost use Rattle.model.specs.Calls.{Reached};
 ghost use Rattle.model.specs.Promises.{tables, world};
 ghost use Rattle.turn_lines.specs.Turns.{textBytes};
-ghost use Rattle.tape_stands.specs.Starts.{Long, Within, FullOpened, onward};
-ghost use Rattle.tape_stands.specs.Stands.{FramePlayed};
+ghost use Rattle.tape_playback.specs.Starts.{Long, Within, FullOpened, onward};
+ghost use Rattle.tape_playback.specs.Played.{FramePlayed};
 use cells::shift;
 use head::Head;
 use sizes::COLUMN_CELLS;
@@ -29,7 +29,7 @@ pub struct Start {
 
 // Where a player of a tape stands: the head and the watches of the book, where its rows start, the place of the next frame and the end of
 // what has come of the tape, how many bytes of text are gathered, whether the input has ended, and whether the tape is over.
-pub struct Stand {
+pub struct Playback {
     pub head: Head,
     pub watches: [u64; 8],
     pub start: Start,
@@ -54,7 +54,7 @@ fn slid(start: Start, by: usize, head: Head) -> Start
 
 // Plays the frame at which a player stands.
 pub fn play_frame(
-    stand: Stand,
+    playback: Playback,
     tape: &[u8],
     columns: &mut [u32],
     positions: &mut [u32],
@@ -62,24 +62,24 @@ pub fn play_frame(
     upper_ends: &mut [u32],
     bytes: &mut [u8; tape::CHANGE_BYTES],
     text: &mut [u8],
-) -> Stand
-    requires { ⌜ (stand .used + textBytes ≤ length (now text)) × (stand .place ≤ length (now tape)) ⌝ }
+) -> Playback
+    requires { ⌜ (playback .used + textBytes ≤ length (now text)) × (playback .place ≤ length (now tape)) ⌝ }
     requires { ⌜ Long (tables (now columns) (now positions) (now «lower_ends») (now «upper_ends»)) ⌝ }
-    requires { ⌜ Within 1023 (stand .start) ⌝ }
-    requires { ⌜ Reached (world (stand .head) (onward (stand .start)
-        (tables (now columns) (now positions) (now «lower_ends») (now «upper_ends»))) (stand .watches)) ⌝ }
-    ensures { λ r. ⌜ FramePlayed (now (tape .entry)) (length (now (text .entry))) stand r
+    requires { ⌜ Within 1023 (playback .start) ⌝ }
+    requires { ⌜ Reached (world (playback .head) (onward (playback .start)
+        (tables (now columns) (now positions) (now «lower_ends») (now «upper_ends»))) (playback .watches)) ⌝ }
+    ensures { λ r. ⌜ FramePlayed (now (tape .entry)) (length (now (text .entry))) playback r
         (tables (now (columns .exit)) (now (positions .exit)) (now («lower_ends» .exit)) (now («upper_ends» .exit))) ⌝ }
 {
-    let head = stand.head;
-    let watches = stand.watches;
-    let used = stand.used;
-    let start = stand.start;
+    let head = playback.head;
+    let watches = playback.watches;
+    let used = playback.used;
+    let start = playback.start;
     let row = start.row;
     let cell = start.cell;
     let played = play_sliding(
         tape,
-        stand.place,
+        playback.place,
         head,
         &mut columns[cell..],
         &mut positions[row..],
@@ -93,7 +93,7 @@ pub fn play_frame(
     let next_head = step.head;
     let next_watches = step.watches;
     let next_start = slid(start, played.by, next_head);
-    let mut now = stand;
+    let mut now = playback;
     now.head = next_head;
     now.watches = next_watches;
     now.start = next_start;

@@ -12,7 +12,7 @@ use Rattle.tape_model.specs.Play.{playAsked, playAt, Player, bookMake, begun, b
 use Rattle.model.specs.Rows.{Tables}
 use Rattle.tape.specs.declared.Step.{Step}
 use Rattle.tape.specs.Steps.{Stepped}
-use Rattle.tape_stands.specs.Stands.{left, Advanced}
+use Rattle.tape_playback.specs.Played.{left, Advanced}
 
 module _ (tape : List ℕ) (place : ℕ) (k : Player) (h : place ≤ length tape) where
   -- what is asked for is played

@@ -7,8 +7,8 @@ use lib.ListN.{length}
 use Rattle.model.specs.Rows.{Tables}
 use Rattle.model.specs.Calls.{Reached}
 use Rattle.model.specs.Promises.{world}
-use Rattle.tape_stands.specs.declared.Stand.{Stand}
-use Rattle.tape_stands.specs.Starts.{Within, FullOpened, onward}
+use Rattle.tape_playback.specs.declared.Playback.{Playback}
+use Rattle.tape_playback.specs.Starts.{Within, FullOpened, onward}
 
 -- the bytes from a place on, and one for the end; nothing once the tape is over
 unfoldable pub left : List ℕ → ℕ → Bool → ℕ
@@ -20,7 +20,7 @@ pub record Advanced (tape : List ℕ) (place next : ℕ) (over : Bool) : Type 0 
   pub less : left tape next over < 1 + (length tape - place)
 
 -- where a player stands once it played a frame of a tape into a text of this length, with tables t
-pub record FramePlayed (tape : List ℕ) (room : ℕ) (s r : Stand) (t : Tables) : Type 0 where
+pub record FramePlayed (tape : List ℕ) (room : ℕ) (s r : Playback) (t : Tables) : Type 0 where
   pub advanced : Advanced tape (s .place) (r .place) (r .over)
   pub fits : r .used ≤ room
   pub same : r .end ≡ s .end
@@ -29,7 +29,7 @@ pub record FramePlayed (tape : List ℕ) (room : ℕ) (s r : Stand) (t : Tables)
   pub reached : Reached (world (r .head) (onward (r .start) t) (r .watches))
 
 -- two players stand with the same book, at the same place of the tables
-pub record SameBook (s r : Stand) : Type 0 where
+pub record SameBook (s r : Playback) : Type 0 where
   pub head : r .head ≡ s .head
   pub watches : r .watches ≡ s .watches
   pub start : r .start ≡ s .start

@@ -3,12 +3,12 @@ use mathlib.Core.Path.{refl}
 use Prim.Native.Nat.{_-_}
 use native.Mathlib.Omega.{arith}
 use lib.ListN.{length-take, length-drop}
-use Rattle.tape_stands.proofs.Advancing.{stepped-on, stepped-fits}
-use Rattle.tape_stands.proofs.Starting.{parts-roomy, parts-reached, start-within, start-opened, start-reached}
+use Rattle.tape_playback.proofs.Advancing.{stepped-on, stepped-fits}
+use Rattle.tape_playback.proofs.Starting.{parts-roomy, parts-reached, start-within, start-opened, start-reached}
 use Rattle.tape_sliding.proofs.Slides.{left-few}
 use borrow.Author.Needs.{needs}
-use Rattle.tape_stands.proofs.play_frame.Statement.{statement}
-use Rattle.tape_stands.proofs.play_frame.Tie as tie
+use Rattle.tape_playback.proofs.play_frame.Statement.{statement}
+use Rattle.tape_playback.proofs.play_frame.Tie as tie
 
 mul-play-sliding : tie.Need-mul-play-sliding
 mul-play-sliding c = search needs
