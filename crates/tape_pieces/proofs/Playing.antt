@@ -11,7 +11,7 @@ use Rattle.lists.proofs.Booleans.{and-left, and-right}
 use Rattle.turn_lines.specs.Turns.{textBytes}
 use Rattle.model.specs.Rows.{Tables}
 use Rattle.tape_playback.specs.declared.Playback.{Playback}
-use Rattle.tape_playback.specs.Starts.{Long}
+use Rattle.row_starts.specs.Starts.{Long}
 use Rattle.tape_playback.specs.Played.{left, Advanced}
 use Rattle.tape_pieces.specs.Pieces.{GoesOn, PiecePlayed}
 

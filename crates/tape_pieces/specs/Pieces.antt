@@ -8,7 +8,7 @@ use Rattle.model.specs.Calls.{Reached}
 use Rattle.model.specs.Promises.{world}
 use Rattle.turn_lines.specs.Turns.{textBytes}
 use Rattle.tape_playback.specs.declared.Playback.{Playback}
-use Rattle.tape_playback.specs.Starts.{Within, onward}
+use Rattle.row_starts.specs.Starts.{Within, onward}
 
 -- whether a frame is played: the tape is not over, this room is enough for the lines of any frame, and it is ready
 pub record GoesOn (over : Bool) (room : ℕ) (ready result : Bool) : Type 0 where

@@ -5,11 +5,11 @@ ghost use lib.ListN.{length};
 ghost use Rattle.model.specs.Calls.{Reached};
 ghost use Rattle.model.specs.Promises.{tables, world};
 ghost use Rattle.tape_model.specs.Streams.{ready};
-ghost use Rattle.tape_playback.specs.Starts.{Long, Within, onward};
+ghost use Rattle.row_starts.specs.Starts.{Long, Within, onward};
 ghost use Rattle.tape_pieces.specs.Pieces.{GoesOn, PiecePlayed};
+use row_starts::rewind;
 use tape_playback::Playback;
 use tape_playback::play_frame;
-use tape_playback::rewind;
 
 // Whether a frame is played: its lines have room behind those that are gathered, and it has come whole, or nothing more comes.
 fn plays(playback: Playback, tape: &[u8], room: usize) -> bool

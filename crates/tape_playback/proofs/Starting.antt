@@ -1,42 +1,29 @@
--- Where the rows of a book start: from frame to frame, and once they are moved to the front of the tables.
+-- Where the rows of a book start, from frame to frame.
 use mathlib.Core.Path.{_≡_, sym, ap, _∙_}
 use Prim.Native.Nat.{ℕ, _+_, _-_, _*_, _≤_, _<_}
-use native.Mathlib.Nat.{mul-le-mul, mul-le-mul-right, one-mul, zero-mul, zero-add}
+use native.Mathlib.Nat.{zero-mul}
 use native.Mathlib.Decide.{decLt}
 use native.Mathlib.Omega.{arith}
-use mathlib.Core.Bool.{true}
 use mathlib.Core.List.{List, [], _++_, append-nil}
 use lib.ListN.{length, take, drop, length-drop, drop-of-length-le}
-use lib.Seq.{paste, length-paste, length-take-le, take-all, take-paste, drop-at, drop-drop}
+use lib.Seq.{length-take-le, take-all, drop-at, drop-drop}
 use borrow.Rule.Slice.PartMut.{midOf, putMid}
 use Rattle.head.specs.declared.Head.{Head}
-use Rattle.head.specs.Heads.{settingsHold}
 use Rattle.head.proofs.Settings.{settings-within}
 use Rattle.model.specs.Rows.{Tables}
-use Rattle.model.specs.Places.{SameFront}
 use Rattle.model.specs.Calls.{Reached}
 use Rattle.model.specs.Promises.{tables, world}
-use Rattle.model.proofs.Places.{reached-in-places}
 use Rattle.sliding.specs.Laid.{Roomy}
 use Rattle.sliding.specs.Slid.{later}
 use Rattle.turn_lines.specs.Turns.{player}
 use Rattle.tape_sliding.specs.declared.SlidStep.{SlidStep}
 use Rattle.tape_sliding.specs.Steps.{StepSlid}
 use Rattle.tape_sliding.proofs.Slides.{left-reached, left-few, left-holds}
-use Rattle.tape_playback.specs.declared.Start.{Start}
+use Rattle.row_starts.specs.declared.Start.{Start}
 use Rattle.tape_playback.specs.declared.Playback.{Playback}
 use Rattle.tape_playback.specs.Played.{SameBook}
-use Rattle.tape_playback.specs.Starts.{Long, Within, FullOpened, onward}
-
--- tables as long as these are long enough
-pub long-same : {t t' : Tables} → length (t' .columns) ≡ length (t .columns) → length (t' .positions) ≡ length (t .positions) → length (t' .lowerEnds) ≡ length (t .lowerEnds)
-    → length (t' .upperEnds) ≡ length (t .upperEnds) → Long t → Long t'
-long-same c p l u k = record {
-  columns = rw c (k .columns);
-  positions = rw p (k .positions);
-  lowerEnds = rw l (k .lowerEnds);
-  upperEnds = rw u (k .upperEnds);
-}
+use Rattle.row_starts.specs.Starts.{Long, Within, FullOpened, onward}
+use Rattle.row_starts.proofs.Rewinding.{few-cells}
 
 -- players with the same book: it stands for both, and starts as near
 pub same-reached : {s r : Playback} (t : Tables) → SameBook s r → Reached (world (s .head) (onward (s .start) t) (s .watches)) → Reached (world (r .head) (onward (r .start) t) (r .watches))
@@ -109,10 +96,6 @@ module _ (s : Start) (t : Tables) where
 
 -- ---- a frame is played
 
--- none or one row of at most six cells
-pub few-cells : {by : ℕ} (d : ℕ) → by ≤ 1 → by * d ≤ d
-few-cells d k = omega (arith, mul-le-mul-right d k, one-mul d)
-
 slid-cells : {by d : ℕ} → by ≤ 1 → Dec (0 < by) → (0 < by → d ≤ 6) → by * d ≤ 6 * by
 slid-cells {by} {d} k (yes l) h = omega (arith, few-cells d k, h l)
 slid-cells {by} {d} k (no n) h = let z : by ≡ 0 = omega arith in omega (arith, few-cells d k, ap (λ (j : ℕ). j * d) z, zero-mul d)
@@ -139,38 +122,3 @@ pub start-reached : (s : Start) (t : Tables) {tape : List ℕ} {place : ℕ} {h 
     → StepSlid tape place (player h (parts s t) ws bytes) before z t' bytes' after → Within 1023 s → s' ≡ record { row = s .row + z .by; cell = s .cell + z .by * z .step .head .dimensions }
     → Long t → Reached (world h (onward s t) ws) → Reached (world (z .step .head) (onward s' (backs s t t')) (z .step .watches))
 start-reached s t {z = z} {t' = t'} m w e k c = rw (e, backs-later s t k w t' (z .by) (z .step .head .dimensions)) (left-reached m (parts-reached s t c))
-
--- ---- the rows are moved to the front
-
-front-moved : (cells : List ℕ) (by n : ℕ) {after : List ℕ} → by + n ≤ length cells → after ≡ paste cells 0 (drop by cells) (by + n - by) → SameFront n (drop by cells) after
-front-moved cells by n h e =
-    let k : by + n - by ≡ n = omega arith in
-    rw (e, k) record {
-      long = omega (arith, length-paste cells 0 (drop by cells) n (omega (arith, zero-add n)) (omega (arith, length-drop by cells)));
-      same = ap (λ (j : ℕ). take j (paste cells 0 (drop by cells) n)) (sym (zero-add n)) ∙ take-paste cells 0 (drop by cells) n (omega arith) (omega (arith, length-drop by cells));
-    }
-
-module _ {s : Start} {h : Head} {t : Tables} (k : Long t) (w : Within 1024 s) (o : FullOpened s h) (full : 1024 ≤ s .row) where
-  holds : settingsHold (h .dimensions) (h .capacity) (h .directions) ≡ true
-  holds = o .opened (omega (arith, w .few))
-
-  -- the rows stand within the tables
-  pub rows-inside : (s .cell + h .capacity * h .dimensions ≤ 12288) × (s .row + h .capacity ≤ 2048)
-  rows-inside =
-      let v = settings-within _ _ _ holds in
-      omega (arith, w .few, w .near, v .small-capacity, mul-le-mul (v .small-capacity) (v .few-columns))
-
-  -- at the front they are the same book
-  pub rewound : {cs qs ls us : List ℕ} → cs ≡ paste (t .columns) 0 (drop (s .cell) (t .columns)) (s .cell + h .capacity * h .dimensions - s .cell)
-      → qs ≡ paste (t .positions) 0 (drop (s .row) (t .positions)) (s .row + h .capacity - s .row) → ls ≡ paste (t .lowerEnds) 0 (drop (s .row) (t .lowerEnds)) (s .row + h .capacity - s .row)
-      → us ≡ paste (t .upperEnds) 0 (drop (s .row) (t .upperEnds)) (s .row + h .capacity - s .row)
-      → (ws : List ℕ) → Reached (world h (onward s t) ws) → Reached (world h (onward (record { row = 0; cell = 0 }) (tables cs qs ls us)) ws)
-  unfolding onward
-  rewound c q l u ws r =
-      let i = rows-inside in
-      reached-in-places holds r (record {
-        columns = front-moved (t .columns) (s .cell) (h .capacity * h .dimensions) (omega (arith, i .0, k .columns)) c;
-        positions = front-moved (t .positions) (s .row) (h .capacity) (omega (arith, i .1, k .positions)) q;
-        lowerEnds = front-moved (t .lowerEnds) (s .row) (h .capacity) (omega (arith, i .1, k .lowerEnds)) l;
-        upperEnds = front-moved (t .upperEnds) (s .row) (h .capacity) (omega (arith, i .1, k .upperEnds)) u;
-      })

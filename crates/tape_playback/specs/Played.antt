@@ -8,7 +8,7 @@ use Rattle.model.specs.Rows.{Tables}
 use Rattle.model.specs.Calls.{Reached}
 use Rattle.model.specs.Promises.{world}
 use Rattle.tape_playback.specs.declared.Playback.{Playback}
-use Rattle.tape_playback.specs.Starts.{Within, FullOpened, onward}
+use Rattle.row_starts.specs.Starts.{Within, FullOpened, onward}
 
 -- the bytes from a place on, and one for the end; nothing once the tape is over
 unfoldable pub left : List ℕ → ℕ → Bool → ℕ

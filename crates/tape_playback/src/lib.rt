@@ -1,31 +1,16 @@
 // Where a player of a tape stands: one frame played from there, on a book that calls left, whose rows slide through tables of twice the
-// places that it needs; and the rows moved to the front of the tables when these are used up.
-ghost use mathlib.Core.Path.{_≡_};
-ghost use mathlib.Core.List.{List};
-ghost use Prim.Native.Nat.{ℕ, _+_, _*_, _≤_};
+// places that it needs.
+ghost use Prim.Native.Nat.{_+_, _≤_};
 ghost use lib.ListN.{length};
 ghost use Rattle.model.specs.Calls.{Reached};
 ghost use Rattle.model.specs.Promises.{tables, world};
 ghost use Rattle.turn_lines.specs.Turns.{textBytes};
-ghost use Rattle.tape_playback.specs.Starts.{Long, Within, FullOpened, onward};
+ghost use Rattle.row_starts.specs.Starts.{Long, Within, onward};
 ghost use Rattle.tape_playback.specs.Played.{FramePlayed};
-use cells::shift;
 use head::Head;
-use sizes::COLUMN_CELLS;
-use sizes::PLACES;
+use row_starts::Start;
+use row_starts::slid;
 use tape_sliding::play_sliding;
-
-// Places of the tables that the rows slide through.
-pub const SLIDING_PLACES: usize = 2 * PLACES;
-
-// Cells of their columns.
-pub const SLIDING_CELLS: usize = 2 * COLUMN_CELLS;
-
-// Where the rows of the book start: at which place of the tables, and at which cell of the columns.
-pub struct Start {
-    pub row: usize,
-    pub cell: usize,
-}
 
 // Where a player of a tape stands: the head and the watches of the book, where its rows start, the place of the next frame and the end of
 // what has come of the tape, how many bytes of text are gathered, whether the input has ended, and whether the tape is over.
@@ -38,18 +23,6 @@ pub struct Playback {
     pub used: usize,
     pub ended: bool,
     pub over: bool,
-}
-
-// Where the rows start once they slid by none or one place.
-fn slid(start: Start, by: usize, head: Head) -> Start
-    requires { ⌜ Within 1023 start × (by ≤ 1) ⌝ }
-    ensures { λ r. ⌜ r ≡ record { row = start .row + by; cell = start .cell + by * head .dimensions } ⌝ }
-{
-    let d = head.dimensions as usize;
-    Start {
-        row: start.row + by,
-        cell: start.cell + by * d,
-    }
 }
 
 // Plays the frame at which a player stands.
@@ -101,36 +74,4 @@ pub fn play_frame(
     now.used = used + step.count;
     now.over = step.over;
     now
-}
-
-// Moves the rows to the front of the tables where they may find no place behind them for one row more.
-pub fn rewind(
-    start: Start,
-    head: Head,
-    columns: &mut [u32],
-    positions: &mut [u32],
-    lower_ends: &mut [u32],
-    upper_ends: &mut [u32],
-) -> Start
-    requires { ⌜ Long (tables (now columns) (now positions) (now «lower_ends») (now «upper_ends»)) ⌝ }
-    requires { ⌜ Within 1024 start × FullOpened start head ⌝ }
-    ensures { λ r. ⌜ Within 1023 r ⌝ }
-    ensures { λ r. ⌜ ((ws : List ℕ) → Reached (world head
-        (onward start (tables (now (columns .entry)) (now (positions .entry)) (now («lower_ends» .entry))
-        (now («upper_ends» .entry)))) ws) → Reached
-        (world head (onward r (tables (now (columns .exit)) (now (positions .exit)) (now («lower_ends» .exit))
-        (now («upper_ends» .exit)))) ws)) ⌝ }
-{
-    let row = start.row;
-    if row < PLACES {
-        return start;
-    }
-    let cell = start.cell;
-    let n = head.capacity as usize;
-    let d = head.dimensions as usize;
-    shift(columns, cell, cell + n * d);
-    shift(positions, row, row + n);
-    shift(lower_ends, row, row + n);
-    shift(upper_ends, row, row + n);
-    Start { row: 0, cell: 0 }
 }

@@ -1,10 +1,10 @@
 // The tape printer: plays the tape on standard input, and prints it on standard output. It keeps one piece of the tape at a time.
 use head::Head;
+use row_starts::SLIDING_CELLS;
+use row_starts::SLIDING_PLACES;
+use row_starts::Start;
 use tape_pieces::play_piece;
 use tape_playback::Playback;
-use tape_playback::SLIDING_CELLS;
-use tape_playback::SLIDING_PLACES;
-use tape_playback::Start;
 use tape_streams::flush;
 use tape_streams::refill;
 

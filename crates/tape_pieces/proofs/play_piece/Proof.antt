@@ -4,7 +4,7 @@ use native.Mathlib.Omega.{arith}
 use Rattle.model.specs.Promises.{tables}
 use Rattle.tape_playback.specs.Played.{left}
 use Rattle.tape_pieces.proofs.Playing.{Playing, fits-as, less-left, lines-room}
-use Rattle.tape_playback.proofs.Starting.{long-same}
+use Rattle.row_starts.proofs.Rewinding.{long-same}
 use Rattle.tape_pieces.proofs.play_piece.Statement.{statement}
 use Rattle.tape_pieces.proofs.play_piece.Tie as tie
 

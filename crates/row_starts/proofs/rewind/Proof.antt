@@ -1,9 +1,9 @@
 -- `rewind` meets its contract: where the rows find no place more they are moved to the front, table by table.
 use native.Mathlib.Omega.{arith}
-use Rattle.tape_playback.proofs.Starting.{rows-inside, rewound}
+use Rattle.row_starts.proofs.Rewinding.{rows-inside, rewound}
 use borrow.Author.Needs.{needs}
-use Rattle.tape_playback.proofs.rewind.Statement.{statement}
-use Rattle.tape_playback.proofs.rewind.Tie as tie
+use Rattle.row_starts.proofs.rewind.Statement.{statement}
+use Rattle.row_starts.proofs.rewind.Tie as tie
 
 returns : tie.Need-returns
 returns c = let p = c .before .before .before .before .before .pre in (record { few = omega (arith, c .if1 .taken); near = p .1 .0 .near }, λ ws r. r)

@@ -1,9 +1,9 @@
 -- `slid` meets its contract.
 use native.Mathlib.Omega.{arith}
-use Rattle.tape_playback.proofs.Starting.{few-cells}
+use Rattle.row_starts.proofs.Rewinding.{few-cells}
 use borrow.Author.Needs.{needs}
-use Rattle.tape_playback.proofs.slid.Statement.{statement}
-use Rattle.tape_playback.proofs.slid.Tie as tie
+use Rattle.row_starts.proofs.slid.Statement.{statement}
+use Rattle.row_starts.proofs.slid.Tie as tie
 
 cast-d : tie.Need-cast-d
 cast-d c = search needs

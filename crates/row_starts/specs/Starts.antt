@@ -7,7 +7,7 @@ use Rattle.head.specs.declared.Head.{Head}
 use Rattle.head.specs.Heads.{settingsHold}
 use Rattle.model.specs.Rows.{Tables}
 use Rattle.model.specs.Promises.{tables}
-use Rattle.tape_playback.specs.declared.Start.{Start}
+use Rattle.row_starts.specs.declared.Start.{Start}
 
 -- the tables have twice the places of the largest N, and the columns six cells for each
 pub record Long (t : Tables) : Type 0 where
