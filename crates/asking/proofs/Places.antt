@@ -55,13 +55,13 @@ asksPlayable (request c) = playable c
 
 -- what was read does not end the tape, and asks with at most six columns for a call that some frame asks for
 record Plain (a : Asked) : Type 0 where
-  few : columnsIn a ≤ 6
+  bounded : columnsIn a ≤ 6
   on : ends a ≡ false
   plays : asksPlayable a ≡ true
 
 misplaced-plain : Plain misplaced
 unfolding columnsIn ends asksPlayable
-misplaced-plain = record { few = omega arith; on = refl; plays = refl }
+misplaced-plain = record { bounded = omega arith; on = refl; plays = refl }
 
 -- so does what is asked in its place
 placed-plain : (b : Bool) (c : Call) → Plain (request c) → Plain (placed b (request c))
@@ -85,11 +85,11 @@ sized-plain b kind n = go (eqb kind lookKind) (eqb kind watchKind) (eqb kind unw
     go : (x y z u v : Bool)
         → Plain (placed b (cond x (request (Call.Look n)) (cond y (request (Call.Watch One n)) (cond z (request (Call.End One n))
         (cond u (request (Call.Watch Two n)) (cond v (request (Call.End Two n)) misplaced))))))
-    go true y z u v = placed-plain b (Call.Look n) (record { few = omega arith; on = refl; plays = refl })
-    go false true z u v = placed-plain b (Call.Watch One n) (record { few = omega arith; on = refl; plays = refl })
-    go false false true u v = placed-plain b (Call.End One n) (record { few = omega arith; on = refl; plays = refl })
-    go false false false true v = placed-plain b (Call.Watch Two n) (record { few = omega arith; on = refl; plays = refl })
-    go false false false false true = placed-plain b (Call.End Two n) (record { few = omega arith; on = refl; plays = refl })
+    go true y z u v = placed-plain b (Call.Look n) (record { bounded = omega arith; on = refl; plays = refl })
+    go false true z u v = placed-plain b (Call.Watch One n) (record { bounded = omega arith; on = refl; plays = refl })
+    go false false true u v = placed-plain b (Call.End One n) (record { bounded = omega arith; on = refl; plays = refl })
+    go false false false true v = placed-plain b (Call.Watch Two n) (record { bounded = omega arith; on = refl; plays = refl })
+    go false false false false true = placed-plain b (Call.End Two n) (record { bounded = omega arith; on = refl; plays = refl })
     go false false false false false = never-plain b
 
 -- a frame with n1 and n2
@@ -98,8 +98,8 @@ unfolding pairAsks columnsIn ends asksPlayable playable
 paired-plain b kind n1 n2 = go (eqb kind pastKind) (eqb kind pairKind)
   where
     go : (x y : Bool) → Plain (placed b (cond x (request (Call.Past n1 n2)) (cond y (request (Call.Pair n1 n2)) misplaced)))
-    go true y = placed-plain b (Call.Past n1 n2) (record { few = omega arith; on = refl; plays = refl })
-    go false true = placed-plain b (Call.Pair n1 n2) (record { few = omega arith; on = refl; plays = refl })
+    go true y = placed-plain b (Call.Past n1 n2) (record { bounded = omega arith; on = refl; plays = refl })
+    go false true = placed-plain b (Call.Pair n1 n2) (record { bounded = omega arith; on = refl; plays = refl })
     go false false = never-plain b
 
 -- a frame with no body
@@ -108,7 +108,7 @@ unfolding bareAsks columnsIn ends asksPlayable playable
 bare-plain b kind = go (eqb kind unpairKind)
   where
     go : (x : Bool) → Plain (placed b (cond x (request Call.Unpair) misplaced))
-    go true = placed-plain b Call.Unpair (record { few = omega arith; on = refl; plays = refl })
+    go true = placed-plain b Call.Unpair (record { bounded = omega arith; on = refl; plays = refl })
     go false = never-plain b
 
 -- the message of a whole frame
@@ -119,33 +119,33 @@ whole-plain b tape body kind columns known = go (shapeOf kind) refl known
     go : (shape : Shape) → shapeOf kind ≡ shape → KnownShape shape → Plain (placed b (asks (messageBy shape tape body kind) columns))
     go Columns e l =
         let r = quote-kinds kind e in
-        placed-plain b (Call.Quote (take kind columns)) (record { few = omega (arith, length-take kind columns, r .1); on = refl; plays = refl })
+        placed-plain b (Call.Quote (take kind columns)) (record { bounded = omega (arith, length-take kind columns, r .1); on = refl; plays = refl })
     go Size e l = sized-plain b kind _
     go SizePosition e l = never-plain b
     go SizePair e l = paired-plain b kind _ _
     go Bare e l = bare-plain b kind
     go Position e l = never-plain b
-    go Settings e l = placed-plain b (Call.Open _ _ _) (record { few = omega arith; on = refl; plays = refl })
+    go Settings e l = placed-plain b (Call.Open _ _ _) (record { bounded = omega arith; on = refl; plays = refl })
     go Unknown e l = absurd (omega arith)
 
 -- ---- whatever stands at a place
 
 -- at most six columns are asked with, for a call that some frame asks for, and the tape ends where the place stays
 record Placed (a : Asked) (over : Bool) : Type 0 where
-  few : columnsIn a ≤ 6
+  bounded : columnsIn a ≤ 6
   plays : asksPlayable a ≡ true
   last : over ≡ ends a
 
 read-placed : (b : Bool) (tape : List ℕ) (place : ℕ) (columns : List ℕ) {r : Reading} → Found tape place r → Placed (asked b (r .says) columns) (eqb (r .next) place)
 unfolding asked columnsIn ends asksPlayable stays
-read-placed b tape place columns (beyond h) = record { few = omega arith; plays = refl; last = eq-eqb place place refl }
-read-placed b tape place columns (at-end e) = record { few = omega arith; plays = refl; last = eq-eqb place place refl }
-read-placed b tape place columns unknown = record { few = omega arith; plays = refl; last = eq-eqb place place refl }
-read-placed b tape place columns cut = record { few = omega arith; plays = refl; last = eq-eqb place place refl }
+read-placed b tape place columns (beyond h) = record { bounded = omega arith; plays = refl; last = eq-eqb place place refl }
+read-placed b tape place columns (at-end e) = record { bounded = omega arith; plays = refl; last = eq-eqb place place refl }
+read-placed b tape place columns unknown = record { bounded = omega arith; plays = refl; last = eq-eqb place place refl }
+read-placed b tape place columns cut = record { bounded = omega arith; plays = refl; last = eq-eqb place place refl }
 read-placed b tape place columns (whole k h) =
     let m = whole-plain b tape (place + 1) (getD tape place 0) columns k in
     record {
-      few = m .few;
+      bounded = m .bounded;
       plays = m .plays;
       last = ne-eqb (place + 1 + bodyLength (getD tape place 0)) place (λ e. omega arith) ∙ sym (m .on);
     }
@@ -165,9 +165,9 @@ module _ (tape : List ℕ) (place : ℕ) (b : Bool) (r : Read) (w : Wanted) (e :
   wanted-asked columns = g columns ∙ ap (λ (x : Saying). asked b x columns) (read-says r e)
 
   -- a quote that is in its place has at most six columns
-  pub quote-few : {n : ℕ} → w ≡ Quote n → n ≤ 6
+  pub quote-bounded : {n : ℕ} → w ≡ Quote n → n ≤ 6
   unfolding wants columnsIn
-  quote-few {n} q =
+  quote-bounded {n} q =
       let columns = replicate {A = ℕ} n 0 in
       let same : length (take n columns) ≡ columnsIn (asked b (readAt tape place .says) columns) = ap (λ (v : Wanted). columnsIn (wants v columns)) (sym q) ∙ ap columnsIn (wanted-asked columns) in
-      omega (arith, same, length-take n columns, length-replicate {A = ℕ} n 0, read-placed b tape place columns (found tape place) .few)
+      omega (arith, same, length-take n columns, length-replicate {A = ℕ} n 0, read-placed b tape place columns (found tape place) .bounded)

@@ -76,7 +76,7 @@ message-asked b (Message.Pair kind n1 n2) columns = refl
 message-asked b (Message.Bare kind) columns = refl
 message-asked b (Message.Position kind p) columns = refl
 message-asked b (Message.Open d N directions) columns = refl
-message-asked b Message.End columns = refl
+message-asked b Message.EndOfTape columns = refl
 message-asked b (Message.Refused k) columns = refl
 
 -- what is wanted in its place

@@ -45,7 +45,7 @@ asks (Message.Pair kind n1 n2) columns = pairAsks kind n1 n2
 asks (Message.Bare kind) columns = bareAsks kind
 asks (Message.Position kind p) columns = misplaced
 asks (Message.Open d N directions) columns = request (Call.Open d N directions)
-asks Message.End columns = finished
+asks Message.EndOfTape columns = finished
 asks (Message.Refused k) columns = unread (number k)
 
 -- a call is in its place, before or after an accepted opening: an opening before one, any other call after one

@@ -98,7 +98,7 @@ fn asks(message: Message) -> Wanted
         Message::Bare(kind) => bare(kind),
         Message::Position(_, _) => Wanted::Misplaced,
         Message::Open(d, n, directions) => Wanted::Open(d, n, directions),
-        Message::End => Wanted::Nothing,
+        Message::EndOfTape => Wanted::Nothing,
         Message::Refused(refusal) => Wanted::Refused(refusal),
     }
 }

@@ -17,7 +17,7 @@ use Rattle.model.specs.Rows.{Row, Tables, rowAt, rowsIn, overOlder, overYounger
 use Rattle.model.specs.Book.{tornRows, bookRows}
 use Rattle.model.specs.Audit.{rightLower, rightUpper, wrongEnd, zeroFrom, passes}
 use Rattle.model.specs.Promises.{tables}
-use Rattle.model.proofs.Torn.{Whole, untorn-whole, window-few}
+use Rattle.model.proofs.Torn.{Whole, untorn-whole, window-bounded}
 use Rattle.rows.proofs.Reading.{length-rows}
 use Rattle.rows.proofs.Torn.{torn-columns}
 use Rattle.audits.specs.Ends.{positionAt, overYoungerAt, overOlderAt, lowerFound, upperFound, wrongAt}
@@ -84,7 +84,7 @@ module _ (h : Head) (ps ls us : List ℕ) (some : 1 ≤ h .capacity) (untorn : t
 
   -- the rows are no more than the capacity
   pub held-fits : h .held ≤ h .capacity
-  held-fits = omega (arith, held-window, window-few (h .capacity) some (h .newest))
+  held-fits = omega (arith, held-window, window-bounded (h .capacity) some (h .newest))
 
   -- nor are their columns more than the capacity's
   pub columns-fit : h .held * h .dimensions ≤ h .capacity * h .dimensions

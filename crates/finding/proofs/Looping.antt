@@ -20,25 +20,25 @@ use Rattle.finding.proofs.Blocks.{live-more, none-live, dull-none, dull
 -- i of 64 rows have been counted
 pub record Counting (uppers : List ℕ) (from count i : ℕ) : Type 0 where
   pub within : i ≤ 64
-  pub few : count ≤ i
+  pub bounded : count ≤ i
   pub count≡ : count ≡ liveIn uppers from i
 
 pub count-start : (uppers : List ℕ) (from : ℕ) → Counting uppers from 0 0
 unfolding liveIn filter run
-count-start uppers from = record { within = omega arith; few = omega arith; count≡ = refl }
+count-start uppers from = record { within = omega arith; bounded = omega arith; count≡ = refl }
 
 pub count-turn : {uppers : List ℕ} {from count i : ℕ} → Counting uppers from count i → i < 64 → (n : ℕ) → n ≡ cond (live uppers (from + i)) 1 0 → n ≤ 1
     → Counting uppers from (count + n) (i + 1)
 count-turn {uppers} {from} {count} {i} v h n e o = record {
   within = omega arith;
-  few = omega (arith, v .few);
+  bounded = omega (arith, v .bounded);
   count≡ = rw (live-more uppers from i, ← v .count≡, ← e);
 }
 
 -- how many rows are taken for live below a place: one where there are fewer than 64
-pub taken-few : (dense : Bool) (uppers : List ℕ) (to : ℕ) → to < 64 → 1 ≡ takenLive dense uppers to
+pub taken-bounded : (dense : Bool) (uppers : List ℕ) (to : ℕ) → to < 64 → 1 ≡ takenLive dense uppers to
 unfolding takenLive
-taken-few dense uppers to h = rw (lt-ltb to 64 h)
+taken-bounded dense uppers to h = rw (lt-ltb to 64 h)
 
 -- all 64 in a dense book
 pub taken-dense : (dense : Bool) (uppers : List ℕ) (to : ℕ) → 64 ≤ to → dense ≡ true → 64 ≡ takenLive dense uppers to
@@ -72,7 +72,7 @@ module _ (s : Rows) where
   pub fits-less : {a b : ℕ} → a ≤ b → Fits s b → Fits s a
   fits-less {a} {b} h v =
       let m : a * s .d ≤ b * s .d = mul-le-mul-right (s .d) h in
-      record { quoted = v .quoted; columns = omega (arith, v .columns); uppers = omega (arith, v .uppers); few = omega (arith, v .few) }
+      record { quoted = v .quoted; columns = omega (arith, v .columns); uppers = omega (arith, v .uppers); bounded = omega (arith, v .bounded) }
 
   -- the 64 rows below a place lie within the table if the rows below it do
   pub fits-at : {b : ℕ} → 64 ≤ b → Fits s b → Fits s (b - 64 + 64)

@@ -70,7 +70,7 @@ module _ (s : Rows) where
     pub quoted : s .d ≤ length (s .quote)
     pub columns : b * s .d ≤ length (s .columns)
     pub uppers : b ≤ length (s .uppers)
-    pub few : b ≤ 1024
+    pub bounded : b ≤ 1024
 
   -- the rows from place i on and below b have been gone through: those retired are listed from at on, and no
   -- live row is over the quote

@@ -22,7 +22,7 @@ body-more columns i h = rw (add-one i, take-suc columns i 0 h, map-append, flat-
 
 -- after i columns of a quote
 pub record Columns (kind : ℕ) (columns before out : List ℕ) (at i : ℕ) : Type 0 where
-  pub few : kind ≤ 6
+  pub bounded : kind ≤ 6
   pub six : length columns ≡ 6
   pub room : 1 + 4 * kind ≤ length before
   pub turns : i ≤ kind
@@ -37,9 +37,9 @@ kind-first kind (x ∷ l) h = refl
 
 pub start : (kind : ℕ) (columns before : List ℕ) → kind ≤ 6 → length columns ≡ 6 → 1 + 4 * kind ≤ length before → Columns kind columns (set before 0 kind) (set before 0 kind) 1 0
 unfolding flat
-start kind columns before few six room =
+start kind columns before bounded six room =
     record {
-      few = few;
+      bounded = bounded;
       six = six;
       room = simp length-set room;
       turns = omega arith;
@@ -54,7 +54,7 @@ pub more : {kind : ℕ} {columns before out : List ℕ} {at i : ℕ} (after : Li
 more {kind} {columns} {before} {out} {at} {i} after c h kept stored =
     let written : length (flat (map bytes4 (take i columns))) ≡ 4 * i = length-cells (take i columns) ∙ ap (λ (n : ℕ). 4 * n) (length-take-le i columns (omega arith)) in
     record {
-      few = c .few;
+      bounded = c .bounded;
       six = c .six;
       room = c .room;
       turns = omega arith;

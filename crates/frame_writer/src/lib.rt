@@ -74,7 +74,7 @@ fn framed(message: Message) -> bool
         Message::Bare(k) => has_shape(Shape::Bare, k),
         Message::Position(k, _) => has_shape(Shape::Position, k),
         Message::Open(_, _, _) => true,
-        Message::End => false,
+        Message::EndOfTape => false,
         Message::Refused(_) => false,
     }
 }
@@ -91,7 +91,7 @@ fn kind_of(message: Message) -> u8
         Message::Bare(k) => k,
         Message::Position(k, _) => k,
         Message::Open(_, _, _) => OPEN,
-        Message::End => 0,
+        Message::EndOfTape => 0,
         Message::Refused(_) => 0,
     }
 }
@@ -119,7 +119,7 @@ fn lay(message: Message, columns: [u32; 6], out: &mut [u8])
         Message::Bare(k) => out[0] = k,
         Message::Position(k, position) => lay_position(k, position, out),
         Message::Open(d, n, directions) => lay_open(d, n, directions, out),
-        Message::End => {}
+        Message::EndOfTape => {}
         Message::Refused(_) => {}
     }
 }

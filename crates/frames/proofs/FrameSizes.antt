@@ -13,7 +13,7 @@ use Rattle.frame_kinds.specs.declared.Shape.the-variants as Shape
 use Rattle.frame_kinds.specs.Kinds.{kinds, shapeIn, shapeOf, hasShape, lengthOf, bodyLength}
 use Rattle.frame_kinds.proofs.Shapes.{quote-kinds, shape-told, body-by}
 use Rattle.frames.specs.declared.Message.{Message}
-use Rattle.frames.specs.declared.Message.the-variants.{Quote, Sized, Change, Pair, Bare, Position, Open, End, Refused}
+use Rattle.frames.specs.declared.Message.the-variants.{Quote, Sized, Change, Pair, Bare, Position, Open, EndOfTape, Refused}
 use Rattle.frames.specs.Frames.{framed, kindOf, frame}
 use Rattle.frames.specs.Messages.{columnCount}
 
@@ -27,7 +27,7 @@ column-range (Pair k n1 n2) f = zero-le
 column-range (Bare k) f = zero-le
 column-range (Position k p) f = zero-le
 column-range (Open d N directions) f = zero-le
-column-range End f = zero-le
+column-range EndOfTape f = zero-le
 column-range (Refused r) f = zero-le
 
 -- the body of a kind that has a shape
@@ -44,5 +44,5 @@ frame-size (Pair k n1 n2) cs f e = ap suc (sized Shape.SizePair k f)
 frame-size (Bare k) cs f e = ap suc (sized Shape.Bare k f)
 frame-size (Position k p) cs f e = ap suc (sized Shape.Position k f)
 frame-size (Open d N directions) cs f e = refl
-frame-size End cs f e = absurd (clash false f refl)
+frame-size EndOfTape cs f e = absurd (clash false f refl)
 frame-size (Refused r) cs f e = absurd (clash false f refl)

@@ -10,7 +10,7 @@ use Rattle.octets.specs.Bytes.{number2, number4}
 use Rattle.frame_kinds.specs.declared.Shape.{Shape}
 use Rattle.frame_kinds.specs.declared.Shape.the-variants as Shape
 use Rattle.frames.specs.declared.Message.{Message}
-use Rattle.frames.specs.declared.Message.the-variants.{Quote, Sized, Change, Pair, Bare, Position, Open, End, Refused}
+use Rattle.frames.specs.declared.Message.the-variants.{Quote, Sized, Change, Pair, Bare, Position, Open, EndOfTape, Refused}
 use Rattle.frame_kinds.specs.Kinds.{shapeOf, bodyLength}
 use Rattle.frames.specs.Frames.{messageBy, messageAt, columnsAt, told, saying, reading, stays, readAt}
 use Rattle.frame_kinds.proofs.Shapes.{KnownShape, Known, quote-shape}
@@ -20,7 +20,7 @@ module _ (tape : List ℕ) (place : ℕ) where
   unfolding readAt saying
   beyond h = simp (lt-ltb (length tape) place h)
 
-  pub at-end : place ≡ length tape → stays (saying End) place ≡ readAt tape place
+  pub at-end : place ≡ length tape → stays (saying EndOfTape) place ≡ readAt tape place
   unfolding readAt saying
   at-end h = simp (le-ltb (length tape) place (omega arith), eq-eqb place (length tape) h)
 
@@ -72,7 +72,7 @@ message-told tape body kind known = go (shapeOf kind) known
 -- a quote says itself
 pub quote-told : (tape : List ℕ) (body kind : ℕ) → 1 ≤ kind → kind ≤ 6 → saying (Quote kind) ≡ told (messageAt tape body kind)
 unfolding messageAt messageBy saying
-quote-told tape body kind some few = rw (quote-shape kind some few)
+quote-told tape body kind some bounded = rw (quote-shape kind some bounded)
 
 -- the message of each shape
 module _ (tape : List ℕ) (body kind : ℕ) where

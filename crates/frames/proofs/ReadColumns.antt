@@ -66,7 +66,7 @@ module _ (tape : List ℕ) (body : ℕ) where
 -- after i columns of a quote
 pub record Columns (tape : List ℕ) (body kind : ℕ) (columns : List ℕ) (at i : ℕ) : Type 0 where
   pub some : 1 ≤ kind
-  pub few : kind ≤ 6
+  pub bounded : kind ≤ 6
   pub whole : body + 4 * kind ≤ length tape
   pub turns : i ≤ kind
   pub place : at ≡ body + 4 * i
@@ -75,8 +75,8 @@ pub record Columns (tape : List ℕ) (body kind : ℕ) (columns : List ℕ) (at 
 
 pub start : (tape : List ℕ) (body kind : ℕ) → 1 ≤ kind → kind ≤ 6 → body + 4 * kind ≤ length tape → Columns tape body kind (0 ∷ 0 ∷ 0 ∷ 0 ∷ 0 ∷ 0 ∷ []) body 0
 unfolding columnsTo column run
-start tape body kind some few whole =
-    record { some = some; few = few; whole = whole; turns = omega arith; place = omega arith; six = refl; read = refl }
+start tape body kind some bounded whole =
+    record { some = some; bounded = bounded; whole = whole; turns = omega arith; place = omega arith; six = refl; read = refl }
 
 -- one turn
 pub more : {tape : List ℕ} {body kind : ℕ} {columns : List ℕ} {at i : ℕ} (v : ℕ) → Columns tape body kind columns at i → i < kind → v ≡ number4 tape at
@@ -84,7 +84,7 @@ pub more : {tape : List ℕ} {body kind : ℕ} {columns : List ℕ} {at i : ℕ}
 more {tape} {body} {kind} {columns} {at} {i} v c h e =
     record {
       some = c .some;
-      few = c .few;
+      bounded = c .bounded;
       whole = c .whole;
       turns = omega arith;
       place = omega arith;
@@ -96,7 +96,7 @@ pub finish : {tape : List ℕ} {body kind : ℕ} {columns : List ℕ} {at i : �
 unfolding columnsTo column columnsAt
 finish {tape} {body} {kind} {columns} {at} {i} c h =
     let all : i ≡ kind = omega arith in
-    c .read ∙ ap (columnsTo tape body) all ∙ simp (le-leb 1 kind (c .some), le-leb kind 6 (c .few))
+    c .read ∙ ap (columnsTo tape body) all ∙ simp (le-leb 1 kind (c .some), le-leb kind 6 (c .bounded))
 
 -- a kind that is no quote's has no columns
 pub no-columns : (tape : List ℕ) (body kind : ℕ) → 6 < kind → 0 ∷ 0 ∷ 0 ∷ 0 ∷ 0 ∷ 0 ∷ [] ≡ columnsAt tape body kind

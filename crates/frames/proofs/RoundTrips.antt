@@ -19,7 +19,7 @@ use Rattle.octets.proofs.Cells.{length-cells, cell-again, cells-again}
 use Rattle.frame_kinds.specs.declared.Shape.{Shape}
 use Rattle.frame_kinds.specs.declared.Shape.the-variants as Shape
 use Rattle.frames.specs.declared.Message.{Message}
-use Rattle.frames.specs.declared.Message.the-variants.{Quote, Sized, Change, Pair, Bare, Position, Open, End, Refused}
+use Rattle.frames.specs.declared.Message.the-variants.{Quote, Sized, Change, Pair, Bare, Position, Open, EndOfTape, Refused}
 use Rattle.frame_kinds.specs.Kinds.{leaveKind, joinKind, pairLeaveKind, pairJoinKind, openKind, kinds, shapeIn, shapeOf, codeOf, hasShape, lengthOf, bodyLength}
 use Rattle.frames.specs.Frames.{framed, frame, messageBy, messageAt, columnsAt, Saying, told, ended, refused, Reading, stays, readAt}
 use Rattle.frames.specs.Messages.{columnCount, columnsOf, Typed, Writable, Exact}
@@ -146,7 +146,7 @@ read-after-write before after (Open d N directions) cs w =
     read-body before after body openKind (shape-known Shape.Settings openKind open-shape (omega arith)) (body-by Shape.Settings openKind (shape-told Shape.Settings openKind open-shape))
     (message-by Shape.Settings openKind open-shape (body ++ after) 0 ∙ ap (λ (n : ℕ). Open d n directions) (two-bytes N (w .typed .1)))
     (no-columns-by Shape.Settings openKind open-shape (body ++ after) 0 (omega arith))
-read-after-write before after End cs w = absurd (clash false (w .has-frame) refl)
+read-after-write before after EndOfTape cs w = absurd (clash false (w .has-frame) refl)
 read-after-write before after (Refused k) cs w = absurd (clash false (w .has-frame) refl)
 
 -- changes are written without columns
@@ -182,8 +182,8 @@ module _ (p : ℕ) (v : p < 4294967296) where
 -- the message that is told
 toldMessage : Saying → Message
 toldMessage (told m) = m
-toldMessage ended = End
-toldMessage (refused k) = End
+toldMessage ended = EndOfTape
+toldMessage (refused k) = EndOfTape
 
 -- such columns are read as they are
 pub exact-columns : (m : Message) (cs : List ℕ) → columnCount m ≤ length cs → Exact m cs → columnsOf m cs ≡ cs

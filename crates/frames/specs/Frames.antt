@@ -11,7 +11,7 @@ use Rattle.octets.specs.Bytes.{bytes2, bytes4, number2, number4}
 use Rattle.frame_kinds.specs.declared.Shape.{Shape}
 use Rattle.frame_kinds.specs.declared.Shape.the-variants as Shape
 use Rattle.frames.specs.declared.Message.{Message}
-use Rattle.frames.specs.declared.Message.the-variants.{Quote, Sized, Change, Pair, Bare, Position, Open, End, Refused}
+use Rattle.frames.specs.declared.Message.the-variants.{Quote, Sized, Change, Pair, Bare, Position, Open, EndOfTape, Refused}
 use Rattle.frames.specs.declared.Read.{Read}
 use Rattle.frame_kinds.specs.Kinds.{within, openKind, shapeOf, hasShape, bodyLength}
 
@@ -24,7 +24,7 @@ framed (Pair k n1 n2) = hasShape Shape.SizePair k
 framed (Bare k) = hasShape Shape.Bare k
 framed (Position k p) = hasShape Shape.Position k
 framed (Open d N directions) = true
-framed End = false
+framed EndOfTape = false
 framed (Refused k) = false
 
 -- the kind of a message; 0 for one that is no frame's
@@ -36,7 +36,7 @@ kindOf (Pair k n1 n2) = k
 kindOf (Bare k) = k
 kindOf (Position k p) = k
 kindOf (Open d N directions) = openKind
-kindOf End = 0
+kindOf EndOfTape = 0
 kindOf (Refused k) = 0
 
 -- the frame of a message: its kind, then its body; a quote's columns stand beside it
@@ -48,7 +48,7 @@ frame (Pair k n1 n2) columns = k ∷ (bytes2 n1 ++ bytes2 n2)
 frame (Bare k) columns = k ∷ []
 frame (Position k p) columns = k ∷ bytes4 p
 frame (Open d N directions) columns = openKind ∷ d ∷ (bytes2 N ++ (directions ∷ []))
-frame End columns = []
+frame EndOfTape columns = []
 frame (Refused k) columns = []
 
 -- the message of a kind by its shape, its body from a place on
@@ -85,7 +85,7 @@ saying (Pair k n1 n2) = told (Pair k n1 n2)
 saying (Bare k) = told (Bare k)
 saying (Position k p) = told (Position k p)
 saying (Open d N directions) = told (Open d N directions)
-saying End = ended
+saying EndOfTape = ended
 saying (Refused k) = refused (number k)
 
 -- what is read at a place: what it says, a quote's columns with zeros behind them, and the place behind the frame

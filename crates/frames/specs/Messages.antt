@@ -5,7 +5,7 @@ use mathlib.Core.Bool.{true}
 use mathlib.Core.List.{List, _++_}
 use lib.ListN.{length, getD, take, replicate}
 use Rattle.frames.specs.declared.Message.{Message}
-use Rattle.frames.specs.declared.Message.the-variants.{Quote, Sized, Change, Pair, Bare, Position, Open, End, Refused}
+use Rattle.frames.specs.declared.Message.the-variants.{Quote, Sized, Change, Pair, Bare, Position, Open, EndOfTape, Refused}
 use Rattle.frames.specs.Frames.{framed}
 
 -- how many columns stand beside a message
@@ -17,7 +17,7 @@ columnCount (Pair k n1 n2) = 0
 columnCount (Bare k) = 0
 columnCount (Position k p) = 0
 columnCount (Open d N directions) = 0
-columnCount End = 0
+columnCount EndOfTape = 0
 columnCount (Refused k) = 0
 
 -- the columns of a message as they are read: those that it has, then zeros up to six
@@ -33,7 +33,7 @@ Typed (Pair k n1 n2) = (k < 256) × (n1 < 65536) × (n2 < 65536)
 Typed (Bare k) = k < 256
 Typed (Position k p) = (k < 256) × (p < 4294967296)
 Typed (Open d N directions) = (d < 256) × (N < 65536) × (directions < 256)
-Typed End = Unit {0}
+Typed EndOfTape = Unit {0}
 Typed (Refused k) = Unit {0}
 
 -- a message that has a frame, with the columns that stand beside it

@@ -38,7 +38,7 @@ pub enum Message {
     Position(u8, u32),
     // An opening: d, N and directions.
     Open(u8, u16, u8),
-    End,
+    EndOfTape,
     Refused(Refusal),
 }
 

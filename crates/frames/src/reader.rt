@@ -66,7 +66,7 @@ pub fn read_at(tape: &[u8], place: usize) -> Read
         return stay(Message::Refused(Refusal::CutFrame), place);
     }
     if place == tape.len() {
-        return stay(Message::End, place);
+        return stay(Message::EndOfTape, place);
     }
     let kind = tape[place];
     let length = body_length(kind);

@@ -31,7 +31,7 @@ module _ (d N directions : ℕ) where
 -- the ranges of settings that hold
 pub record Within (d N : ℕ) : Type 0 where
   pub some-column : 1 ≤ d
-  pub few-columns : d ≤ 6
+  pub bounded-columns : d ≤ 6
   pub some-capacity : 1 ≤ N
   pub small-capacity : N ≤ 1024
 
@@ -43,7 +43,7 @@ settings-within d N directions h =
     let capacity = and-right (leb 1 d && leb d 6) (leb 1 N && leb N 1024) ranges in
     record {
       some-column = leb-true 1 d (and-left (leb 1 d) (leb d 6) columns);
-      few-columns = leb-true d 6 (and-right (leb 1 d) (leb d 6) columns);
+      bounded-columns = leb-true d 6 (and-right (leb 1 d) (leb d 6) columns);
       some-capacity = leb-true 1 N (and-left (leb 1 N) (leb N 1024) capacity);
       small-capacity = leb-true N 1024 (and-right (leb 1 N) (leb N 1024) capacity);
     }

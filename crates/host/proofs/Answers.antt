@@ -49,7 +49,7 @@ module _ (s : List ℕ) where
 
   -- a quote frame that is not cut is whole
   pub uncut-whole : (kind : ℕ) → 1 ≤ kind → kind ≤ 6 → getD s 0 0 ≡ kind → (checkOf s ≡ 2 → ⊥) → WholeQuote kind s
-  uncut-whole kind a b e n = record { some = a; few = b; first = e; long = go (native.Mathlib.Decide.decLt (length s) (1 + 4 * kind)) }
+  uncut-whole kind a b e n = record { some = a; bounded = b; first = e; long = go (native.Mathlib.Decide.decLt (length s) (1 + 4 * kind)) }
     where
       body : bodyLength (getD s 0 0) ≡ 4 * kind
       body = rw e (quote-body kind a b)
@@ -62,11 +62,11 @@ module _ (s : List ℕ) where
   pub whole-columns : (kind : ℕ) → WholeQuote kind s → readAt s 0 .columns ≡ columnsOf s
   unfolding readAt columnsOf
   whole-columns kind w =
-      let body : bodyLength (getD s 0 0) ≡ 4 * kind = rw (w .first) (quote-body kind (w .some) (w .few)) in
+      let body : bodyLength (getD s 0 0) ≡ 4 * kind = rw (w .first) (quote-body kind (w .some) (w .bounded)) in
       rw (
         le-ltb (length s) 0 (omega arith),
         ne-eqb 0 (length s) (λ e. let l = w .long in omega arith),
-        ne-eqb (bodyLength (getD s 0 0)) 255 (λ e. let f = w .few in omega arith),
+        ne-eqb (bodyLength (getD s 0 0)) 255 (λ e. let f = w .bounded in omega arith),
         le-ltb (length s) (1 + bodyLength (getD s 0 0)) (let l = w .long in omega arith),
       )
 
@@ -80,7 +80,7 @@ module _ (s : List ℕ) where
 
   -- what is read from a whole quote frame has the columns of its kind
   pub columns-fit : (kind : ℕ) → WholeQuote kind s → (r : Read) → reading r ≡ readAt s 0 → kind ≤ length (r .columns)
-  columns-fit kind w r e = rw (columns-found kind w r e, columns-six) (w .few)
+  columns-fit kind w r e = rw (columns-found kind w r e, columns-six) (w .bounded)
 
 -- the columns that are read from two whole quote frames decide dominance
 pub read-dominates : (kind directions : ℕ) (a b : List ℕ) → WholeQuote kind a → WholeQuote kind b → (p q : Read) → reading p ≡ readAt a 0 → reading q ≡ readAt b 0
@@ -105,11 +105,11 @@ module _ (a b : List ℕ) (directions : ℕ) where
     unfolding compareOf
     high-kind h = rw (ne-eqb (checkOf a) 2 p, ne-eqb (checkOf b) 2 q, lt-leb (getD a 0 0) 6 h, and-false)
 
-    module _ (some : 1 ≤ getD a 0 0) (few : getD a 0 0 ≤ 6) where
+    module _ (some : 1 ≤ getD a 0 0) (bounded : getD a 0 0 ≤ 6) where
       pub other-kind : (getD a 0 0 ≡ getD b 0 0 → ⊥) → compareOf a b directions ≡ 4
       unfolding compareOf
       other-kind h =
-          rw (ne-eqb (checkOf a) 2 p, ne-eqb (checkOf b) 2 q, le-leb 1 (getD a 0 0) some, le-leb (getD a 0 0) 6 few, ne-eqb (getD a 0 0) (getD b 0 0) h)
+          rw (ne-eqb (checkOf a) 2 p, ne-eqb (checkOf b) 2 q, le-leb 1 (getD a 0 0) some, le-leb (getD a 0 0) 6 bounded, ne-eqb (getD a 0 0) (getD b 0 0) h)
 
       module _ (same : getD a 0 0 ≡ getD b 0 0) where
         pub high-bit : (directions / 2 ^ getD a 0 0 ≡ 0 → ⊥) → compareOf a b directions ≡ 3
@@ -119,7 +119,7 @@ module _ (a b : List ℕ) (directions : ℕ) where
               ne-eqb (checkOf a) 2 p,
               ne-eqb (checkOf b) 2 q,
               le-leb 1 (getD a 0 0) some,
-              le-leb (getD a 0 0) 6 few,
+              le-leb (getD a 0 0) 6 bounded,
               eq-eqb (getD a 0 0) (getD b 0 0) same,
               ne-eqb (directions / 2 ^ getD a 0 0) 0 h,
             )
@@ -132,7 +132,7 @@ module _ (a b : List ℕ) (directions : ℕ) where
               ne-eqb (checkOf a) 2 p,
               ne-eqb (checkOf b) 2 q,
               le-leb 1 (getD a 0 0) some,
-              le-leb (getD a 0 0) 6 few,
+              le-leb (getD a 0 0) 6 bounded,
               eq-eqb (getD a 0 0) (getD b 0 0) same,
               eq-eqb (directions / 2 ^ getD a 0 0) 0 h,
               ← e,

@@ -36,6 +36,6 @@ compareOf a b directions =
 -- a whole quote frame of this kind stands at the start of the bytes
 pub record WholeQuote (kind : ℕ) (bytes : List ℕ) : Type 0 where
   pub some : 1 ≤ kind
-  pub few : kind ≤ 6
+  pub bounded : kind ≤ 6
   pub first : kindOf bytes ≡ kind
   pub long : 1 + 4 * kind ≤ length bytes

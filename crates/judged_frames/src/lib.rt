@@ -27,7 +27,7 @@ pub fn there_and_back(n: u16) {
     let last = read_by_value::read(&tape, place);
     let end = last.read;
     let said = end.message;
-    if let Message::End = said {
+    if let Message::EndOfTape = said {
         print(b'Z', &[]);
     }
 }

@@ -20,7 +20,7 @@ use Rattle.head.proofs.Settings.{Within, settings-within}
 use Rattle.model.specs.Rows.{Row, Tables}
 use Rattle.model.specs.Book.{shortTables, shortLoan, tornRows, tornWatches, bookRows, answerOf, watchfulAnswer, outOfRange}
 use Rattle.model.proofs.AuditTables.{length-read}
-use Rattle.model.proofs.Torn.{Whole, untorn-whole, window-few}
+use Rattle.model.proofs.Torn.{Whole, untorn-whole, window-bounded}
 use Rattle.judging.specs.Answers.{loanAnswer}
 
 -- ---- tests in order
@@ -112,7 +112,7 @@ pub record Passed (h : Head) (t : Tables) : Type 0 where
   pub untorn : tornRows h (bookRows h t) ≡ false
   pub pair-untorn : tornPair h ≡ false
   pub whole : Whole h (bookRows h t)
-  pub few-held : h .held ≤ h .capacity
+  pub bounded-held : h .held ≤ h .capacity
 
 -- the n of a call that passed 5
 pub record InRange (h : Head) (n : ℕ) : Type 0 where
@@ -156,7 +156,7 @@ module _ (h : Head) (t : Tables) where
         untorn = untorn;
         pair-untorn = none-right (tornRows h (bookRows h t)) (tornPair h) r;
         whole = whole;
-        few-held = omega (arith, as-many, window-few (h .capacity) (within .some-capacity) (h .newest));
+        bounded-held = omega (arith, as-many, window-bounded (h .capacity) (within .some-capacity) (h .newest));
       }
 
   -- an accepted call on the tables alone
@@ -172,9 +172,9 @@ module _ (h : Head) (t : Tables) where
   pub watchful-passed : (ws : List ℕ) (more : List (Bool × ℕ)) → watchfulAnswer h t ws more ≡ 0 → Passed h t × (tornWatches (h .capacity) ws ≡ false) × (firstOf more ≡ 0)
   unfolding watchfulAnswer shortLoan
   watchful-passed ws more e =
-      let few = ltb (length ws) 8 in
+      let lacking = ltb (length ws) 8 in
       let unordered = tornWatches (h .capacity) ws in
       let s = zero-passed _ _ _ e in
       let l = zero-passed _ _ _ (s .1) in
       let r = zero-passed _ _ _ (l .1) in
-      (passed (not-false (held h t) (s .0)) (none-left (short h t) few (l .0)) (none-left (torn h t) unordered (r .0)), none-right (torn h t) unordered (r .0), r .1)
+      (passed (not-false (held h t) (s .0)) (none-left (short h t) lacking (l .0)) (none-left (torn h t) unordered (r .0)), none-right (torn h t) unordered (r .0), r .1)

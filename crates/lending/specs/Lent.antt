@@ -25,12 +25,12 @@ pub record Judged (o : Outcome) (j : Judgement) : Type 0 where
   pub accepted : j .accepted ≡ granted (o .number) true false
 
 -- the answer of a call that is lent fewer than eight records, with the settings of h: 3, 11
-unfoldable pub fewAnswer : Head → ℕ
-fewAnswer h = firstOf ((not (settingsHold (h .dimensions) (h .capacity) (h .directions)), number Settings) ∷ (true, number ShortLoan) ∷ [])
+unfoldable pub shortLoanAnswer : Head → ℕ
+shortLoanAnswer h = firstOf ((not (settingsHold (h .dimensions) (h .capacity) (h .directions)), number Settings) ∷ (true, number ShortLoan) ∷ [])
 
 -- what it hands back, with this head
-unfoldable pub fewReply : Head → Head → Outcome
-fewReply h back = replyOf (fewAnswer h) back back 0
+unfoldable pub shortLoanReply : Head → Head → Outcome
+shortLoanReply h back = replyOf (shortLoanAnswer h) back back 0
 
 -- an opening is answered and leaves the tables so; the records change after it
 pub record OpenJudged (d N directions : ℕ) (t : Tables) (ws : List ℕ) (j : Judgement) (t' : Tables) : Type 0 where

@@ -5,7 +5,7 @@ ghost use lib.ListN.{take};
 ghost use Rattle.head.specs.Replies.{outcome};
 ghost use Rattle.model.specs.Book.{endReply};
 ghost use Rattle.model.specs.Promises.{tables, Quoted, Previewed, Paired, Unpaired};
-ghost use Rattle.lending.specs.Lent.{judgement, Judged, fewReply, OpenJudged, WatchJudged};
+ghost use Rattle.lending.specs.Lent.{judgement, Judged, shortLoanReply, OpenJudged, WatchJudged};
 use head::Answer;
 use head::Desk;
 use head::Effect;
@@ -28,8 +28,8 @@ pub struct Judgement {
 }
 
 // The reply where fewer than eight records are lent, with these settings, to a call that hands back this head: 3, 11.
-fn few(settings: Head, head: Head) -> Reply
-    ensures { λ r. ⌜ outcome r ≡ fewReply settings head ⌝ }
+fn short_loan(settings: Head, head: Head) -> Reply
+    ensures { λ r. ⌜ outcome r ≡ shortLoanReply settings head ⌝ }
 {
     if settings.settings_hold() {
         return Reply {
@@ -80,7 +80,7 @@ pub fn open_lent(
 {
     if lent < 8 {
         let settings = Head::fresh(dimensions, capacity, directions);
-        return judge(few(settings, Head::fresh(0, 0, 0)));
+        return judge(short_loan(settings, Head::fresh(0, 0, 0)));
     }
     let made = open(
         dimensions,
@@ -113,7 +113,7 @@ pub fn quote_lent(
         (tables (now (columns .exit)) (now (positions .exit)) (now («lower_ends» .exit)) (now («upper_ends» .exit))) (now (out .exit)) ⌝ }
 {
     if lent < 8 {
-        return few(head, head);
+        return short_loan(head, head);
     }
     quote(
         head,
@@ -144,7 +144,7 @@ pub fn preview_lent(
         (take lent watches) (now (out .entry)) r (now (out .exit)) ⌝ }
 {
     if lent < 8 {
-        return effect_of(head, few(head, head));
+        return effect_of(head, short_loan(head, head));
     }
     preview(
         head,
@@ -176,7 +176,7 @@ pub fn watch_lent(
         (take lent watches) (now (out .entry)) r (now (out .exit)) ⌝ }
 {
     if lent < 8 {
-        return judge(few(head, head));
+        return judge(short_loan(head, head));
     }
     let made = watch(
         head,
@@ -208,7 +208,7 @@ pub fn end_lent(
         (tables (now (columns .entry)) (now (positions .entry)) (now («lower_ends» .entry)) (now («upper_ends» .entry))) (take lent watches)) r ⌝ }
 {
     if lent < 8 {
-        return judge(few(head, head));
+        return judge(short_loan(head, head));
     }
     let made = end(
         head,
@@ -241,7 +241,7 @@ pub fn pair_lent(
         (take lent watches) (now (out .entry)) r (now (out .exit)) ⌝ }
 {
     if lent < 8 {
-        return few(head, head);
+        return short_loan(head, head);
     }
     pair(
         head,
@@ -270,7 +270,7 @@ pub fn unpair_lent(
         (tables (now (columns .entry)) (now (positions .entry)) (now («lower_ends» .entry)) (now («upper_ends» .entry))) (take lent watches) r ⌝ }
 {
     if lent < 8 {
-        return few(head, head);
+        return short_loan(head, head);
     }
     unpair(head, columns, positions, lower_ends, upper_ends, watches)
 }

@@ -13,7 +13,7 @@ use Rattle.lists.proofs.Filters.{map-map}
 use Rattle.skyline.specs.Skyline.{windowStart}
 use Rattle.model.specs.Rows.{Row, Tables, rowAt, rowsIn, dueRows, dueCells}
 use Rattle.listing.specs.Due.{dueAt, duePositions, dueOf}
-use Rattle.listing.proofs.Picking.{picked-few}
+use Rattle.listing.proofs.Picking.{picked-bounded}
 use Rattle.listing.proofs.Writing.{cells}
 use Rattle.listing.proofs.Listing.{Consecutive, rows-picked}
 
@@ -29,9 +29,9 @@ module _ (first a c : ℕ) (lowers : List ℕ) (i : ℕ) where
   due-early h = rw (lt-leb a (first + i) h)
 
 -- no more are due than there are rows
-pub due-few : (first a b c : ℕ) (lowers : List ℕ) → length (duePositions a b c first lowers) ≤ b + 1 - first
+pub due-bounded : (first a b c : ℕ) (lowers : List ℕ) → length (duePositions a b c first lowers) ≤ b + 1 - first
 unfolding duePositions
-due-few first a b c lowers = picked-few (dueAt a c first lowers) first (b + 1 - first)
+due-bounded first a b c lowers = picked-bounded (dueAt a c first lowers) first (b + 1 - first)
 
 -- two cells for each position
 pub due-length : (newest n1 : ℕ) (l : List ℕ) → length (cells (dueOf newest n1) l) ≡ 2 * length l

@@ -43,9 +43,9 @@ module _ (test : ℕ → Bool) (first : ℕ) where
       let e : i + (j - i) ≡ j = omega arith in
       ap (map (λ k. first + k)) (rw e at (filter-upto test 0 i (j - i) (λ q u v. none q (omega arith) (omega arith))))
 
-  pub picked-few : (count : ℕ) → length (picked test first count) ≤ count
+  pub picked-bounded : (count : ℕ) → length (picked test first count) ≤ count
   unfolding picked
-  picked-few count = simp length-map (omega (arith, length-filter test (run 0 count), length-run 0 count))
+  picked-bounded count = simp length-map (omega (arith, length-filter test (run 0 count), length-run 0 count))
 
 -- two tests that agree at the places below count pick the same
 pub picked-same : (f g : ℕ → Bool) (first count : ℕ) → ((i : ℕ) → i < count → f i ≡ g i) → picked f first count ≡ picked g first count
@@ -59,23 +59,23 @@ byte-small false = omega arith
 -- i places are counted
 pub record Counted (test : ℕ → Bool) (first count n i : ℕ) : Type 0 where
   pub within : i ≤ count
-  pub few : n ≤ i
+  pub bounded : n ≤ i
   pub sum : n ≡ length (picked test first i)
 
 pub counted-start : (test : ℕ → Bool) (first count : ℕ) → Counted test first count 0 0
-counted-start test first count = record { within = omega arith; few = omega arith; sum = ap length (sym (picked-none test first)) }
+counted-start test first count = record { within = omega arith; bounded = omega arith; sum = ap length (sym (picked-none test first)) }
 
 -- turns that count nothing
 pub counted-skip : {test : ℕ → Bool} {first count n i : ℕ} → Counted test first count n i → (j : ℕ) → i ≤ j → j ≤ count
     → ((q : ℕ) → i ≤ q → q < j → test q ≡ false) → Counted test first count n j
 counted-skip {test} {first} {i = i} v j h k none =
-    record { within = k; few = let f = v .few in omega arith; sum = v .sum ∙ ap length (sym (picked-skip test first i j h none)) }
+    record { within = k; bounded = let f = v .bounded in omega arith; sum = v .sum ∙ ap length (sym (picked-skip test first i j h none)) }
 
 pub counted-more : {test : ℕ → Bool} {first count n i : ℕ} → Counted test first count n i → i < count → (b : Bool) → b ≡ test i
     → Counted test first count (n + boolByte b) (i + 1)
 counted-more {test} {first} {count} {n} {i} v h b e = record {
   within = omega arith;
-  few = omega (arith, byte-small b);
+  bounded = omega (arith, byte-small b);
   sum = rw (picked-more, length-append, ← e, ← v .sum) (held b);
 }
   where

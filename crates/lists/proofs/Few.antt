@@ -14,8 +14,8 @@ use Rattle.lists.proofs.Runs.{length-run}
 use Rattle.lists.proofs.Rising.{rising-cons, cons-rising, rising-is}
 
 -- no more than there are numbers from the one bound to the other
-pub rising-few : (lo hi : ℕ) (l : List ℕ) → rising lo hi l ≡ true → length l ≤ suc hi - lo
-rising-few lo hi l e =
+pub rising-bounded : (lo hi : ℕ) (l : List ℕ) → rising lo hi l ≡ true → length l ≤ suc hi - lo
+rising-bounded lo hi l e =
     omega (arith, ap length (rising-is lo hi l e), length-filter (λ p. contains p l) (run lo (suc hi - lo)), length-run lo (suc hi - lo))
 
 -- a list without its lower bound rises from the next number on

@@ -24,7 +24,7 @@ use Rattle.model.specs.Book.{answerOf, bookRows, listOf, pastListOf, replyOf, l
 use Rattle.model.specs.Promises.{Looked, PastLooked}
 use Rattle.model.proofs.Replying.{refused-reply, refused-left}
 use Rattle.listing.specs.Picked.{listedAt, listedIn, Window}
-use Rattle.listing.proofs.Picking.{picked-few}
+use Rattle.listing.proofs.Picking.{picked-bounded}
 use Rattle.listing.proofs.Listing.{whole-consecutive, listed-rows}
 use Rattle.judging.proofs.Answering.{Passed, InRange, in-range, rows-stand, answer-passed, stays}
 use Rattle.looking.specs.Shown.{roomAnswer, Written, Shown, sizeAnswer, sizesAnswer}
@@ -60,9 +60,9 @@ module _ (h : Head) (t : Tables) where
         listed-rows first (h .dimensions) (h .held) t (whole-consecutive h t (p .whole) .0) a b (omega arith) (omega (arith, filled))
 
     -- at most 1,024 rows are listed
-    pub few-listed : (a b : ℕ) {count : ℕ} → b ≤ h .newest → count ≡ length (cellsOf a b) → count ≤ 1024
+    pub bounded-listed : (a b : ℕ) {count : ℕ} → b ≤ h .newest → count ≡ length (cellsOf a b) → count ≤ 1024
     unfolding listedIn
-    few-listed a b w c = omega (arith, filled, p .few-held, p .settings, picked-few (listedAt a b first (t .lowerEnds) (t .upperEnds)) first (b + 1 - first))
+    bounded-listed a b w c = omega (arith, filled, p .bounded-held, p .settings, picked-bounded (listedAt a b first (t .lowerEnds) (t .upperEnds)) first (b + 1 - first))
 
     -- the window of n
     pub start-in : {n a : ℕ} → InRange h n → a ≡ windowStart (h .newest) n → (first ≤ a) × (a ≤ h .newest + 1)

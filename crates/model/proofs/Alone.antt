@@ -24,7 +24,7 @@ use Rattle.frames.specs.declared.Message.{Message}
 use Rattle.frames.specs.Frames.{messagesFrom}
 use Rattle.model.specs.Changes.{leaveKindOf, joinKindOf, leave, join, pairLeave, pairJoin, missing, changesBy, changes, allChanges, pairChanges, frames, changeRoom}
 use Rattle.model.specs.Shares.{ofDesk}
-use Rattle.model.specs.Reference.{Reference, Lengths, newest, skylineOf, pastOf, paired, pairOf, opened, outside, outsidePair, withQuote, withWatched, withPairOf, opening, tooShort}
+use Rattle.model.specs.Reference.{Reference, Lengths, newest, skylineOf, pastOf, paired, pairOf, isOpen, outside, outsidePair, withQuote, withWatched, withPairOf, opening, tooShort}
 use Rattle.model.specs.Book.{isWatch}
 use Rattle.model.specs.Calls.{Call, Open, Quote, Look, Watch, End, Past, Pair, Unpair, Due, Preview, Seen}
 use Rattle.model.specs.Isolation.{hasPair, isChangeOf, View, viewOf}
@@ -49,19 +49,19 @@ own desk s = record {
 abbrev pub refusals : Call → Bool → Lengths → Reference → List (Bool × ℕ)
 refusals (Open d N directions) full l s = (not (settingsHold d N directions), number Settings) ∷ (tooShort l d N, number ShortLoan) ∷ []
 refusals (Quote x) full l s =
-    (not (opened s), number Settings) ∷ (not (eqb (length x) (s .dimensions)), number ColumnCount)
+    (not (isOpen s), number Settings) ∷ (not (eqb (length x) (s .dimensions)), number ColumnCount)
     ∷ (leb lastPosition (newest s), number TapeFull) ∷ (ltb (l .bytes) changeRoom, number ShortOutput) ∷ []
 refusals (Look n) full l s = []
 refusals (Watch desk n) full l s =
-    (not (opened s), number Settings) ∷ (outside s n, number WindowSize) ∷ (contains (watchOf desk n) (s .watched), number AlreadyWatched)
+    (not (isOpen s), number Settings) ∷ (outside s n, number WindowSize) ∷ (contains (watchOf desk n) (s .watched), number AlreadyWatched)
     ∷ (full, number NoFreeRecord) ∷ (ltb (l .bytes) changeRoom, number ShortOutput) ∷ []
 refusals (End desk n) full l s =
-    (not (opened s), number Settings) ∷ (outside s n, number WindowSize) ∷ (not (contains (watchOf desk n) (s .watched)), number NotWatched) ∷ []
+    (not (isOpen s), number Settings) ∷ (outside s n, number WindowSize) ∷ (not (contains (watchOf desk n) (s .watched)), number NotWatched) ∷ []
 refusals (Past n1 n2) full l s = []
 refusals (Pair n1 n2) full l s =
-    (not (opened s), number Settings) ∷ (outsidePair s n1 n2, number WindowSize) ∷ (ltb n2 n1, number WindowOrder)
+    (not (isOpen s), number Settings) ∷ (outsidePair s n1 n2, number WindowSize) ∷ (ltb n2 n1, number WindowOrder)
     ∷ (paired s, number NoFreeRecord) ∷ (ltb (l .bytes) changeRoom, number ShortOutput) ∷ []
-refusals Unpair full l s = (not (opened s), number Settings) ∷ (not (paired s), number NotWatched) ∷ []
+refusals Unpair full l s = (not (isOpen s), number Settings) ∷ (not (paired s), number NotWatched) ∷ []
 refusals Due full l s = []
 refusals (Preview x) full l s = []
 

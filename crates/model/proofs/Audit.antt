@@ -18,12 +18,12 @@ use Rattle.model.specs.Reference.{Reference, newest, headOf, rowOf, rows
 use Rattle.model.specs.Book.{bookRows}
 use Rattle.model.specs.Audit.{Small, wrongEnd, auditFinding, Tape}
 use Rattle.model.proofs.Tables.{rows-filled}
-use Rattle.model.proofs.Sound.{Wide, positions-are, row-held, rows-wide, rows-few, rows-whole}
+use Rattle.model.proofs.Sound.{Wide, positions-are, row-held, rows-wide, rows-bounded, rows-whole}
 use Rattle.model.proofs.Plays.{holding, opening-plays, opening-took, opening-accepted, accepted-settings, opening-next}
 use Rattle.model.proofs.AuditTables.{length-read, read-fit, read-small, clean-filled, filled-clean}
 use Rattle.model.proofs.Rules.{Passed, yes-iff-passed}
 use Rattle.model.proofs.RightEnds.{are-ends}
-use Rattle.model.proofs.Torn.{Whole, window-few, untorn-whole, whole-untorn}
+use Rattle.model.proofs.Torn.{Whole, window-bounded, untorn-whole, whole-untorn}
 use Rattle.model.proofs.RulesToTape.{tapeOf, length-tape, tape-wide, tape-small, tape-rows}
 
 -- the rows of a reference model have the ends that the audit asks
@@ -57,7 +57,7 @@ module _ (h : Head) (t : Tables) (hold : settingsHold (h .dimensions) (h .capaci
       let s = with qs in
       let fit = rows-wide s wide in
       let w = rows-whole s some room in
-      let read : bookRows h t ≡ rowsOf s = ap (λ (k : ℕ). rowsIn d k t) (sym helds) ∙ rw left at (rows-filled d N (rowsOf s) t (rows-few s some) fit) in
+      let read : bookRows h t ≡ rowsOf s = ap (λ (k : ℕ). rowsIn d k t) (sym helds) ∙ rw left at (rows-filled d N (rowsOf s) t (rows-bounded s some) fit) in
       let whole : Whole h (rowsOf s) = record {
         low-newest = rw n at room;
         window = rw n at (positions-are s);
@@ -86,10 +86,10 @@ module _ (h : Head) (t : Tables) (hold : settingsHold (h .dimensions) (h .capaci
   unfolding headOf bookRows
   passes-tape small P =
       let w = untorn-whole h rs (sym rows-counted) some (P .untorn) in
-      let few : h .held ≤ N = omega (arith, rows-counted, length-map rs Row.position, ap length (w .window), window-few N some M) in
+      let bounded : h .held ≤ N = omega (arith, rows-counted, length-map rs Row.position, ap length (w .window), window-bounded N some M) in
       let rows-small = read-small d (h .held) t small in
       let left = tape-rows d (h .directions) N M rs (w .window) (P .ends-right) in
-      let fit = read-fit d N (h .held) t few (P .clean .columns-room) in
+      let fit = read-fit d N (h .held) t bounded (P .clean .columns-room) in
       let plays = opening-plays d N (h .directions) hold qs (tape-wide d M rs fit) (rw counted (w .low-newest)) in
       record {
         quotes = qs;
@@ -99,7 +99,7 @@ module _ (h : Head) (t : Tables) (hold : settingsHold (h .dimensions) (h .capaci
         newest = rw (opening-next h hold, plays) counted;
         live = rw (opening-next h hold, plays, left) (sym (w .live-count));
         held = rw (opening-next h hold, plays, left) rows-counted;
-        tables = rw (opening-next h hold, plays, left) (clean-filled d N (h .held) t few (P .clean));
+        tables = rw (opening-next h hold, plays, left) (clean-filled d N (h .held) t bounded (P .clean));
       }
     where
       rs : List Row

@@ -33,7 +33,7 @@ use Rattle.frames.proofs.RoundTrips.{change-length, position-length}
 use Rattle.model.specs.Rows.{Row, Tables, rowAt, rowsIn, isLive, liveRows, listed, expiring, overOlder, retiredBy, rowAfter, lowerEndAmong, rowsAfter}
 use Rattle.model.specs.Changes.{joinKindOf, leave, join, pairLeave, pairJoin, missing, changesBy, changes, allChanges, pairChanges, frames, changeRoom}
 use Rattle.model.specs.Book.{tornRows, standing, bookRows, pastListOf, listOf, pairStands, pairListOf, watchfulAnswer, quoteRows, quoteHead, quoteBytes, quoteAnswer, ChangesFit, watchBytes, pairBytes}
-use Rattle.model.proofs.Torn.{Whole, upperAstray, upper-place, pair-within, window-few, untorn-whole}
+use Rattle.model.proofs.Torn.{Whole, upperAstray, upper-place, pair-within, window-bounded, untorn-whole}
 use Rattle.model.proofs.ChangeFrames.{frames-append, frames-bytes, changes-bytes, pair-bytes}
 
 or-false : (b : Bool) → b || false ≡ b
@@ -233,10 +233,10 @@ module _ (h : Head) (x : List ℕ) (rs : List Row) (ok : Whole h rs) where
 all-bytes : (watched : List ℕ) (before after : ℕ → List ℕ) → ((w : ℕ) → length (changes w (before (sizeIn w)) (after (sizeIn w))) ≤ 1025)
     → length (frames (allChanges watched before after)) ≤ 7175 * length watched
 unfolding allChanges flat frames
-all-bytes [] before after few = le-refl 0
-all-bytes (w ∷ ws) before after few =
-    let one = few w in
-    let more = all-bytes ws before after few in
+all-bytes [] before after bounded = le-refl 0
+all-bytes (w ∷ ws) before after bounded =
+    let one = bounded w in
+    let more = all-bytes ws before after bounded in
     omega (arith, changes-bytes w (before (sizeIn w)) (after (sizeIn w)), length-append (frames mine) (frames others), ap length (frames-append mine others))
   where
     mine : List Message
@@ -245,9 +245,9 @@ all-bytes (w ∷ ws) before after few =
     others : List Message
     others = allChanges ws before after
 
-few-standing : (ws : List ℕ) → length (standing ws) ≤ 8
+bounded-standing : (ws : List ℕ) → length (standing ws) ≤ 8
 unfolding standing
-few-standing ws = omega (arith, length-filter (ltb 0) (take 8 ws), length-take 8 ws)
+bounded-standing ws = omega (arith, length-filter (ltb 0) (take 8 ws), length-take 8 ws)
 
 length-rows : (h : Head) (t : Tables) → length (bookRows h t) ≡ h .held
 unfolding bookRows rowsIn
@@ -281,10 +281,10 @@ onward h live held = go (ltb (h .newest) lastPosition)
     go false = record { least = omega arith; most = omega arith; first = refl; second = refl }
 
 -- at most N rows are live
-live-few : (h : Head) (rs : List Row) → 1 ≤ h .capacity → Whole h rs → h .live ≤ h .capacity
+live-bounded : (h : Head) (rs : List Row) → 1 ≤ h .capacity → Whole h rs → h .live ≤ h .capacity
 unfolding liveRows
-live-few h rs some ok =
-    omega (arith, ok .live-count, length-filter isLive rs, length-map rs Row.position, ap length (ok .window), window-few (h .capacity) some (h .newest))
+live-bounded h rs some ok =
+    omega (arith, ok .live-count, length-filter isLive rs, length-map rs Row.position, ap length (ok .window), window-bounded (h .capacity) some (h .newest))
 
 module _ (h : Head) (x : List ℕ) (rs : List Row) (counted : h .held ≡ length rs) (holds : settingsHold (h .dimensions) (h .capacity) (h .directions) ≡ true)
     (whole : tornRows h rs ≡ false) where
@@ -312,11 +312,11 @@ module _ (h : Head) (x : List ℕ) (rs : List Row) (counted : h .held ≡ length
       omega (arith, rows-change h x rs ok w (windowStart (h .newest) n) (windowStart (headNext .newest) n) (headNext .newest) (on .least), ok .live-count)
 
   most : h .live + 1 ≤ 1025
-  most = omega (arith, within .small-capacity, live-few h rs (within .some-capacity) ok)
+  most = omega (arith, within .small-capacity, live-bounded h rs (within .some-capacity) ok)
 
   -- eight watches have 57,400 bytes at most
   watches-fit : (watched : List ℕ) → length watched ≤ 8 → length (frames (allChanges watched (listOf h rs) (listOf headNext rowsNext))) ≤ 57400
-  watches-fit watched few = omega (arith, all-bytes watched (listOf h rs) (listOf headNext rowsNext) (λ w. omega (arith, each w, most)))
+  watches-fit watched bounded = omega (arith, all-bytes watched (listOf h rs) (listOf headNext rowsNext) (λ w. omega (arith, each w, most)))
 
   module _ (fine : tornPair h ≡ false) where
     -- the pair has at most one change for each row
@@ -335,7 +335,7 @@ module _ (h : Head) (x : List ℕ) (rs : List Row) (counted : h .held ≡ length
                   (windowStart (headNext .newest) (h .n2)) (headNext .newest + 1 - h .n1) (omega arith),
               length-map rs Row.position,
               ap length (ok .window),
-              window-few (h .capacity) (within .some-capacity) (h .newest),
+              window-bounded (h .capacity) (within .some-capacity) (h .newest),
               within .small-capacity,
             )
         go false e = omega arith
@@ -343,10 +343,10 @@ module _ (h : Head) (x : List ℕ) (rs : List Row) (counted : h .held ≡ length
     -- so all have 62,520 bytes at most, the room that is asked for
     pub bytes-fit : (watched : List ℕ) → length watched ≤ 8
         → length (frames (allChanges watched (listOf h rs) (listOf headNext rowsNext) ++ pairChanges (pairListOf h rs) (pairListOf headNext rowsNext))) ≤ changeRoom
-    bytes-fit watched few =
+    bytes-fit watched bounded =
         omega (
           arith,
-          watches-fit watched few,
+          watches-fit watched bounded,
           pair-fit,
           pair-bytes before after,
           length-append (frames plain) (frames (pairChanges before after)),
@@ -372,9 +372,9 @@ changes-fit h x t ws holds whole fine =
     record {
       changes-each = each h x rs counted holds whole;
       changes-most = most h x rs counted holds whole;
-      watches-most = watches-fit h x rs counted holds whole (standing ws) (few-standing ws);
+      watches-most = watches-fit h x rs counted holds whole (standing ws) (bounded-standing ws);
       pair-most = pair-fit h x rs counted holds whole fine;
-      bytes-most = bytes-fit h x rs counted holds whole fine (standing ws) (few-standing ws);
+      bytes-most = bytes-fit h x rs counted holds whole fine (standing ws) (bounded-standing ws);
     }
 
 -- a list of the rows is no longer than the rows
@@ -386,8 +386,8 @@ length-listed a b rs =
 
 module _ (h : Head) (t : Tables) (holds : settingsHold (h .dimensions) (h .capacity) (h .directions) ≡ true) (whole : tornRows h (bookRows h t) ≡ false) where
   -- a list of rows that are not torn has 1,024 positions at most
-  list-few : (a b : ℕ) → length (listed a b (bookRows h t)) ≤ 1024
-  list-few a b =
+  list-bounded : (a b : ℕ) → length (listed a b (bookRows h t)) ≤ 1024
+  list-bounded a b =
       let w = settings-within (h .dimensions) (h .capacity) (h .directions) holds in
       let ok = untorn-whole h (bookRows h t) (sym (length-rows h t)) (w .some-capacity) whole in
       omega (
@@ -395,7 +395,7 @@ module _ (h : Head) (t : Tables) (holds : settingsHold (h .dimensions) (h .capac
         length-listed a b (bookRows h t),
         length-map (bookRows h t) Row.position,
         ap length (ok .window),
-        window-few (h .capacity) (w .some-capacity) (h .newest),
+        window-bounded (h .capacity) (w .some-capacity) (h .newest),
         w .small-capacity,
       )
 
@@ -405,14 +405,14 @@ module _ (h : Head) (t : Tables) (holds : settingsHold (h .dimensions) (h .capac
   watch-fits desk n ws =
       let w = watchOf desk n in
       let list = listed (windowStart (h .newest) n) (h .newest) (bookRows h t) in
-      omega (arith, frames-bytes 7 (join w) (change-length (joinKindOf (deskIn w)) (sizeIn w)) list, list-few (windowStart (h .newest) n) (h .newest))
+      omega (arith, frames-bytes 7 (join w) (change-length (joinKindOf (deskIn w)) (sizeIn w)) list, list-bounded (windowStart (h .newest) n) (h .newest))
 
   -- and those of the pair
   pub pair-fits : (n1 n2 : ℕ) (ws : List ℕ) → length (pairBytes h n1 n2 t ws) ≤ changeRoom
   unfolding pairBytes pastListOf
   pair-fits n1 n2 ws =
       let list = listed (windowStart (h .newest) n2) (h .newest + 1 - n1) (bookRows h t) in
-      omega (arith, frames-bytes 5 pairJoin (position-length pairJoinKind) list, list-few (windowStart (h .newest) n2) (h .newest + 1 - n1))
+      omega (arith, frames-bytes 5 pairJoin (position-length pairJoinKind) list, list-bounded (windowStart (h .newest) n2) (h .newest + 1 - n1))
 
 -- so an output that is not too short has room for every quote: its answer is by the other refusals alone
 pub room-suffices : (h : Head) (x : List ℕ) (t : Tables) (ws : List ℕ) (room : ℕ) → changeRoom ≤ room

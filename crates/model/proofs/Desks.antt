@@ -66,7 +66,7 @@ module _ (desk : Desk) (n : ℕ) (small : n < deskUnit) where
 -- a record of desk one or two, its n from 1 to N
 pub record IsWatch (N w : ℕ) : Type 0 where
   pub some-desk : 1 ≤ deskIn w
-  pub few-desks : deskIn w ≤ 2
+  pub bounded-desks : deskIn w ≤ 2
   pub some-size : 1 ≤ sizeIn w
   pub most-size : sizeIn w ≤ N
 
@@ -77,7 +77,7 @@ watch-parts N w e =
     let two = and-left (leb 1 (deskIn w) && leb (deskIn w) 2) (leb 1 (sizeIn w)) three in
     record {
       some-desk = leb-true 1 (deskIn w) (and-left (leb 1 (deskIn w)) (leb (deskIn w) 2) two);
-      few-desks = leb-true (deskIn w) 2 (and-right (leb 1 (deskIn w)) (leb (deskIn w) 2) two);
+      bounded-desks = leb-true (deskIn w) 2 (and-right (leb 1 (deskIn w)) (leb (deskIn w) 2) two);
       some-size = leb-true 1 (sizeIn w) (and-right (leb 1 (deskIn w) && leb (deskIn w) 2) (leb 1 (sizeIn w)) three);
       most-size = leb-true (sizeIn w) N (and-right (leb 1 (deskIn w) && leb (deskIn w) 2 && leb 1 (sizeIn w)) (leb (sizeIn w) N) e);
     }
@@ -85,7 +85,7 @@ watch-parts N w e =
 pub parts-watch : (N w : ℕ) → IsWatch N w → isWatch N w ≡ true
 unfolding isWatch
 parts-watch N w p =
-    rw (le-leb 1 (deskIn w) (p .some-desk), le-leb (deskIn w) 2 (p .few-desks), le-leb 1 (sizeIn w) (p .some-size), le-leb (sizeIn w) N (p .most-size))
+    rw (le-leb 1 (deskIn w) (p .some-desk), le-leb (deskIn w) 2 (p .bounded-desks), le-leb 1 (sizeIn w) (p .some-size), le-leb (sizeIn w) N (p .most-size))
 
 -- a desk's watch of n from 1 to N is one
 pub watch-is : (N : ℕ) (desk : Desk) (n : ℕ) → n < deskUnit → 1 ≤ n → n ≤ N → isWatch N (watchOf desk n) ≡ true
@@ -93,7 +93,7 @@ watch-is N desk n small some most =
     let r = desk-range desk in
     parts-watch N (watchOf desk n) record {
       some-desk = rw (desk-of-watch desk n small) (r .0);
-      few-desks = rw (desk-of-watch desk n small) (r .1);
+      bounded-desks = rw (desk-of-watch desk n small) (r .1);
       some-size = rw (size-of-watch desk n small) some;
       most-size = rw (size-of-watch desk n small) most;
     }
@@ -105,11 +105,11 @@ highest = 3 * deskUnit
 -- a watch is above 0 and not above that
 pub watch-range : (N w : ℕ) → isWatch N w ≡ true → (1 ≤ w) × (w ≤ highest)
 unfolding deskIn
-watch-range N w e = let p = watch-parts N w e in (omega (arith, p .some-desk), omega (arith, p .few-desks))
+watch-range N w e = let p = watch-parts N w e in (omega (arith, p .some-desk), omega (arith, p .bounded-desks))
 
 -- a watch is that of desk one or of desk two
 pub watch-desk : (N w : ℕ) → isWatch N w ≡ true → ((deskIn w ≡ 1) ⊎ (deskIn w ≡ 2))
-watch-desk N w e = let p = watch-parts N w e in go (deskIn w) (p .some-desk) (p .few-desks)
+watch-desk N w e = let p = watch-parts N w e in go (deskIn w) (p .some-desk) (p .bounded-desks)
   where
     go : (d : ℕ) → 1 ≤ d → d ≤ 2 → (d ≡ 1) ⊎ (d ≡ 2)
     go zero a b = absurd (omega arith)

@@ -19,7 +19,7 @@ use Rattle.head.specs.Refusals.{granted}
 use Rattle.head.specs.Heads.{lastPosition, tornPair}
 use Rattle.head.specs.Desks.{watchOf}
 use Rattle.model.specs.Rows.{Row, dueRows}
-use Rattle.model.specs.Reference.{Reference, newest, over, pastOf, paired, rowOf, rowsOf, headOf, dueOf, opened, withQuote, withQuotes, withWatched, withPairOf, opening, tells, foretells, referenceStep}
+use Rattle.model.specs.Reference.{Reference, newest, over, pastOf, paired, rowOf, rowsOf, headOf, dueOf, isOpen, withQuote, withQuotes, withWatched, withPairOf, opening, tells, foretells, referenceStep}
 use Rattle.model.specs.Calls.{Call, Open, Quote, Look, Watch, End, Past, Pair, Unpair, Due, Preview, Outputs, Lending, Lent, Seen, Expected, lengthsOf, expectedStep, bookStep, runs, worldFirst, expectedFirst, expectedAtEnd, referenceAtEnd}
 use Rattle.model.specs.Audit.{plays}
 use Rattle.model.specs.Claims.{isQuote, isOpening, acceptedIn, stretch, IsDue, dueAfter}
@@ -198,7 +198,7 @@ module _ (cs : List Lending) (l : Lent) where
   end-bounded = bounded (referenceAtEnd cs l) (expectedAtEnd cs l .lent) (replay-ends cs l .since)
 
   -- an opened one takes any further quotes of d columns while the tape has space for them
-  pub due-space : (more : List (List ℕ)) → opened (referenceAtEnd cs l) ≡ true → WideAll (referenceAtEnd cs l .dimensions) more
+  pub due-space : (more : List (List ℕ)) → isOpen (referenceAtEnd cs l) ≡ true → WideAll (referenceAtEnd cs l .dimensions) more
       → newest (referenceAtEnd cs l) + length more ≤ lastPosition → plays more (referenceAtEnd cs l) ≡ withQuotes (referenceAtEnd cs l) more
   due-space more hold wide room = plays-on (referenceAtEnd cs l) hold more wide room
 

@@ -21,7 +21,7 @@ use Rattle.head.specs.Desks.{watchOf}
 use Rattle.head.proofs.Numbers.{zero-passed, firstOf-alike}
 use Rattle.model.specs.Changes.{frames, changeRoom}
 use Rattle.model.specs.Shares.{ofDesk, deskFull}
-use Rattle.model.specs.Reference.{Reference, Lengths, newest, skylineOf, pastOf, paired, opened, outside, outsidePair, withQuote, withWatched, withPairOf, opening, tells, foretells, referenceStep}
+use Rattle.model.specs.Reference.{Reference, Lengths, newest, skylineOf, pastOf, paired, isOpen, outside, outsidePair, withQuote, withWatched, withPairOf, opening, tells, foretells, referenceStep}
 use Rattle.model.specs.Calls.{Call, Open, Quote, Look, Watch, End, Past, Pair, Unpair, Due, Preview, Outputs, Lending, Lent, Seen, World, lengthsOf, Expected, bookStep, expectedStep, runs, worldFirst, expectedFirst}
 use Rattle.model.specs.Isolation.{hasPair, sameDesk, concerns, isChangeOf, View, viewOf, ofConcerning, views, nines, Asking, concerning, lentLengths, SameConcern}
 use Rattle.model.specs.Claims.{AllMade}
@@ -128,7 +128,7 @@ module _ (desk : Desk) (o : Outputs) (k : Expected) (f : Since k) where
       follows-by c (alone c) refl (view-read desk [] (alone c) (o .bytes) (seen c) (λ _. none) refl refl refl) refl (λ _. refl) (λ _. fresh-own desk d N directions)
 
   quotes : (x : List ℕ) → Follows (Quote x)
-  unfolding expectedStep referenceStep tells lengthsOf opened withQuote
+  unfolding expectedStep referenceStep tells lengthsOf isOpen withQuote
   quotes x =
       let c = Quote x in
       follows-by c (alone c) refl (view-read desk (messages c s) (alone c) (o .bytes) (seen c) sent refl refl refl) refl
@@ -153,14 +153,14 @@ module _ (desk : Desk) (o : Outputs) (k : Expected) (f : Since k) where
     watch-answer = firstOf (refusals (Watch desk n) (deskFull desk (s .watched)) room s)
 
     watch-alone : alone (Watch desk n) ≡ watch-answer
-    unfolding expectedStep referenceStep tells lengthsOf opened outside
+    unfolding expectedStep referenceStep tells lengthsOf isOpen outside
     watch-alone =
         firstOf-alike p (number Settings) ((q, number WindowSize) ∷ more (contains watch (own desk s .watched))) ((q, number WindowSize) ∷ more r)
         (λ _. firstOf-alike q (number WindowSize) (more (contains watch (own desk s .watched))) (more r) (λ e. ap (λ (b : Bool). firstOf (more b)) (contains-own e)))
         ∙ told-by-nine p q r (deskFull desk (s .watched)) (ltb (length (o .bytes)) changeRoom)
       where
         p : Bool
-        p = not (opened s)
+        p = not (isOpen s)
 
         q : Bool
         q = outside s n
@@ -198,9 +198,9 @@ module _ (desk : Desk) (o : Outputs) (k : Expected) (f : Since k) where
     end-answer = firstOf (refusals (End desk n) false room s)
 
     end-alone : alone (End desk n) ≡ end-answer
-    unfolding opened outside
+    unfolding isOpen outside
     end-alone =
-        firstOf-alike (not (opened s)) (number Settings) ((outside s n, number WindowSize) ∷ more (contains watch (own desk s .watched)))
+        firstOf-alike (not (isOpen s)) (number Settings) ((outside s n, number WindowSize) ∷ more (contains watch (own desk s .watched)))
         ((outside s n, number WindowSize) ∷ more (contains watch (s .watched)))
         (λ _. firstOf-alike (outside s n) (number WindowSize) (more (contains watch (own desk s .watched))) (more (contains watch (s .watched)))
         (λ e. ap (λ (b : Bool). firstOf (more b)) (contains-own e)))
@@ -224,7 +224,7 @@ module _ (desk : Desk) (o : Outputs) (k : Expected) (f : Since k) where
       pair-answer = firstOf (refusals (Pair n1 n2) false room s)
 
       pair-alone : alone (Pair n1 n2) ≡ pair-answer
-      unfolding opened outsidePair paired
+      unfolding isOpen outsidePair paired
       pair-alone = rw its
 
       pairs : Follows (Pair n1 n2)
@@ -244,7 +244,7 @@ module _ (desk : Desk) (o : Outputs) (k : Expected) (f : Since k) where
     unpair-answer = firstOf (refusals Unpair false room s)
 
     unpair-alone : alone Unpair ≡ unpair-answer
-    unfolding opened paired
+    unfolding isOpen paired
     unpair-alone = rw its
 
     unpairs : Follows Unpair

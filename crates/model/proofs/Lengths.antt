@@ -15,12 +15,12 @@ use Rattle.head.specs.Refusals.{granted}
 use Rattle.head.specs.Heads.{settingsHold}
 use Rattle.head.proofs.Numbers.{zero-passed}
 use Rattle.model.specs.Rows.{Row, Tables, filled}
-use Rattle.model.specs.Reference.{Reference, unopened, rowsOf, opened, withQuote, withWatched, withPairOf, opening, tooShort, tells, foretells, referenceStep}
+use Rattle.model.specs.Reference.{Reference, unopened, rowsOf, isOpen, withQuote, withWatched, withPairOf, opening, tooShort, tells, foretells, referenceStep}
 use Rattle.model.specs.Book.{shortTables, shortLoan}
 use Rattle.model.specs.Calls.{Call, Open, Quote, Look, Watch, End, Past, Pair, Unpair, Due, Preview, Outputs, Lent, lengthsOf, shown, Expected, expectedStep}
 use Rattle.model.proofs.Tables.{cells-counted}
 use Rattle.model.proofs.Records.{eight-records}
-use Rattle.model.proofs.Sound.{rows-few, rows-wide}
+use Rattle.model.proofs.Sound.{rows-bounded, rows-wide}
 use Rattle.model.proofs.Simulation.{Invariant, bookWith, long-tables, long-records, some-capacity, shown-opened}
 use Rattle.model.proofs.Replay.{call-agrees}
 
@@ -32,11 +32,11 @@ either-way P (suc k) x y f g = g
 
 -- what is lent is long enough for the settings that were taken
 abbrev pub Long : Lent → Reference → Type 0
-Long l s = opened s ≡ true → shortLoan (l .tables) (l .watches) (s .dimensions) (s .capacity) ≡ false
+Long l s = isOpen s ≡ true → shortLoan (l .tables) (l .watches) (s .dimensions) (s .capacity) ≡ false
 
 -- it still is after a call: only an accepted opening takes settings, and it is refused where something is too short
 pub long-after : (l : Lent) (o : Outputs) (c : Call) (s : Reference) → Long l s → Long l (referenceStep c (lengthsOf l o) s .next)
-unfolding referenceStep tells foretells lengthsOf opening opened withQuote withWatched withPairOf tooShort shortLoan shortTables
+unfolding referenceStep tells foretells lengthsOf opening isOpen withQuote withWatched withPairOf tooShort shortLoan shortTables
 long-after l o (Open d N directions) s h =
     either-way (Long l) _ (opening d N directions) s (λ e _. zero-passed _ _ _ (zero-passed _ _ _ e .1) .0) h
 long-after l o (Quote x) s h = either-way (Long l) _ (withQuote s x) s (λ _. h) h
@@ -51,8 +51,8 @@ long-after l o (Preview x) s h = h
 
 module _ (s : Reference) (l kept : Lent) (o : Outputs) (f : Invariant s kept) (enough : shortLoan (l .tables) (l .watches) (s .dimensions) (s .capacity) ≡ false) where
   -- the rows are at most N
-  few : length (rowsOf s) ≤ s .capacity
-  few = rows-few s (some-capacity s kept f)
+  bounded : length (rowsOf s) ≤ s .capacity
+  bounded = rows-bounded s (some-capacity s kept f)
 
   -- tables that are long enough keep their lengths when they are filled with the rows of a reference model
   filled-lengths : lengthsOf (shown s l) o ≡ lengthsOf l o
@@ -67,11 +67,11 @@ module _ (s : Reference) (l kept : Lent) (o : Outputs) (f : Invariant s kept) (e
       let first-two = none-left (one || two) three first-three in
       rw (
         shown-opened s l (f .settings),
-        length-padded (N * d) (flat (map Row.columns rs)) (t .columns) (rw (cells-counted d rs (rows-wide s (f .wide))) (mul-le-mul-right d few))
+        length-padded (N * d) (flat (map Row.columns rs)) (t .columns) (rw (cells-counted d rs (rows-wide s (f .wide))) (mul-le-mul-right d bounded))
             (ltb-false (length (t .columns)) (N * d) (none-left one two first-two)),
-        length-padded N (map Row.position rs) (t .positions) (rw length-map few) (ltb-false (length (t .positions)) N (none-right one two first-two)),
-        length-padded N (map Row.lowerEnd rs) (t .lowerEnds) (rw length-map few) (ltb-false (length (t .lowerEnds)) N (none-right (one || two) three first-three)),
-        length-padded N (map Row.upperEnd rs) (t .upperEnds) (rw length-map few) (ltb-false (length (t .upperEnds)) N (none-right ((one || two) || three) four long)),
+        length-padded N (map Row.position rs) (t .positions) (rw length-map bounded) (ltb-false (length (t .positions)) N (none-right one two first-two)),
+        length-padded N (map Row.lowerEnd rs) (t .lowerEnds) (rw length-map bounded) (ltb-false (length (t .lowerEnds)) N (none-right (one || two) three first-three)),
+        length-padded N (map Row.upperEnd rs) (t .upperEnds) (rw length-map bounded) (ltb-false (length (t .upperEnds)) N (none-right ((one || two) || three) four long)),
         length-padded 8 (s .watched) (l .watches) (eight-records (f .watches)) (long-records t (l .watches) d N enough),
       )
     where
@@ -89,7 +89,7 @@ module _ (s : Reference) (l kept : Lent) (o : Outputs) (f : Invariant s kept) (e
 
 -- what is lent keeps its lengths when a reference model is shown in it
 pub lengths-kept : (s : Reference) (l kept : Lent) (o : Outputs) → Long l s → (s ≡ unopened) ⊎ Invariant s kept → lengthsOf (shown s l) o ≡ lengthsOf l o
-unfolding shown opened settingsHold
+unfolding shown isOpen settingsHold
 lengths-kept s l kept o h (inl e) = rw e
 lengths-kept s l kept o h (inr f) = filled-lengths s l kept o f (h (f .settings))
 
@@ -99,8 +99,8 @@ Since k = (k .reference ≡ unopened) ⊎ Invariant (k .reference) (k .lent)
 
 -- what is lent is long enough between two calls
 pub since-long : (s : Reference) (l : Lent) → (s ≡ unopened) ⊎ Invariant s l → Long l s
-unfolding opened settingsHold
-since-long s l (inl e) t = absurd (clash (opened s) t (rw e))
+unfolding isOpen settingsHold
+since-long s l (inl e) t = absurd (clash (isOpen s) t (rw e))
 since-long s l (inr f) t = f .long
 
 -- so it stays over a call

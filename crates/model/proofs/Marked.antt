@@ -21,7 +21,7 @@ use Rattle.frames.specs.Frames.{frame}
 use Rattle.model.specs.Rows.{Row, rowAt, rowsIn, isLive, liveRows, dueRows, dueCells, overOlder, overYounger}
 use Rattle.model.specs.Changes.{leaveKindOf, joinKindOf, missing, changesBy, changes, allChanges, pairChanges, frames, changeRoom}
 use Rattle.model.specs.Shares.{ofDesk, countOf, aboveShares, deskFull}
-use Rattle.model.specs.Reference.{Reference, Lengths, skylineOf, pastOf, paired, pairOf, rowOf, rowsOf, headOf, dueOf, opened, outside, outsidePast, outsidePair, withQuote, withWatched, withPairOf, opening, tooShort, tells, foretells, referenceStep}
+use Rattle.model.specs.Reference.{Reference, Lengths, skylineOf, pastOf, paired, pairOf, rowOf, rowsOf, headOf, dueOf, isOpen, outside, outsidePast, outsidePair, withQuote, withWatched, withPairOf, opening, tooShort, tells, foretells, referenceStep}
 use Rattle.model.specs.Book.{shortTables, tornRows, isWatch, ordered, standing, tornWatches, bookRows}
 use Rattle.model.specs.Calls.{Call, Open, Quote, Look, Watch, End, Past, Pair, Unpair, Due, Preview, Outputs, lengthsOf, Expected, expectedStep, runs, expectedFirst}
 use Rattle.model.specs.Audit.{zeroFrom, rightLower, rightUpper, wrongEnd, passes, findingOf, auditFinding, plays}
@@ -38,7 +38,7 @@ unfolding filter any headOr lastOr flat run between contains rising insert witho
     rowAt rowsIn isLive liveRows dueRows dueCells overOlder overYounger
     leaveKindOf joinKindOf missing changesBy changes allChanges pairChanges frames
     ofDesk countOf aboveShares deskFull
-    skylineOf pastOf paired pairOf rowOf rowsOf headOf dueOf opened outside outsidePast outsidePair
+    skylineOf pastOf paired pairOf rowOf rowsOf headOf dueOf isOpen outside outsidePast outsidePair
     withQuote withWatched withPairOf opening tooShort tells referenceStep
     shortTables tornRows isWatch ordered standing tornWatches bookRows zeroFrom rightLower rightUpper wrongEnd passes findingOf auditFinding plays
 marked-reference = refl

@@ -12,7 +12,7 @@ use Rattle.head.specs.Refusals.{granted}
 use Rattle.head.specs.Heads.{freshHead, settingsHold, tornPair}
 use Rattle.head.proofs.Numbers.{zero-passed}
 use Rattle.model.specs.Rows.{filled, liveRows}
-use Rattle.model.specs.Reference.{Reference, unopened, rowsOf, headOf, opened, opening, tooShort, tells, referenceStep}
+use Rattle.model.specs.Reference.{Reference, unopened, rowsOf, headOf, isOpen, opening, tooShort, tells, referenceStep}
 use Rattle.model.specs.Book.{shortTables, shortLoan, replyOf, openAnswer, openReply, openTables, openWatches}
 use Rattle.model.specs.Calls.{Open, Outputs, Lent, bookSeen, headAfter, worldAfter, bookStep, lengthsOf, shown, expectedStep}
 use Rattle.model.proofs.Tables.{Fit, filled-again, filled-long}
@@ -42,12 +42,12 @@ module _ (d N directions : ℕ) (l : Lent) where
 
   module _ (holds : settingsHold d N directions ≡ true) (long : shortLoan (l .tables) (l .watches) d N ≡ false) where
     shown-cleared : shown fresh l ≡ cleared
-    unfolding opening opened
+    unfolding opening isOpen
     shown-cleared = shown-opened fresh l holds ∙ rw no-rows
 
     -- the invariant holds after an accepted opening
     invariant : Invariant fresh cleared
-    unfolding opening opened shortLoan headOf tornPair
+    unfolding opening isOpen shortLoan headOf tornPair
     invariant = record {
       settings = holds;
       wide = λ p h k. absurd (omega arith);

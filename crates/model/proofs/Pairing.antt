@@ -14,7 +14,7 @@ use Rattle.head.specs.Heads.{withPair, tornPair}
 use Rattle.head.proofs.Numbers.{zero-passed}
 use Rattle.model.specs.Rows.{Row, dueCells}
 use Rattle.model.specs.Changes.{pairJoin, frames, changeRoom}
-use Rattle.model.specs.Reference.{Reference, newest, pastOf, paired, rowOf, rowsOf, headOf, dueOf, opened, outsidePair, withPairOf, tells, referenceStep}
+use Rattle.model.specs.Reference.{Reference, newest, pastOf, paired, rowOf, rowsOf, headOf, dueOf, isOpen, outsidePair, withPairOf, tells, referenceStep}
 use Rattle.model.specs.Book.{pairStands, replyOf, pairBytes, pairAnswer, pairReply, pairOut, unpairAnswer, unpairReply, dueWritten, dueAnswer, dueReply, dueOut}
 use Rattle.model.specs.Calls.{Pair, Unpair, Due, Outputs, Lent, World, bookSeen, headAfter, worldAfter, bookStep, lengthsOf, expectedStep}
 use Rattle.model.proofs.Torn.{within-untorn}
@@ -32,7 +32,7 @@ module _ (s : Reference) (l : Lent) (f : Invariant s l) where
     module _ (fine : tornPair (withPair (headOf s) n1 n2) ≡ false) where
       -- the invariant holds with another pair
       repaired : Invariant (withPairOf s n1 n2) l
-      unfolding withPairOf opened rowsOf rowOf
+      unfolding withPairOf isOpen rowsOf rowOf
       repaired = record {
         settings = f .settings;
         wide = f .wide;
@@ -66,7 +66,7 @@ module _ (s : Reference) (l : Lent) (f : Invariant s l) where
 
     -- the reference model's answer
     abbrev pair-answer : ℕ
-    pair-answer = firstOf ((not (opened s), number Settings) ∷ refusals)
+    pair-answer = firstOf ((not (isOpen s), number Settings) ∷ refusals)
 
     pair-bytes : outsidePair s n1 n2 ≡ false → ltb n2 n1 ≡ false → pairBytes (headOf s) n1 n2 (l .tables) (l .watches) ≡ joins
     unfolding pairBytes
@@ -102,7 +102,7 @@ module _ (s : Reference) (l : Lent) (f : Invariant s l) where
   module _ (o : Outputs) where
     -- the reference model's answer
     abbrev unpair-answer : ℕ
-    unpair-answer = firstOf ((not (opened s), number Settings) ∷ (not (paired s), number NotWatched) ∷ [])
+    unpair-answer = firstOf ((not (isOpen s), number Settings) ∷ (not (paired s), number NotWatched) ∷ [])
 
     unpair-answers : unpairAnswer (headOf s) (l .tables) (l .watches) ≡ unpair-answer
     unfolding unpairAnswer headOf pairStands paired
@@ -136,7 +136,7 @@ module _ (s : Reference) (l : Lent) (f : Invariant s l) where
 
     -- the reference model's answer
     abbrev due-answer : ℕ
-    due-answer = firstOf ((not (opened s), number Settings) ∷ short dues)
+    due-answer = firstOf ((not (isOpen s), number Settings) ∷ short dues)
 
     due-written : dueWritten (headOf s) (l .tables) ≡ dues
     unfolding dueWritten headOf

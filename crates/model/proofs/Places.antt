@@ -17,14 +17,14 @@ use Rattle.head.specs.Heads.{settingsHold}
 use Rattle.head.proofs.Numbers.{zero-passed}
 use Rattle.model.specs.Rows.{Row, Tables, filled}
 use Rattle.model.specs.Places.{SameFront, SamePlaces}
-use Rattle.model.specs.Reference.{Reference, unopened, Lengths, rowsOf, headOf, opened, withQuote, withWatched, withPairOf, opening, tooShort, tells, foretells, referenceStep}
+use Rattle.model.specs.Reference.{Reference, unopened, Lengths, rowsOf, headOf, isOpen, withQuote, withWatched, withPairOf, opening, tooShort, tells, foretells, referenceStep}
 use Rattle.model.specs.Book.{shortTables, shortLoan}
 use Rattle.model.specs.Calls.{Call, Open, Quote, Look, Watch, End, Past, Pair, Unpair, Due, Preview, Outputs, Lending, Lent, World, bookStep, lengthsOf, shown, Expected, expectedStep, runs, worldFirst, expectedFirst, Reached}
 use Rattle.model.specs.Promises.{world}
 use Rattle.model.specs.Claims.{isOpening}
 use Rattle.model.proofs.Tables.{Fit, cells-counted, filled-again, filled-long}
 use Rattle.model.proofs.Records.{eight-records}
-use Rattle.model.proofs.Sound.{rows-few, rows-wide}
+use Rattle.model.proofs.Sound.{rows-bounded, rows-wide}
 use Rattle.model.proofs.Simulation.{Invariant, Simulation, referenceWith, bookWith, simulation-by, long-tables, long-records, some-capacity, shown-opened, shown-still}
 use Rattle.model.proofs.Replay.{call-agrees, replay-ends}
 use Rattle.model.proofs.Lengths.{either-way, Since, since-step}
@@ -74,8 +74,8 @@ settings-kept Due i n s = either-way (SameSettings s) _ s s (λ _. same s) (same
 settings-kept (Preview x) i n s = same s
 
 -- so it leaves them taken, or not
-pub opened-kept : (c : Call) → isOpening c ≡ false → (n : Lengths) (s : Reference) → opened (referenceStep c n s .next) ≡ opened s
-unfolding opened
+pub opened-kept : (c : Call) → isOpening c ≡ false → (n : Lengths) (s : Reference) → isOpen (referenceStep c n s .next) ≡ isOpen s
+unfolding isOpen
 opened-kept c i n s = let e = settings-kept c i n s in rw (e .0, e .1, e .2)
 
 -- ---- what is lent
@@ -83,9 +83,9 @@ opened-kept c i n s = let e = settings-kept c i n s in rw (e .0, e .1, e .2)
 -- a list that was written over the front of another stands at the front of every one that agrees in its n places
 front-alike : (n : ℕ) (l a b : List ℕ) → length l ≤ n → padded n l a ≡ a → SameFront n a b → padded n l b ≡ b
 unfolding padded
-front-alike n l a b few e p =
+front-alike n l a b bounded e p =
     sym (append-assoc l _ (drop n b))
-    ∙ ap (λ (r : List ℕ). r ++ drop n b) (sym (take-padded n l a few) ∙ ap (take n) e ∙ sym (p .same))
+    ∙ ap (λ (r : List ℕ). r ++ drop n b) (sym (take-padded n l a bounded) ∙ ap (take n) e ∙ sym (p .same))
     ∙ take-append-drop n b
 
 module _ (s : Reference) (l : Lent) (f : Invariant s l) where
@@ -99,8 +99,8 @@ module _ (s : Reference) (l : Lent) (f : Invariant s l) where
   abbrev rs : List Row
   rs = rowsOf s
 
-  few : length rs ≤ N
-  few = rows-few s (some-capacity s l f)
+  bounded : length rs ≤ N
+  bounded = rows-bounded s (some-capacity s l f)
 
   fit : Fit d rs
   fit = rows-wide s (f .wide)
@@ -120,11 +120,11 @@ module _ (s : Reference) (l : Lent) (f : Invariant s l) where
       le-ltb (length (l .watches)) 8 (long-records (l .tables) (l .watches) d N (f .long)),
     );
     tables = rw (
-      front-alike (N * d) (flat (map Row.columns rs)) (l .tables .columns) (u .columns) (rw (cells-counted d rs fit) (mul-le-mul-right d few))
+      front-alike (N * d) (flat (map Row.columns rs)) (l .tables .columns) (u .columns) (rw (cells-counted d rs fit) (mul-le-mul-right d bounded))
           (ap Tables.columns (f .tables)) (p .columns),
-      front-alike N (map Row.position rs) (l .tables .positions) (u .positions) (rw length-map few) (ap Tables.positions (f .tables)) (p .positions),
-      front-alike N (map Row.lowerEnd rs) (l .tables .lowerEnds) (u .lowerEnds) (rw length-map few) (ap Tables.lowerEnds (f .tables)) (p .lowerEnds),
-      front-alike N (map Row.upperEnd rs) (l .tables .upperEnds) (u .upperEnds) (rw length-map few) (ap Tables.upperEnds (f .tables)) (p .upperEnds),
+      front-alike N (map Row.position rs) (l .tables .positions) (u .positions) (rw length-map bounded) (ap Tables.positions (f .tables)) (p .positions),
+      front-alike N (map Row.lowerEnd rs) (l .tables .lowerEnds) (u .lowerEnds) (rw length-map bounded) (ap Tables.lowerEnds (f .tables)) (p .lowerEnds),
+      front-alike N (map Row.upperEnd rs) (l .tables .upperEnds) (u .upperEnds) (rw length-map bounded) (ap Tables.upperEnds (f .tables)) (p .upperEnds),
     );
     records = f .records;
     watches = f .watches;
@@ -140,10 +140,10 @@ module _ (s : Reference) (l : Lent) (f : Invariant s l) where
       wide = f .wide;
       within = f .within;
       long = rw (
-        filled-long d N rs (u .tables) few fit (long-tables (u .tables) (u .watches) d N enough) d N,
+        filled-long d N rs (u .tables) bounded fit (long-tables (u .tables) (u .watches) d N enough) d N,
         length-padded 8 (s .watched) (u .watches) (eight-records (f .watches)) (long-records (u .tables) (u .watches) d N enough),
       ) enough;
-      tables = filled-again d N rs (u .tables) few fit rs;
+      tables = filled-again d N rs (u .tables) bounded fit rs;
       records = padded-again 8 (s .watched) (s .watched) (u .watches) (eight-records (f .watches));
       watches = f .watches;
       pair = f .pair;
@@ -151,10 +151,10 @@ module _ (s : Reference) (l : Lent) (f : Invariant s l) where
 
     -- what is filled in last counts
     filled-over : {d' N' : ℕ} → d' ≡ d → N' ≡ N → (rows : List Row) → filled d' N' rows (filled d N rs (u .tables)) ≡ filled d' N' rows (u .tables)
-    filled-over e g rows = rw (e, g) (filled-again d N rs (u .tables) few fit rows)
+    filled-over e g rows = rw (e, g) (filled-again d N rs (u .tables) bounded fit rows)
 
     -- so what is shown last counts
-    shown-again : (next : Reference) → opened next ≡ true → SameSettings s next → shown next (shown s u) ≡ shown next u
+    shown-again : (next : Reference) → isOpen next ≡ true → SameSettings s next → shown next (shown s u) ≡ shown next u
     shown-again next o e =
         rw (
           shown-opened s u (f .settings),
@@ -167,8 +167,8 @@ module _ (s : Reference) (l : Lent) (f : Invariant s l) where
 -- ---- calls on other tables
 
 -- before any opening none was accepted
-pub not-opened : opened unopened ≡ false
-unfolding opened settingsHold
+pub not-opened : isOpen unopened ≡ false
+unfolding isOpen settingsHold
 not-opened = refl
 
 -- a book that simulates a reference model has its head, and is lent the same
@@ -177,7 +177,7 @@ reached-with = simulation-by (λ k w. Reached w → Reached (bookWith (k .refere
 
 -- calls leave the book of a reference model on anything lent that is long enough, once the model is shown in it
 abbrev Shows : Reference → Type 0
-Shows s = (u : Lent) → opened s ≡ true → shortLoan (u .tables) (u .watches) (s .dimensions) (s .capacity) ≡ false → Reached (bookWith s (shown s u))
+Shows s = (u : Lent) → isOpen s ≡ true → shortLoan (u .tables) (u .watches) (s .dimensions) (s .capacity) ≡ false → Reached (bookWith s (shown s u))
 
 -- one call more
 shows-more : (c : Call) (o : Outputs) (s : Reference) (l : Lent) → (s ≡ unopened) ⊎ Invariant s l → Reached (bookWith s l)
@@ -217,7 +217,7 @@ module _ (o : Outputs) (k : Expected) (since : Since k) (shows : Shows (k .refer
       kept = settings-kept c i (lengthsOf (k .lent) o) s
 
       go : Since k → Reached (bookWith next (shown next u))
-      go (inl e) = absurd (clash (opened s) (sym (opened-kept c i (lengthsOf (k .lent) o) s) ∙ taken) (rw e not-opened))
+      go (inl e) = absurd (clash (isOpen s) (sym (opened-kept c i (lengthsOf (k .lent) o) s) ∙ taken) (rw e not-opened))
       go (inr f) =
           let long = rw (kept .0, kept .1) at enough in
           rw (lent-unread c i (shown s u) (k .lent) o s, shown-again s (k .lent) f u long next taken kept)
@@ -252,17 +252,17 @@ runs-show (c ∷ cs) k since shows =
 
 -- a book that calls left shows a reference model
 reached-shows : {w : World} (r : Reached w) → Shows (expected r .reference)
-reached-shows r = runs-show (r .calls) (expectedFirst (r .lent)) (inl refl) (λ u o enough. absurd (clash (opened unopened) o not-opened))
+reached-shows r = runs-show (r .calls) (expectedFirst (r .lent)) (inl refl) (λ u o enough. absurd (clash (isOpen unopened) o not-opened))
 
 -- an opened book that calls left is left by calls on all other tables that agree in its places
 pub reached-in-places : {h : Head} {t u : Tables} {ws : List ℕ} → settingsHold (h .dimensions) (h .capacity) (h .directions) ≡ true → Reached (world h t ws)
     → SamePlaces (h .dimensions) (h .capacity) t u → Reached (world h u ws)
-unfolding headOf opened
+unfolding headOf isOpen
 reached-in-places {h} {t} {u} {ws} holds r p =
     simulation-by
     (λ k w. Shows (k .reference) → settingsHold (w .head .dimensions) (w .head .capacity) (w .head .directions) ≡ true
     → SamePlaces (w .head .dimensions) (w .head .capacity) (w .lent .tables) u → Reached (world (w .head) u (w .lent .watches)))
-    (λ l shows o q. absurd (clash (opened unopened) o not-opened))
+    (λ l shows o q. absurd (clash (isOpen unopened) o not-opened))
     (λ s l f shows o q.
     let g = invariant-alike s l f u q in
     rw (shown-still s (record { tables = u; watches = l .watches }) g) at (shows (record { tables = u; watches = l .watches }) (f .settings) (g .long)))

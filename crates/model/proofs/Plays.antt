@@ -15,7 +15,7 @@ use Rattle.head.specs.Heads.{settingsHold, lastPosition}
 use Rattle.head.proofs.Settings.{settings-within}
 use Rattle.head.proofs.Numbers.{zero-passed}
 use Rattle.model.specs.Changes.{changeRoom}
-use Rattle.model.specs.Reference.{Reference, Quote, ample, newest, opening, opened, withQuote, withQuotes, tooShort, tells, referenceStep}
+use Rattle.model.specs.Reference.{Reference, Quote, ample, newest, opening, isOpen, withQuote, withQuotes, tooShort, tells, referenceStep}
 use Rattle.model.specs.Audit.{tapeOpening, plays}
 
 -- the reference model that holds these quotes, with no watch standing
@@ -30,7 +30,7 @@ plays-nil : (s : Reference) → plays [] s ≡ s
 unfolding plays
 plays-nil s = refl
 
-module _ (s : Reference) (hold : opened s ≡ true) where
+module _ (s : Reference) (hold : isOpen s ≡ true) where
   -- the columns of a quote
   abbrev d : ℕ
   d = s .dimensions
@@ -50,7 +50,7 @@ module _ (s : Reference) (hold : opened s ≡ true) where
   -- a quote is taken if it has d columns and the tape is not full
   quote-next : (x : List ℕ) (qs : List (List ℕ))
       → referenceStep (Quote x) ample (at qs) .next ≡ cond (eqb (length x) d && not (leb lastPosition (length qs))) (at (qs ++ (x ∷ []))) (at qs)
-  unfolding referenceStep tells opened firstOf granted withQuote
+  unfolding referenceStep tells isOpen firstOf granted withQuote
   quote-next x qs = rw hold (go (eqb (length x) d) (leb lastPosition (length qs)))
     where
       go : (a b : Bool)
@@ -116,8 +116,8 @@ module _ (s : Reference) (hold : opened s ≡ true) where
   plays-on more wide room = plays-all more (s .quotes) wide room
 
 module _ (d N directions : ℕ) (hold : settingsHold d N directions ≡ true) where
-  fresh-opened : opened (holding d N directions []) ≡ true
-  unfolding opened
+  fresh-opened : isOpen (holding d N directions []) ≡ true
+  unfolding isOpen
   fresh-opened = hold
 
   -- a book just opened holds a tape of quotes of d columns that is not too long
@@ -135,7 +135,7 @@ ample-long : (d N directions : ℕ) → settingsHold d N directions ≡ true →
 unfolding tooShort
 ample-long d N directions hold =
     let w = settings-within d N directions hold in
-    let cells : N * d ≤ 6144 = omega (arith, mul-le-mul-right {m = N} {n = 1024} d (w .small-capacity), w .few-columns) in
+    let cells : N * d ≤ 6144 = omega (arith, mul-le-mul-right {m = N} {n = 1024} d (w .small-capacity), w .bounded-columns) in
     rw (le-ltb 6144 (N * d) cells, le-ltb 1024 N (w .small-capacity))
 
 module _ (h : Head) where

@@ -17,13 +17,13 @@ use Rattle.head.specs.Heads.{lastPosition}
 use Rattle.head.proofs.Numbers.{zero-passed}
 use Rattle.model.specs.Rows.{filled}
 use Rattle.model.specs.Changes.{changeRoom}
-use Rattle.model.specs.Reference.{Reference, newest, rowsOf, headOf, opened, withQuote, tells, foretells, referenceStep}
+use Rattle.model.specs.Reference.{Reference, newest, rowsOf, headOf, isOpen, withQuote, tells, foretells, referenceStep}
 use Rattle.model.specs.Book.{shortLoan, replyOf, quoteRows, quoteHead, quoteBytes, quoteAnswer, quoteReply, quoteTables, quoteOut, previewReply, previewCounts, previewOut}
 use Rattle.model.specs.Calls.{Quote, Preview, Outputs, Lent, bookSeen, headAfter, worldAfter, bookStep, lengthsOf, shown, expectedStep}
 use Rattle.model.proofs.Quotes.{newest-after, quote-within, quote-new, rows-after-quote, head-after-quote}
 use Rattle.model.proofs.Written.{written, pair-kept, written-is}
 use Rattle.model.proofs.Tables.{filled-again, filled-long}
-use Rattle.model.proofs.Sound.{Wide, rows-few, rows-wide}
+use Rattle.model.proofs.Sound.{Wide, rows-bounded, rows-wide}
 use Rattle.model.proofs.Simulation.{Invariant, Agree, referenceWith, bookWith, long-tables, simulation, some-capacity, shown-opened, shown-still, rows-read, watches-read, judged-watchful}
 
 module _ (s : Reference) (l : Lent) (f : Invariant s l) (x : List ℕ) where
@@ -64,22 +64,22 @@ module _ (s : Reference) (l : Lent) (f : Invariant s l) (x : List ℕ) where
   relent = record { tables = filled (s .dimensions) (s .capacity) (quoteRows (headOf s) x (l .tables) (l .watches)) (l .tables); watches = l .watches }
 
   shown-after : shown s' l ≡ relent
-  unfolding withQuote opened
+  unfolding withQuote isOpen
   shown-after = shown-opened s' l (f .settings) ∙ rw (f .records, rows-are)
 
   module _ (wide : length x ≡ s .dimensions) (room : newest s < lastPosition) where
     -- the invariant holds after an accepted quote
     invariant : Invariant s' relent
-    unfolding withQuote opened shortLoan
+    unfolding withQuote isOpen shortLoan
     invariant =
-        let few = rows-few s' (some-capacity s l f) in
+        let bounded = rows-bounded s' (some-capacity s l f) in
         let fit = rows-wide s' (wide-after wide) in
         rw rows-are record {
           settings = f .settings;
           wide = wide-after wide;
           within = omega (arith, newest-after s x (some-capacity s l f));
-          long = rw (filled-long (s .dimensions) (s .capacity) (rowsOf s') (l .tables) few fit (long-tables (l .tables) (l .watches) (s .dimensions) (s .capacity) (f .long)) (s .dimensions) (s .capacity)) (f .long);
-          tables = filled-again (s .dimensions) (s .capacity) (rowsOf s') (l .tables) few fit (rowsOf s');
+          long = rw (filled-long (s .dimensions) (s .capacity) (rowsOf s') (l .tables) bounded fit (long-tables (l .tables) (l .watches) (s .dimensions) (s .capacity) (f .long)) (s .dimensions) (s .capacity)) (f .long);
+          tables = filled-again (s .dimensions) (s .capacity) (rowsOf s') (l .tables) bounded fit (rowsOf s');
           records = f .records;
           watches = f .watches;
           pair = pair-kept s x (f .pair);
@@ -96,7 +96,7 @@ module _ (s : Reference) (l : Lent) (f : Invariant s l) (x : List ℕ) where
 
     -- the reference model's answer
     abbrev answer : ℕ
-    answer = firstOf ((not (opened s), number Settings) ∷ refusals)
+    answer = firstOf ((not (isOpen s), number Settings) ∷ refusals)
 
     -- the book model's answer is the same
     answers : quoteAnswer (headOf s) x (l .tables) (l .watches) (length (o .bytes)) ≡ answer

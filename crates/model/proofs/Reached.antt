@@ -15,7 +15,7 @@ use Rattle.head.specs.declared.Refusal.the-variants.{Settings}
 use Rattle.head.specs.Refusals.{number, firstOf}
 use Rattle.head.specs.Heads.{settingsHold, tornPair}
 use Rattle.model.specs.Rows.{Row}
-use Rattle.model.specs.Reference.{Reference, unopened, newest, over, rowOf, rowsOf, headOf, opened}
+use Rattle.model.specs.Reference.{Reference, unopened, newest, over, rowOf, rowsOf, headOf, isOpen}
 use Rattle.model.specs.Book.{bookRows, watchfulAnswer}
 use Rattle.model.specs.Calls.{Call, Outputs, Lending, Lent, Seen, World, bookStep, Expected, expectedStep, runs, worldFirst, expectedFirst, Reached}
 use Rattle.model.proofs.Sound.{positions-are, row-held}
@@ -61,7 +61,7 @@ reached-by P before after {w} r = simulation-by (λ k v. P v) before after (expe
 pub reached-judged : (more : List (Bool × ℕ)) {w : World} → Reached w
     → watchfulAnswer (w .head) (w .lent .tables) (w .lent .watches) more
     ≡ firstOf ((not (settingsHold (w .head .dimensions) (w .head .capacity) (w .head .directions)), number Settings) ∷ more)
-unfolding watchfulAnswer firstOf settingsHold headOf opened
+unfolding watchfulAnswer firstOf settingsHold headOf isOpen
 reached-judged more =
     reached-by
     (λ w. watchfulAnswer (w .head) (w .lent .tables) (w .lent .watches) more ≡ firstOf ((not (settingsHold (w .head .dimensions) (w .head .capacity) (w .head .directions)), number Settings) ∷ more))

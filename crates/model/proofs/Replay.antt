@@ -7,7 +7,7 @@ use Rattle.lists.specs.Lists.{filter, laid}
 use Rattle.head.specs.Refusals.{firstOf, granted}
 use Rattle.head.specs.Heads.{settingsHold}
 use Rattle.model.specs.Rows.{liveRows}
-use Rattle.model.specs.Reference.{Reference, unopened, headOf, opened, tells, foretells, referenceStep}
+use Rattle.model.specs.Reference.{Reference, unopened, headOf, isOpen, tells, foretells, referenceStep}
 use Rattle.model.specs.Book.{answerOf, watchfulAnswer, replyOf, quoteAnswer, quoteReply, quoteTables, quoteOut, previewReply, previewCounts, previewOut, lookAnswer, lookReply, lookOut, pastAnswer, pastReply, pastOut, watchAnswer, watchReply, watchWatches, watchOut, endAnswer, endReply, endWatches, pairAnswer, pairReply, pairOut, unpairAnswer, unpairReply, dueAnswer, dueReply, dueOut}
 use Rattle.model.specs.Calls.{Call, Open, Quote, Look, Watch, End, Past, Pair, Unpair, Due, Preview, Outputs, Lending, Lent, Seen, World, bookSeen, headAfter, worldAfter, bookStep, lengthsOf, shown, Expected, expectedStep, runs, worldFirst, expectedFirst}
 use Rattle.model.proofs.Sound.{rows-none}
@@ -19,7 +19,7 @@ use Rattle.model.proofs.Pairing.{pairs, unpairs, looks-due}
 
 -- before the first accepted opening every call but an opening is refused by both models
 unopened-agrees : (c : Call) (o : Outputs) (l : Lent) → Agree c o (referenceWith unopened l) (bookWith unopened l)
-unfolding bookSeen headAfter worldAfter bookStep expectedStep referenceStep tells foretells lengthsOf laid shown opened settingsHold headOf firstOf granted
+unfolding bookSeen headAfter worldAfter bookStep expectedStep referenceStep tells foretells lengthsOf laid shown isOpen settingsHold headOf firstOf granted
     answerOf watchfulAnswer replyOf quoteAnswer quoteReply quoteTables quoteOut previewReply previewCounts previewOut
     lookAnswer lookReply lookOut pastAnswer pastReply pastOut
     watchAnswer watchReply watchWatches watchOut endAnswer endReply endWatches

@@ -32,7 +32,7 @@ use Rattle.model.proofs.Due.{end-bounded}
 -- a desk with fewer than 3 is not full
 pub sure-of-three : (desk : Desk) (ws : List ℕ) → countOf desk ws < 3 → deskFull desk ws ≡ false
 unfolding deskFull
-sure-of-three desk ws few = rw (lt-leb 3 (countOf desk ws) few)
+sure-of-three desk ws bounded = rw (lt-leb 3 (countOf desk ws) bounded)
 
 -- a refusal whose condition does not hold is not given
 not-given : (k : ℕ) (cs : List (Bool × ℕ)) → any (λ c. eqb (c .1) (suc k) && c .0) cs ≡ false → firstOf cs ≡ suc k → ⊥
@@ -54,12 +54,12 @@ not-given k (c ∷ cs) e f =
 pub sure-of-three-reference : (desk : Desk) (n : ℕ) (l : Lengths) (s : Reference) → countOf desk (s .watched) < 3
     → referenceStep (Watch desk n) l s .number ≡ number NoFreeRecord → ⊥
 unfolding referenceStep tells any
-sure-of-three-reference desk n l s few = not-given 8 _ (rw (sure-of-three desk (s .watched) few))
+sure-of-three-reference desk n l s bounded = not-given 8 _ (rw (sure-of-three desk (s .watched) bounded))
 
 pub sure-of-three-book : (h : Head) (desk : Desk) (n : ℕ) (t : Tables) (ws : List ℕ) (room : ℕ) → countOf desk (standing ws) < 3
     → watchAnswer h desk n t ws room ≡ number NoFreeRecord → ⊥
 unfolding watchAnswer watchfulAnswer any
-sure-of-three-book h desk n t ws room few = not-given 8 _ (rw (sure-of-three desk (standing ws) few))
+sure-of-three-book h desk n t ws room bounded = not-given 8 _ (rw (sure-of-three desk (standing ws) bounded))
 
 -- ---- the shares hold
 

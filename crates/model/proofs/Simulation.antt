@@ -17,20 +17,20 @@ use Rattle.head.specs.Heads.{settingsHold, lastPosition, tornPair}
 use Rattle.head.specs.Desks.{deskUnit}
 use Rattle.head.proofs.Settings.{settings-within}
 use Rattle.model.specs.Rows.{Row, Tables, rowsIn, filled, dueRows}
-use Rattle.model.specs.Reference.{Reference, unopened, newest, skylineOf, pastOf, paired, pairOf, rowsOf, headOf, dueOf, opened, outside, outsidePast, outsidePair}
+use Rattle.model.specs.Reference.{Reference, unopened, newest, skylineOf, pastOf, paired, pairOf, rowsOf, headOf, dueOf, isOpen, outside, outsidePast, outsidePair}
 use Rattle.model.specs.Book.{shortTables, shortLoan, tornRows, tornWatches, standing, bookRows, pastListOf, listOf, pairStands, pairListOf, answerOf, watchfulAnswer, dueIn}
 use Rattle.model.specs.Calls.{Call, Outputs, Lent, World, bookStep, shown, Expected, expectedStep}
 use Rattle.model.proofs.Quotes.{past-listed, skyline-listed}
 use Rattle.model.proofs.Tables.{rows-filled}
 use Rattle.model.proofs.Torn.{PairWithin, pair-within}
 use Rattle.model.proofs.Records.{Records, no-records}
-use Rattle.model.proofs.Sound.{Wide, rows-none, rows-few, rows-wide, rows-sound, standing-padded, watches-sound}
+use Rattle.model.proofs.Sound.{Wide, rows-none, rows-bounded, rows-wide, rows-sound, standing-padded, watches-sound}
 
 -- from the first accepted opening on: what is lent is filled from the reference model, whose settings hold, whose quotes have d
 -- columns each and are not too many, whose watches rise, are a desk's of n from 1 to N and are within the shares, and whose pair is not
 -- torn
 pub record Invariant (s : Reference) (l : Lent) : Type 0 where
-  pub settings : opened s ≡ true
+  pub settings : isOpen s ≡ true
   pub wide : Wide s
   pub within : newest s ≤ lastPosition
   pub long : shortLoan (l .tables) (l .watches) (s .dimensions) (s .capacity) ≡ false
@@ -56,7 +56,7 @@ pub record Bounded (s : Reference) : Type 0 where
 
 -- the reference model is bounded wherever a book simulates it
 pub bounded : (s : Reference) (l : Lent) → (s ≡ unopened) ⊎ Invariant s l → Bounded s
-unfolding opened headOf tornPair
+unfolding isOpen headOf tornPair
 bounded s l (inl e) = rw e (record { short = omega arith; small = omega arith; watches = no-records 0; pair = refl })
 bounded s l (inr f) = record {
   short = f .within;
@@ -135,7 +135,7 @@ unfolding pairListOf pairStands pastListOf pairOf paired headOf
 pair-is s e = alike-where (paired s) (λ t. let w = watched-pair s e t in past-listed s (s .n1) (s .n2) (let h = w .two in omega arith) (w .order) (w .most))
 
 -- what is lent, as an opened reference model shows it
-pub shown-opened : (s : Reference) (l : Lent) → opened s ≡ true
+pub shown-opened : (s : Reference) (l : Lent) → isOpen s ≡ true
     → shown s l ≡ record { tables = filled (s .dimensions) (s .capacity) (rowsOf s) (l .tables); watches = padded 8 (s .watched) (l .watches) }
 unfolding shown
 shown-opened s l e = rw e
@@ -150,7 +150,7 @@ module _ (s : Reference) (l : Lent) (f : Invariant s l) where
   shown-still = rw (shown-opened s l (f .settings), f .tables, f .records)
 
   pub some-capacity : 1 ≤ s .capacity
-  unfolding opened
+  unfolding isOpen
   some-capacity = settings-within (s .dimensions) (s .capacity) (s .directions) (f .settings) .some-capacity
 
   -- the book model reads the rows of the reference model
@@ -158,7 +158,7 @@ module _ (s : Reference) (l : Lent) (f : Invariant s l) where
   unfolding bookRows headOf
   rows-read =
       ap (rowsIn (s .dimensions) (length (rowsOf s))) (sym (f .tables))
-      ∙ rows-filled (s .dimensions) (s .capacity) (rowsOf s) (l .tables) (rows-few s some-capacity) (rows-wide s (f .wide))
+      ∙ rows-filled (s .dimensions) (s .capacity) (rowsOf s) (l .tables) (rows-bounded s some-capacity) (rows-wide s (f .wide))
 
   -- and its watches
   pub watches-read : standing (l .watches) ≡ s .watched
@@ -185,13 +185,13 @@ module _ (s : Reference) (l : Lent) (f : Invariant s l) where
   watches-whole = ap (tornWatches (s .capacity)) (sym (f .records)) ∙ watches-sound (s .capacity) (s .watched) (l .watches) (f .watches)
 
   -- neither 3 nor 11 nor 12 is said: the answer is by what the call adds
-  pub judged : (more more' : List (Bool × ℕ)) → firstOf more ≡ firstOf more' → answerOf (headOf s) (l .tables) more ≡ firstOf ((not (opened s), number Settings) ∷ more')
-  unfolding answerOf firstOf headOf opened
+  pub judged : (more more' : List (Bool × ℕ)) → firstOf more ≡ firstOf more' → answerOf (headOf s) (l .tables) more ≡ firstOf ((not (isOpen s), number Settings) ∷ more')
+  unfolding answerOf firstOf headOf isOpen
   judged more more' e = rw (f .settings, long-tables (l .tables) (l .watches) (s .dimensions) (s .capacity) (f .long), rows-read, rows-whole, f .pair) e
 
   -- and no more so if the watches are judged too
-  pub judged-watchful : (more more' : List (Bool × ℕ)) → firstOf more ≡ firstOf more' → watchfulAnswer (headOf s) (l .tables) (l .watches) more ≡ firstOf ((not (opened s), number Settings) ∷ more')
-  unfolding watchfulAnswer firstOf headOf opened
+  pub judged-watchful : (more more' : List (Bool × ℕ)) → firstOf more ≡ firstOf more' → watchfulAnswer (headOf s) (l .tables) (l .watches) more ≡ firstOf ((not (isOpen s), number Settings) ∷ more')
+  unfolding watchfulAnswer firstOf headOf isOpen
   judged-watchful more more' e = rw (f .settings, f .long, rows-read, rows-whole, f .pair, watches-whole) e
 
 -- what holds before any opening and by the invariant holds of every simulation
@@ -208,7 +208,7 @@ simulation-by P before after k w j = rw same (go (k .reference) (j .since))
 
 -- what is lent is as the reference model shows it, opened or not
 pub shown-same : (s : Reference) (l : Lent) → (s ≡ unopened) ⊎ Invariant s l → shown s l ≡ l
-unfolding shown opened settingsHold
+unfolding shown isOpen settingsHold
 shown-same s l (inl e) = rw e
 shown-same s l (inr f) = shown-still s l f
 

@@ -26,7 +26,7 @@ use Rattle.model.specs.Reference.{Reference, newest, over, rowOf, rowsOf
 use Rattle.model.specs.Shares.{aboveShares}
 use Rattle.model.specs.Book.{tornRows, isWatch, ordered, tornWatches, standing}
 use Rattle.model.proofs.Tables.{Fit}
-use Rattle.model.proofs.Torn.{Whole, lowerAstray, upperAstray, window-few, whole-untorn}
+use Rattle.model.proofs.Torn.{Whole, lowerAstray, upperAstray, window-bounded, whole-untorn}
 use Rattle.model.proofs.Desks.{watch-range, highest}
 use Rattle.model.proofs.Records.{Records, eight-records}
 
@@ -86,8 +86,8 @@ module _ (s : Reference) where
 
   module _ (hN : 1 ≤ s .capacity) where
     -- at most N rows
-    pub rows-few : length (rowsOf s) ≤ s .capacity
-    rows-few = rw rows-counted (window-few (s .capacity) hN (newest s))
+    pub rows-bounded : length (rowsOf s) ≤ s .capacity
+    rows-bounded = rw rows-counted (window-bounded (s .capacity) hN (newest s))
 
     -- the rows of a reference model are whole
     pub rows-whole : newest s ≤ lastPosition → Whole (headOf s) (rowsOf s)

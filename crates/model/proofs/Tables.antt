@@ -68,9 +68,9 @@ module _ (d : ℕ) where
       length-append (r .columns) (flat (map Row.columns rs))
       ∙ rw (fit r (List·Memᴰ·head refl), cells-counted rs (λ q m. fit q (List·Memᴰ·tail m))) (add-comm d (length rs * d) ∙ sym (suc-mul (length rs) d))
 
-  module _ (N : ℕ) (rs : List Row) (t : Tables) (few : length rs ≤ N) (fit : Fit d rs) where
+  module _ (N : ℕ) (rs : List Row) (t : Tables) (bounded : length rs ≤ N) (fit : Fit d rs) where
     cells-fit : length (flat (map Row.columns rs)) ≤ N * d
-    cells-fit = rw (cells-counted rs fit) (mul-le-mul-right d few)
+    cells-fit = rw (cells-counted rs fit) (mul-le-mul-right d bounded)
 
     -- what is filled is read back
     pub rows-filled : rowsIn d (length rs) (filled d N rs t) ≡ rs
@@ -83,9 +83,9 @@ module _ (d : ℕ) where
     filled-again rs' =
         rw (
           padded-again (N * d) (flat (map Row.columns rs')) (flat (map Row.columns rs)) (t .columns) cells-fit,
-          padded-again N (map Row.position rs') (map Row.position rs) (t .positions) (rw length-map few),
-          padded-again N (map Row.lowerEnd rs') (map Row.lowerEnd rs) (t .lowerEnds) (rw length-map few),
-          padded-again N (map Row.upperEnd rs') (map Row.upperEnd rs) (t .upperEnds) (rw length-map few),
+          padded-again N (map Row.position rs') (map Row.position rs) (t .positions) (rw length-map bounded),
+          padded-again N (map Row.lowerEnd rs') (map Row.lowerEnd rs) (t .lowerEnds) (rw length-map bounded),
+          padded-again N (map Row.upperEnd rs') (map Row.upperEnd rs) (t .upperEnds) (rw length-map bounded),
         )
 
     -- tables that are long enough keep their lengths
@@ -100,7 +100,7 @@ module _ (d : ℕ) where
         let two = none-left (c || p) l three in
         rw (
           length-padded (N * d) (flat (map Row.columns rs)) (t .columns) cells-fit (ltb-false (length (t .columns)) (N * d) (none-left c p two)),
-          length-padded N (map Row.position rs) (t .positions) (rw length-map few) (ltb-false (length (t .positions)) N (none-right c p two)),
-          length-padded N (map Row.lowerEnd rs) (t .lowerEnds) (rw length-map few) (ltb-false (length (t .lowerEnds)) N (none-right (c || p) l three)),
-          length-padded N (map Row.upperEnd rs) (t .upperEnds) (rw length-map few) (ltb-false (length (t .upperEnds)) N (none-right (c || p || l) u h)),
+          length-padded N (map Row.position rs) (t .positions) (rw length-map bounded) (ltb-false (length (t .positions)) N (none-right c p two)),
+          length-padded N (map Row.lowerEnd rs) (t .lowerEnds) (rw length-map bounded) (ltb-false (length (t .lowerEnds)) N (none-right (c || p) l three)),
+          length-padded N (map Row.upperEnd rs) (t .upperEnds) (rw length-map bounded) (ltb-false (length (t .upperEnds)) N (none-right (c || p || l) u h)),
         )

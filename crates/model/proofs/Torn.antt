@@ -96,9 +96,9 @@ module _ (N : ℕ) where
 
   module _ (some : 1 ≤ N) where
     -- they are at most N
-    pub window-few : (M : ℕ) → length (between (windowStart M N) M) ≤ N
+    pub window-bounded : (M : ℕ) → length (between (windowStart M N) M) ≤ N
     unfolding windowStart
-    window-few M = omega (arith, window-length M)
+    window-bounded M = omega (arith, window-length M)
 
     -- none on an empty tape
     pub window-none : between (windowStart 0 N) 0 ≡ []
@@ -175,9 +175,9 @@ module _ (h : Head) (rs : List Row) (counted : h .held ≡ length rs) (some : 1 
   unfolding tornRows windowStart
   whole-untorn w =
       let k : h .held ≡ suc M - S = counted ∙ sym (length-map rs Row.position) ∙ ap length (w .window) ∙ window-length (h .capacity) M in
-      let few : h .held ≤ h .capacity = omega arith in
+      let bounded : h .held ≤ h .capacity = omega arith in
       rw (
-        le-ltb (h .capacity) (h .held) few,
+        le-ltb (h .capacity) (h .held) bounded,
         le-ltb lastPosition M (w .low-newest),
         window-paired (h .capacity) some M (h .held) k,
         w .window,

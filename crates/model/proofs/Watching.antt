@@ -15,7 +15,7 @@ use Rattle.head.specs.Desks.{watchOf}
 use Rattle.head.proofs.Numbers.{zero-passed, firstOf-alike}
 use Rattle.model.specs.Changes.{join, frames, changeRoom}
 use Rattle.model.specs.Shares.{deskFull}
-use Rattle.model.specs.Reference.{Reference, skylineOf, pastOf, rowOf, rowsOf, headOf, opened, outside, outsidePast, withWatched, tells, referenceStep}
+use Rattle.model.specs.Reference.{Reference, skylineOf, pastOf, rowOf, rowsOf, headOf, isOpen, outside, outsidePast, withWatched, tells, referenceStep}
 use Rattle.model.specs.Book.{shortLoan, bookRows, listOf, replyOf, outOfRange, lookCells, lookAnswer, lookReply, lookOut, pastCells, pastAnswer, pastReply, pastOut, watchBytes, watchAnswer, watchReply, watchWatches, watchOut, endAnswer, endReply, endWatches}
 use Rattle.model.specs.Calls.{Look, Watch, End, Past, Outputs, Lent, bookSeen, headAfter, worldAfter, bookStep, lengthsOf, shown, expectedStep}
 use Rattle.model.proofs.Records.{Records, eight-records, records-insert, records-filter}
@@ -39,7 +39,7 @@ module _ (s : Reference) (l : Lent) (f : Invariant s l) (n : ℕ) where
   module _ (o : Outputs) where
     -- the reference model's answer
     abbrev look-answer : ℕ
-    look-answer = firstOf ((not (opened s), number Settings) ∷ (outside s n, number WindowSize) ∷ short (o .cells) (skylineOf s n))
+    look-answer = firstOf ((not (isOpen s), number Settings) ∷ (outside s n, number WindowSize) ∷ short (o .cells) (skylineOf s n))
 
     look-cells : outside s n ≡ false → lookCells (headOf s) n (l .tables) ≡ skylineOf s n
     unfolding lookCells
@@ -69,22 +69,22 @@ module _ (s : Reference) (l : Lent) (f : Invariant s l) (ws : List ℕ) (records
 
   -- the invariant holds with other watches
   rewatched : Invariant (withWatched s ws) relent
-  unfolding withWatched opened rowsOf rowOf headOf shortLoan
+  unfolding withWatched isOpen rowsOf rowOf headOf shortLoan
   rewatched =
-      let few = eight-records records in
+      let bounded = eight-records records in
       record {
         settings = f .settings;
         wide = f .wide;
         within = f .within;
-        long = rw (length-padded 8 ws (l .watches) few (long-records (l .tables) (l .watches) (s .dimensions) (s .capacity) (f .long))) (f .long);
+        long = rw (length-padded 8 ws (l .watches) bounded (long-records (l .tables) (l .watches) (s .dimensions) (s .capacity) (f .long))) (f .long);
         tables = f .tables;
-        records = padded-again 8 ws ws (l .watches) few;
+        records = padded-again 8 ws ws (l .watches) bounded;
         watches = records;
         pair = f .pair;
       }
 
   shown-rewatched : shown (withWatched s ws) l ≡ relent
-  unfolding withWatched opened rowsOf rowOf
+  unfolding withWatched isOpen rowsOf rowOf
   shown-rewatched = shown-opened (withWatched s ws) l (f .settings) ∙ rw (f .tables)
 
   simulation-rewatched : Simulation (referenceWith (withWatched s ws) relent) (bookWith s relent)
@@ -106,7 +106,7 @@ module _ (s : Reference) (l : Lent) (f : Invariant s l) (desk : Desk) (n : ℕ) 
 
     -- the reference model's answer
     abbrev watch-answer : ℕ
-    watch-answer = firstOf ((not (opened s), number Settings) ∷ refusals)
+    watch-answer = firstOf ((not (isOpen s), number Settings) ∷ refusals)
 
     watch-bytes : outside s n ≡ false → watchBytes (headOf s) desk n (l .tables) (l .watches) ≡ frames (map (join watch) (skylineOf s n))
     unfolding watchBytes
@@ -143,7 +143,7 @@ module _ (s : Reference) (l : Lent) (f : Invariant s l) (desk : Desk) (n : ℕ) 
 
   -- the reference model's answer
   abbrev end-answer : ℕ
-  end-answer = firstOf ((not (opened s), number Settings) ∷ end-refusals)
+  end-answer = firstOf ((not (isOpen s), number Settings) ∷ end-refusals)
 
   end-answers : endAnswer (headOf s) desk n (l .tables) (l .watches) ≡ end-answer
   unfolding endAnswer outOfRange headOf outside
@@ -175,7 +175,7 @@ module _ (s : Reference) (l : Lent) (f : Invariant s l) (n1 n2 : ℕ) (o : Outpu
 
   -- the reference model's answer
   abbrev past-answer : ℕ
-  past-answer = firstOf ((not (opened s), number Settings) ∷ (outsidePast s n1 n2, number WindowSize) ∷ behind (pastOf s n1 n2))
+  past-answer = firstOf ((not (isOpen s), number Settings) ∷ (outsidePast s n1 n2, number WindowSize) ∷ behind (pastOf s n1 n2))
 
   past-cells : outsidePast s n1 n2 ≡ false → ltb n2 n1 ≡ false → pastCells (headOf s) n1 n2 (l .tables) ≡ pastOf s n1 n2
   unfolding pastCells

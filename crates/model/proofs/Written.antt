@@ -19,12 +19,12 @@ use Rattle.frames.specs.Frames.{frame}
 use Rattle.frames.proofs.RoundTrips.{change-length, position-length}
 use Rattle.model.specs.Rows.{Row, liveRows, listed, rowsAfter}
 use Rattle.model.specs.Changes.{joinKindOf, join, pairJoin, changes, allChanges, pairChanges, frames, changeRoom}
-use Rattle.model.specs.Reference.{Reference, newest, skylineOf, pastOf, pairOf, rowsOf, headOf, opened, withQuote}
+use Rattle.model.specs.Reference.{Reference, newest, skylineOf, pastOf, pairOf, rowsOf, headOf, isOpen, withQuote}
 use Rattle.model.specs.Book.{listOf, pairListOf}
 use Rattle.model.proofs.Quotes.{past-listed, skyline-listed, rows-after-quote, head-after-quote}
 use Rattle.model.proofs.Desks.{watch-parts}
 use Rattle.model.proofs.Records.{Records, eight-records}
-use Rattle.model.proofs.Sound.{rows-few, rows-sound}
+use Rattle.model.proofs.Sound.{rows-bounded, rows-sound}
 use Rattle.model.proofs.Simulation.{Bounded, list-is, pair-is}
 use Rattle.model.proofs.ChangesFit.{bytes-fit, length-listed}
 use Rattle.model.proofs.ChangeFrames.{frames-bytes}
@@ -78,14 +78,14 @@ module _ (s : Reference) (x : List ℕ) where
   abbrev headNext : Head
   headNext = afterQuote (headOf s) (length (liveRows rowsNext)) (length rowsNext)
 
-  module _ (hold : opened s ≡ true) (ok : Bounded s) where
+  module _ (hold : isOpen s ≡ true) (ok : Bounded s) where
     some : 1 ≤ s .capacity
-    unfolding opened
+    unfolding isOpen
     some = settings-within (s .dimensions) (s .capacity) (s .directions) hold .some-capacity
 
     next-fits : length (frames (allChanges (s .watched) (listOf (headOf s) (rowsOf s)) (listOf headNext rowsNext)
         ++ pairChanges (pairListOf (headOf s) (rowsOf s)) (pairListOf headNext rowsNext))) ≤ changeRoom
-    unfolding headOf opened
+    unfolding headOf isOpen
     next-fits = bytes-fit (headOf s) x (rowsOf s) refl hold (rows-sound s some (ok .short)) (ok .pair) (s .watched) (eight-records (ok .watches))
 
     -- an opened reference model writes no more
@@ -94,15 +94,15 @@ module _ (s : Reference) (x : List ℕ) where
 
 -- ---- the joins of a watch and of the pair
 
-module _ (s : Reference) (hold : opened s ≡ true) (ok : Bounded s) where
+module _ (s : Reference) (hold : isOpen s ≡ true) (ok : Bounded s) where
   -- joins of this many bytes each for a list of the rows
   joins-fit : (k : ℕ) (joins : ℕ → Message) → k ≤ 7 → ((p : ℕ) → length (frame (joins p) []) ≡ k) → (a b : ℕ)
       → length (frames (map joins (listed a b (rowsOf s)))) ≤ changeRoom
-  unfolding opened
+  unfolding isOpen
   joins-fit k joins h e a b =
       let some = settings-within (s .dimensions) (s .capacity) (s .directions) hold .some-capacity in
       let list = listed a b (rowsOf s) in
-      let few : length list ≤ 1024 = omega (arith, length-listed a b (rowsOf s), rows-few s some, ok .small) in
+      let bounded : length list ≤ 1024 = omega (arith, length-listed a b (rowsOf s), rows-bounded s some, ok .small) in
       omega (arith, frames-bytes k joins e list, mul-le-mul-right (length list) h)
 
   -- those of a watch of n find room

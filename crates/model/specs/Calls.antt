@@ -10,7 +10,7 @@ use Rattle.head.specs.Heads.{freshHead}
 use Rattle.head.specs.Refusals.{granted}
 use Rattle.head.specs.Replies.{Outcome}
 use Rattle.model.specs.Rows.{Row, Tables, filled, liveRows}
-use Rattle.model.specs.Reference.{Reference, unopened, Lengths, rowsOf, opened, referenceStep}
+use Rattle.model.specs.Reference.{Reference, unopened, Lengths, rowsOf, isOpen, referenceStep}
 pub use Rattle.model.specs.Reference.{Call, Open, Quote, Look, Watch, End, Past, Pair, Unpair, Due, Preview}
 use Rattle.model.specs.Book
 
@@ -128,7 +128,7 @@ lengthsOf l o = record {
 -- the eight records from its watches; all else as it was
 unfoldable pub shown : Reference → Lent → Lent
 shown s l =
-    cond (opened s)
+    cond (isOpen s)
     (record { tables = filled (s .dimensions) (s .capacity) (rowsOf s) (l .tables); watches = padded 8 (s .watched) (l .watches) })
     l
 

@@ -13,7 +13,7 @@ use Rattle.head.specs.declared.Effect.{Effect}
 use Rattle.head.specs.Heads.{freshHead, lastPosition}
 use Rattle.head.specs.Replies.{outcome, yes}
 use Rattle.model.specs.Rows.{Row, Tables, joinsAfter}
-use Rattle.model.specs.Reference.{Reference, newest, skylineOf, pastOf, dueOf, headOf, opened as isOpened, withQuotes}
+use Rattle.model.specs.Reference.{Reference, newest, skylineOf, pastOf, dueOf, headOf, isOpen, withQuotes}
 use Rattle.model.specs.Calls.{Call, Open, Quote, Look, Watch, End, Past, Pair, Unpair, Due, Preview, Outputs, Lending, Lent, Seen, World, headAfter, worldAfter, shown, expectedStep, runs, expectedFirst, expectedAtEnd, referenceAtEnd, positionsIn, livePositionsIn}
 use Rattle.model.specs.Promises.{world, Opened, Quoted, Looked, PastLooked, Watched, Ended, Paired, Unpaired, DueLooked, Previewed}
 use Rattle.model.specs.Watcher.{Nothing, OfSize, OfPair, watcher, heldBy}
@@ -148,8 +148,8 @@ pub record Refines (cs : List Lending) (l : Lent) (ss : List Seen) (end : World)
       → acceptedIn isQuote (stretch i j cs) (stretch i j ss) < dueAfter (referenceAtEnd (take i cs) l) p
       → List·Memᴰ p (pastOf (referenceAtEnd (take j cs) l) (referenceAtEnd (take i cs) l .n1) (referenceAtEnd (take i cs) l .n2)) → ⊥
   -- once an opening was accepted any further quotes of d columns are accepted while the tape has space for them
-  pub due-space : (more : List (List ℕ)) → isOpened (referenceAtEnd cs l) ≡ true
+  pub due-space : (more : List (List ℕ)) → isOpen (referenceAtEnd cs l) ≡ true
       → ((k : ℕ) → k < length more → length (getD more k []) ≡ referenceAtEnd cs l .dimensions)
       → newest (referenceAtEnd cs l) + length more ≤ lastPosition → plays more (referenceAtEnd cs l) ≡ withQuotes (referenceAtEnd cs l) more
   -- once an opening was accepted the book passes the audit
-  pub passes-audit : isOpened (referenceAtEnd cs l) ≡ true → auditFinding (end .head) (end .lent .tables) ≡ yes
+  pub passes-audit : isOpen (referenceAtEnd cs l) ≡ true → auditFinding (end .head) (end .lent .tables) ≡ yes

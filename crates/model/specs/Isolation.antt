@@ -50,7 +50,7 @@ isChangeOf desk (Message.Pair k n1 n2) = false
 isChangeOf desk (Message.Bare k) = false
 isChangeOf desk (Message.Position k p) = hasPair desk && (eqb k pairLeaveKind || eqb k pairJoinKind)
 isChangeOf desk (Message.Open d N directions) = false
-isChangeOf desk Message.End = false
+isChangeOf desk Message.EndOfTape = false
 isChangeOf desk (Message.Refused k) = false
 
 -- what a desk sees of a call: its answer, and the desk's changes among the frames that it wrote

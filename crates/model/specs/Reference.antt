@@ -90,8 +90,8 @@ module _ (s : Reference) where
   dueOf = cond paired (dueRows newest (s .n1) (s .n2) rowsOf) []
 
   -- the settings were taken by an opening
-  unfoldable pub opened : Bool
-  opened = settingsHold (s .dimensions) (s .capacity) (s .directions)
+  unfoldable pub isOpen : Bool
+  isOpen = settingsHold (s .dimensions) (s .capacity) (s .directions)
 
   -- n is 0 or above N
   unfoldable pub outside : ℕ → Bool
@@ -225,7 +225,7 @@ abbrev quoteTold : List ℕ → Lengths → Reference → Told
 quoteTold x l s =
     let next = withQuote s x in
     let written = frames (allChanges (s .watched) (skylineOf s) (skylineOf next) ++ pairChanges (pairOf s) (pairOf next)) in
-    tells ((not (opened s), number Settings) ∷ (not (eqb (length x) (s .dimensions)), number ColumnCount)
+    tells ((not (isOpen s), number Settings) ∷ (not (eqb (length x) (s .dimensions)), number ColumnCount)
     ∷ (leb lastPosition (newest s), number TapeFull) ∷ (ltb (l .bytes) changeRoom, number ShortOutput) ∷ [])
     (headOf s) (length written) written [] next s
 
@@ -237,33 +237,33 @@ referenceStep (Open d N directions) l s =
 referenceStep (Quote x) l s = quoteTold x l s
 referenceStep (Look n) l s =
     let written = skylineOf s n in
-    tells ((not (opened s), number Settings) ∷ (outside s n, number WindowSize) ∷ (ltb (l .cells) (length written), number ShortOutput) ∷ [])
+    tells ((not (isOpen s), number Settings) ∷ (outside s n, number WindowSize) ∷ (ltb (l .cells) (length written), number ShortOutput) ∷ [])
     (headOf s) (length written) [] written s s
 referenceStep (Watch desk n) l s =
     let watch = watchOf desk n in
     let written = frames (map (join watch) (skylineOf s n)) in
-    tells ((not (opened s), number Settings) ∷ (outside s n, number WindowSize) ∷ (contains watch (s .watched), number AlreadyWatched)
+    tells ((not (isOpen s), number Settings) ∷ (outside s n, number WindowSize) ∷ (contains watch (s .watched), number AlreadyWatched)
     ∷ (deskFull desk (s .watched), number NoFreeRecord) ∷ (ltb (l .bytes) changeRoom, number ShortOutput) ∷ [])
     (headOf s) (length written) written [] (withWatched s (insert watch (s .watched))) s
 referenceStep (End desk n) l s =
     let watch = watchOf desk n in
-    tells ((not (opened s), number Settings) ∷ (outside s n, number WindowSize) ∷ (not (contains watch (s .watched)), number NotWatched) ∷ [])
+    tells ((not (isOpen s), number Settings) ∷ (outside s n, number WindowSize) ∷ (not (contains watch (s .watched)), number NotWatched) ∷ [])
     (headOf s) 0 [] [] (withWatched s (without watch (s .watched))) s
 referenceStep (Past n1 n2) l s =
     let written = pastOf s n1 n2 in
-    tells ((not (opened s), number Settings) ∷ (outsidePast s n1 n2, number WindowSize) ∷ (ltb n2 n1, number WindowOrder)
+    tells ((not (isOpen s), number Settings) ∷ (outsidePast s n1 n2, number WindowSize) ∷ (ltb n2 n1, number WindowOrder)
     ∷ (ltb (l .cells) (length written), number ShortOutput) ∷ [])
     (headOf s) (length written) [] written s s
 referenceStep (Pair n1 n2) l s =
     let written = frames (map pairJoin (pastOf s n1 n2)) in
-    tells ((not (opened s), number Settings) ∷ (outsidePair s n1 n2, number WindowSize) ∷ (ltb n2 n1, number WindowOrder)
+    tells ((not (isOpen s), number Settings) ∷ (outsidePair s n1 n2, number WindowSize) ∷ (ltb n2 n1, number WindowOrder)
     ∷ (paired s, number NoFreeRecord) ∷ (ltb (l .bytes) changeRoom, number ShortOutput) ∷ [])
     (headOf s) (length written) written [] (withPairOf s n1 n2) s
 referenceStep Unpair l s =
-    tells ((not (opened s), number Settings) ∷ (not (paired s), number NotWatched) ∷ [])
+    tells ((not (isOpen s), number Settings) ∷ (not (paired s), number NotWatched) ∷ [])
     (headOf s) 0 [] [] (withPairOf s 0 0) s
 referenceStep Due l s =
     let written = dueCells (newest s) (s .n1) (dueOf s) in
-    tells ((not (opened s), number Settings) ∷ (ltb (l .cells) (length written), number ShortOutput) ∷ [])
+    tells ((not (isOpen s), number Settings) ∷ (ltb (l .cells) (length written), number ShortOutput) ∷ [])
     (headOf s) (length (dueOf s)) [] written s s
 referenceStep (Preview x) l s = foretells (quoteTold x l s) s

@@ -9,7 +9,7 @@ use Rattle.head.specs.declared.Desk.{Desk}
 use Rattle.head.specs.Desks.{deskNumber, sizeIn, watchOf}
 use Rattle.head.specs.Refusals.{granted}
 use Rattle.frames.specs.declared.Message.{Message}
-use Rattle.frames.specs.declared.Message.the-variants.{Quote, Sized, Change, Pair, Bare, Position, Open, End, Refused}
+use Rattle.frames.specs.declared.Message.the-variants.{Quote, Sized, Change, Pair, Bare, Position, Open, EndOfTape, Refused}
 use Rattle.frame_kinds.specs.Kinds.{pairLeaveKind, pairJoinKind}
 use Rattle.frames.specs.Frames.{messagesFrom}
 use Rattle.model.specs.Changes.{leaveKindOf, joinKindOf}
@@ -46,7 +46,7 @@ appliedMessage f held (Pair k n1 n2) = held
 appliedMessage f held (Bare k) = held
 appliedMessage f held (Position k p) = appliedPosition f k p held
 appliedMessage f held (Open d N directions) = held
-appliedMessage f held End = held
+appliedMessage f held EndOfTape = held
 appliedMessage f held (Refused k) = held
 
 -- the list that a watcher holds after messages

@@ -20,7 +20,7 @@ fn accepts(reply: Reply) -> bool {
 }
 
 // The state after an opening. One that is refused leaves the head for the next call.
-fn opened(state: State, made: Made) -> State {
+fn after_opening(state: State, made: Made) -> State {
     let reply = made.reply;
     let records = made.records;
     let head = state.head;
@@ -60,7 +60,7 @@ pub fn call(
                 upper_ends,
                 records,
             );
-            opened(state, made)
+            after_opening(state, made)
         }
         Command::Quote => {
             let quote = quoted(&n, line.count);

@@ -100,7 +100,7 @@ fn read_on(cursor: Cursor, text: &mut [u8]) -> Cursor {
     let stop = kept_end(place, end);
     streams::to_front(text, place, stop);
     let begun = stop - place;
-    let came = streams::take_in(&mut text[begun..], b"book_player: standard input");
+    let came = streams::read_in(&mut text[begun..], b"book_player: standard input");
     now.place = 0;
     now.end = begun + came.count;
     now.ended = !came.more;

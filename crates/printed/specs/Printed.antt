@@ -6,7 +6,7 @@ use lib.Dec.{eqb}
 use lib.ListN.{length}
 use Rattle.lists.specs.Lists.{flat}
 use Rattle.frames.specs.declared.Message.{Message}
-use Rattle.frames.specs.declared.Message.the-variants.{Quote, Sized, Change, Pair, Bare, Position, Open, End, Refused}
+use Rattle.frames.specs.declared.Message.the-variants.{Quote, Sized, Change, Pair, Bare, Position, Open, EndOfTape, Refused}
 use Rattle.frame_kinds.specs.Kinds.{leaveKind, joinKind, leaveTwoKind, joinTwoKind, pairLeaveKind, pairJoinKind}
 use Rattle.frames.specs.Frames.{messagesFrom}
 use Rattle.text.specs.Text.{line, line2}
@@ -27,7 +27,7 @@ changeLine (Pair k n1 n2) = []
 changeLine (Bare k) = []
 changeLine (Position k p) = cond (eqb k pairLeaveKind || eqb k pairJoinKind) (line2 (letterOf k) (letterOf k) (p ∷ [])) []
 changeLine (Open d N directions) = []
-changeLine End = []
+changeLine EndOfTape = []
 changeLine (Refused k) = []
 
 -- the lines of changes, each behind the one before

@@ -62,9 +62,9 @@ taken h x t ws room e =
       wide = ltb-false room changeRoom (zero-passed _ _ _ (f .1) .0);
     }
 
--- the rows are few
-pub few-held : {h : Head} {x : List ℕ} {t : Tables} → Admitted h x t → h .held ≤ 1024
-few-held a = omega (arith, places a .2, within a .small-capacity)
+-- at most 1,024 rows are held
+pub bounded-held : {h : Head} {x : List ℕ} {t : Tables} → Admitted h x t → h .held ≤ 1024
+bounded-held a = omega (arith, places a .2, within a .small-capacity)
 
 -- ---- once the rows are compared with the quote
 pub record Entering (h : Head) (x : List ℕ) (t : Tables) (ws : List ℕ) (room : ℕ) (f : Finding) (ps : List ℕ) : Type 0 where
@@ -113,7 +113,7 @@ module _ {h : Head} {x : List ℕ} {t : Tables} {ws : List ℕ} {room : ℕ} {f 
   -- what is asked before the changes are written
   pub writable : Writable h (f .lower) retired (t .lowerEnds) rows ws room
   writable = record {
-    few = omega (arith, within book .small-capacity);
+    bounded = omega (arith, within book .small-capacity);
     untorn = taken h x t ws room (v .accepted) .untorn;
     full = record {
       fits = rows-fit book;

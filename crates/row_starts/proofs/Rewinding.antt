@@ -29,8 +29,8 @@ long-same c p l u k = record {
 }
 
 -- none or one row of at most six cells
-pub few-cells : {by : ℕ} (d : ℕ) → by ≤ 1 → by * d ≤ d
-few-cells d k = omega (arith, mul-le-mul-right d k, one-mul d)
+pub bounded-cells : {by : ℕ} (d : ℕ) → by ≤ 1 → by * d ≤ d
+bounded-cells d k = omega (arith, mul-le-mul-right d k, one-mul d)
 
 front-moved : (cells : List ℕ) (by n : ℕ) {after : List ℕ} → by + n ≤ length cells → after ≡ paste cells 0 (drop by cells) (by + n - by) → SameFront n (drop by cells) after
 front-moved cells by n h e =
@@ -42,13 +42,13 @@ front-moved cells by n h e =
 
 module _ {s : Start} {h : Head} {t : Tables} (k : Long t) (w : Within 1024 s) (o : FullOpened s h) (full : 1024 ≤ s .row) where
   holds : settingsHold (h .dimensions) (h .capacity) (h .directions) ≡ true
-  holds = o .opened (omega (arith, w .few))
+  holds = o .opened (omega (arith, w .bounded))
 
   -- the rows stand within the tables
   pub rows-inside : (s .cell + h .capacity * h .dimensions ≤ 12288) × (s .row + h .capacity ≤ 2048)
   rows-inside =
       let v = settings-within _ _ _ holds in
-      omega (arith, w .few, w .near, v .small-capacity, mul-le-mul (v .small-capacity) (v .few-columns))
+      omega (arith, w .bounded, w .near, v .small-capacity, mul-le-mul (v .small-capacity) (v .bounded-columns))
 
   -- at the front they are the same book
   pub rewound : {cs qs ls us : List ℕ} → cs ≡ paste (t .columns) 0 (drop (s .cell) (t .columns)) (s .cell + h .capacity * h .dimensions - s .cell)

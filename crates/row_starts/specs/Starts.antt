@@ -18,7 +18,7 @@ pub record Long (t : Tables) : Type 0 where
 
 -- the rows start at most so many places on, with at most six cells of columns before them for each place
 pub record Within (most : ℕ) (s : Start) : Type 0 where
-  pub few : s .row ≤ most
+  pub bounded : s .row ≤ most
   pub near : s .cell ≤ 6 * s .row
 
 -- where the rows start 1,024 places on an opening was accepted

@@ -27,7 +27,7 @@ live-cons r rs = go (eqb (r .upperEnd) 0)
 -- i of the rows have been passed: they are in their places where placed says so, and so many of them are live
 pub record Passing (newest first count : ℕ) (t : Tables) (placed : Bool) (live position i : ℕ) : Type 0 where
   pub within : i ≤ count
-  pub few : live ≤ i
+  pub bounded : live ≤ i
   pub next : position ≡ first + i
   pub same : inPlaces newest first (rowsIn 0 count t) ≡ placed && inPlaces newest position (map (rowAt 0 t) (run i (count - i)))
   pub counted : length (liveRows (rowsIn 0 count t)) ≡ live + length (liveRows (map (rowAt 0 t) (run i (count - i))))
@@ -37,7 +37,7 @@ module _ {newest first count : ℕ} {t : Tables} where
   unfolding rowsIn
   start =
       let z : count - 0 ≡ count = omega arith in
-      record { within = omega arith; few = omega arith; next = omega arith; same = rw z; counted = rw z (omega arith) }
+      record { within = omega arith; bounded = omega arith; next = omega arith; same = rw z; counted = rw z (omega arith) }
 
   pub more : {placed : Bool} {live position i : ℕ} → Passing newest first count t placed live position i → i < count
       → (p l u one : ℕ) → p ≡ getD (t .positions) i 0 → l ≡ getD (t .lowerEnds) i 0 → u ≡ getD (t .upperEnds) i 0 → one ≡ cond (eqb u 0) 1 0
@@ -48,7 +48,7 @@ module _ {newest first count : ℕ} {t : Tables} where
       let rest : List Row = map (rowAt 0 t) (run (suc i) (count - suc i)) in
       record {
         within = omega arith;
-        few = rw eo (at-most (eqb u 0) (v .few));
+        bounded = rw eo (at-most (eqb u 0) (v .bounded));
         next = rw (v .next) (add-assoc first i 1);
         same = v .same ∙ rw (z, add-one, add-one, ← ep, ← el, ← eu) (go placed (eqb p position) (ltb l p) (eqb u 0 || ltb p u && leb u newest) (inPlaces newest (suc position) rest));
         counted = v .counted ∙ rw (z, live-cons, add-one, ← eu, ← eo) (sym (add-assoc live one (length (liveRows rest))));
@@ -65,7 +65,7 @@ module _ {newest first count : ℕ} {t : Tables} where
   -- the live rows are no more than the rows
   pub live-fits : {placed : Bool} {live position i : ℕ} → Passing newest first count t placed live position i → i < count → {one : ℕ}
       → one ≡ cond (eqb (getD (t .upperEnds) i 0) 0) 1 0 → live + one ≤ count
-  live-fits {live = live} {i = i} v h e = rw e (go (eqb (getD (t .upperEnds) i 0) 0) (v .few))
+  live-fits {live = live} {i = i} v h e = rw e (go (eqb (getD (t .upperEnds) i 0) 0) (v .bounded))
     where
       go : (b : Bool) → live ≤ i → live + cond b 1 0 ≤ count
       go true k = omega arith

@@ -124,12 +124,12 @@ module _ {h : Head} {x : List ℕ} {t : Tables} (a : Admitted h x t) where
   -- the rows stand in their tables
   pub rows-fit : Fits s (h .held)
   rows-fit =
-      let few : h .held ≤ h .capacity = places a .2 in
+      let bounded : h .held ≤ h .capacity = places a .2 in
       record {
         quoted = omega (arith, a .wide);
-        columns = le-trans (mul-le-mul-right (h .dimensions) few) (long a .columns);
-        uppers = omega (arith, few, long a .upperEnds);
-        few = omega (arith, few, within a .small-capacity);
+        columns = le-trans (mul-le-mul-right (h .dimensions) bounded) (long a .columns);
+        uppers = omega (arith, bounded, long a .upperEnds);
+        bounded = omega (arith, bounded, within a .small-capacity);
       }
 
   -- what is asked before the rows are compared with the quote
@@ -137,7 +137,7 @@ module _ {h : Head} {x : List ℕ} {t : Tables} (a : Admitted h x t) where
   findable k = record {
     below = a .below;
     some = within a .some-capacity;
-    few = within a .small-capacity;
+    bounded = within a .small-capacity;
     full = held-is a;
     fits = rows-fit;
     counted = live-before;

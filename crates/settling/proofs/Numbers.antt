@@ -82,9 +82,9 @@ module _ {h : Head} {x columns uppers before : List ℕ} (v : Findable h x colum
   unfolding expiredPlaces windowStart
   counts = omega (arith, v .full, v .some)
 
-  live-few : h .live ≤ h .held
+  live-bounded : h .live ≤ h .held
   unfolding liveIn
-  live-few = omega (arith, v .counted, length-filter (live uppers) (run 0 (h .held)), length-run 0 (h .held))
+  live-bounded = omega (arith, v .counted, length-filter (live uppers) (run 0 (h .held)), length-run 0 (h .held))
 
   -- what is found may be told
   module _ {places : List ℕ} {by : ℕ} {r : Found} (e : by ≡ expiredPlaces h) (f : finding.Finds (heldRows h x columns uppers) by (h .held) places r) where
@@ -97,14 +97,14 @@ module _ {h : Head} {x columns uppers before : List ℕ} (v : Findable h x colum
         let c = counts in
         record {
           below = v .below;
-          held-few = v .fits .few;
+          held-bounded = v .fits .bounded;
           held-fits = c .2;
           held-most = c .3;
           some = v .some;
           uppers-fit = v .fits .uppers;
           last-held = rw (f .last) (youngest-most (heldRows h x columns uppers) by (h .held) (omega arith));
           lost = omega (arith, count-is, v .counted, live-parts uppers (expiredPlaces h) (h .held) (c .1), retired-live (heldRows h x columns uppers) (expiredPlaces h) (h .held));
-          live-few = live-few;
+          live-bounded = live-bounded;
         }
 
     -- and is what is to be found

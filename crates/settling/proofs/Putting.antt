@@ -26,7 +26,7 @@ rows-less m n w = sym (mul-comm (m - n) w ∙ mul-sub w m n ∙ ap₂ (λ (a b :
 module _ {h : Head} {w by : ℕ} {cells : List ℕ} (v : Ready h w by cells) where
   -- the sizes in cells
   pub sizes : (by * w ≤ h .held * w) × (h .held * w ≤ h .capacity * w) × (h .capacity * w ≤ 6144)
-  sizes = (mul-le-mul-right w (v .by-held), mul-le-mul-right w (v .held-fit), mul-le-mul (v .few) (v .narrow))
+  sizes = (mul-le-mul-right w (v .by-held), mul-le-mul-right w (v .held-fit), mul-le-mul (v .bounded) (v .narrow))
 
   -- there is room for the row
   pub row-fits : {n : ℕ} → n ≡ w → h .held * w - by * w + n ≤ h .capacity * w
@@ -36,7 +36,7 @@ module _ {h : Head} {w by : ℕ} {cells : List ℕ} (v : Ready h w by cells) whe
   pub ready-same : {cells' : List ℕ} → length cells' ≡ length cells → Ready h w by cells'
   ready-same n = record {
     narrow = v .narrow;
-    few = v .few;
+    bounded = v .bounded;
     by-held = v .by-held;
     room = v .room;
     held-fit = v .held-fit;

@@ -29,7 +29,7 @@ use Rattle.model.specs.Calls.{Lent, Reached}
 use Rattle.model.specs.Promises.{world}
 use Rattle.model.proofs.Tables.{cells-counted}
 use Rattle.model.proofs.Torn.{window-length}
-use Rattle.model.proofs.Sound.{rows-few, rows-wide}
+use Rattle.model.proofs.Sound.{rows-bounded, rows-wide}
 use Rattle.model.proofs.Simulation.{Invariant, some-capacity, rows-read}
 use Rattle.model.proofs.Sought.{named-before-upper, named-behind-lower, named-live-on}
 use Rattle.model.proofs.Reached.{reached-by}
@@ -207,19 +207,19 @@ module _ (s : Reference) (l : Lent) (f : Invariant s l) where
 
   -- ---- the tables are filled, so zeros stand behind the rows
 
-  few : h .held ≤ h .capacity
+  bounded : h .held ≤ h .capacity
   unfolding headOf
-  few = rows-few s (some-capacity s l f)
+  bounded = rows-bounded s (some-capacity s l f)
 
   blank-cells : (p : Row → ℕ) (before : List ℕ) → Blank (h .held) (h .capacity) (padded (h .capacity) (map p (rowsOf s)) before)
   unfolding headOf
-  blank-cells p before = blank-padded (s .capacity) (length (rowsOf s)) (map p (rowsOf s)) before (omega (arith, length-map (rowsOf s) p)) few
+  blank-cells p before = blank-padded (s .capacity) (length (rowsOf s)) (map p (rowsOf s)) before (omega (arith, length-map (rowsOf s) p)) bounded
 
   blank-columns : Blank (h .held * h .dimensions) (h .capacity * h .dimensions) (padded (h .capacity * h .dimensions) (flat (map Row.columns (rowsOf s))) (t .columns))
   unfolding headOf
   blank-columns =
       blank-padded (s .capacity * s .dimensions) (length (rowsOf s) * s .dimensions) (flat (map Row.columns (rowsOf s))) (t .columns)
-      (omega (arith, cells-counted (s .dimensions) (rowsOf s) (rows-wide s (f .wide)))) (mul-le-mul-right (s .dimensions) few)
+      (omega (arith, cells-counted (s .dimensions) (rowsOf s) (rows-wide s (f .wide)))) (mul-le-mul-right (s .dimensions) bounded)
 
   clear : Clear h t
   unfolding filled headOf

@@ -105,8 +105,8 @@ module _ {h : Head} {x : List ℕ} {t : Tables} (a : Admitted h x t) where
     -- the columns may be settled
     pub ready-columns : Ready h (h .dimensions) (f .by) (t .columns)
     ready-columns = rw (found-by a v) (record {
-      narrow = within a .few-columns;
-      few = within a .small-capacity;
+      narrow = within a .bounded-columns;
+      bounded = within a .small-capacity;
       by-held = places a .1;
       room = places a .3;
       held-fit = places a .2;
@@ -117,7 +117,7 @@ module _ {h : Head} {x : List ℕ} {t : Tables} (a : Admitted h x t) where
     ready-cells : (cells : List ℕ) → h .capacity ≤ length cells → Ready h 1 (f .by) cells
     ready-cells cells l = rw (found-by a v) (record {
       narrow = omega arith;
-      few = within a .small-capacity;
+      bounded = within a .small-capacity;
       by-held = places a .1;
       room = places a .3;
       held-fit = places a .2;

@@ -30,7 +30,7 @@ heldRows h x columns uppers = rows (h .dimensions) (h .directions) columns upper
 pub record Findable (h : Head) (x columns uppers places : List ℕ) : Type 0 where
   pub below : h .newest < lastPosition
   pub some : 1 ≤ h .capacity
-  pub few : h .capacity ≤ 1024
+  pub bounded : h .capacity ≤ 1024
   pub full : h .held ≡ suc (h .newest) - windowStart (h .newest) (h .capacity)
   pub fits : Fits (heldRows h x columns uppers) (h .held)
   pub counted : h .live ≡ liveIn uppers 0 (h .held)
@@ -39,14 +39,14 @@ pub record Findable (h : Head) (x columns uppers places : List ℕ) : Type 0 whe
 -- what is found may be told: the numbers are those of rows held
 pub record Tellable (h : Head) (uppers : List ℕ) (last count : ℕ) : Type 0 where
   pub below : h .newest < lastPosition
-  pub held-few : h .held ≤ 1024
+  pub held-bounded : h .held ≤ 1024
   pub held-fits : h .held ≤ h .capacity
   pub held-most : h .held ≤ h .newest
   pub some : 1 ≤ h .capacity
   pub uppers-fit : h .held ≤ length uppers
   pub last-held : last ≤ h .held
   pub lost : liveIn uppers 0 (expiredPlaces h) + count ≤ h .live
-  pub live-few : h .live ≤ h .held
+  pub live-bounded : h .live ≤ h .held
 
 -- what is found, whether the rows' ends are known to be sound, from where the retired rows are listed, the number of the youngest row over
 -- the quote, and how many are retired

@@ -29,7 +29,7 @@ module _ (h : Head) where
 -- a row may be put into a table of so many cells a row: there is room
 pub record Ready (h : Head) (width by : ℕ) (cells : List ℕ) : Type 0 where
   pub narrow : width ≤ 6
-  pub few : h .capacity ≤ 1024
+  pub bounded : h .capacity ≤ 1024
   pub by-held : by ≤ h .held
   pub room : h .held - by < h .capacity
   pub held-fit : h .held ≤ h .capacity

@@ -27,10 +27,10 @@ lent-front ws = go 8 ws (replicate 8 0)
     go (suc n) (x ∷ xs) ys = ap (λ (l : List ℕ). x ∷ l) (go n xs ys)
 
 -- a list is too short exactly if its front is
-few-in : (n : ℕ) (ws : List ℕ) → ltb (length (take n ws)) n ≡ ltb (length ws) n
-few-in zero ws = sym (leb·suc-zero (length ws))
-few-in (suc n) [] = refl
-few-in (suc n) (w ∷ ws) = leb·suc-suc (suc (length (take n ws))) n ∙ few-in n ws ∙ sym (leb·suc-suc (suc (length ws)) n)
+bounded-in : (n : ℕ) (ws : List ℕ) → ltb (length (take n ws)) n ≡ ltb (length ws) n
+bounded-in zero ws = sym (leb·suc-zero (length ws))
+bounded-in (suc n) [] = refl
+bounded-in (suc n) (w ∷ ws) = leb·suc-suc (suc (length (take n ws))) n ∙ bounded-in n ws ∙ sym (leb·suc-suc (suc (length ws)) n)
 
 module _ (ws : List ℕ) where
   pub standing-front : standing (take 8 ws) ≡ standing ws
@@ -43,7 +43,7 @@ module _ (ws : List ℕ) where
 
   pub short-front : (t : Tables) (d N : ℕ) → shortLoan t (take 8 ws) d N ≡ shortLoan t ws d N
   unfolding shortLoan
-  short-front t d N = rw (few-in 8 ws)
+  short-front t d N = rw (bounded-in 8 ws)
 
   pub watchful-front : (h : Head) (t : Tables) (more : List (Bool × ℕ)) → watchfulAnswer h t (take 8 ws) more ≡ watchfulAnswer h t ws more
   unfolding watchfulAnswer

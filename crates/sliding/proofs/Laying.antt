@@ -84,15 +84,15 @@ module _ {h : Head} {w by : ℕ} {cells : List ℕ} (v : Ready h w by cells) (b 
       inr (rw z (one-mul w), rw e, mul-le-mul-right w (v .by-held))
 
   -- at most one row is lost
-  lost-few : by * w ≤ w
+  lost-bounded : by * w ≤ w
   unfolding expiredPlaces
-  lost-few = let k : by ≤ 1 = omega (arith, x, v .held-fit) in omega (arith, mul-le-mul-right w k, one-mul w)
+  lost-bounded = let k : by ≤ 1 = omega (arith, x, v .held-fit) in omega (arith, mul-le-mul-right w k, one-mul w)
 
   -- from what is left on, its N places are those that it would have been settled to
   pub rows-slid : (row : List ℕ) {after : List ℕ} → length row ≡ w → after ≡ rowsLaid h w row cells → SameFront (h .capacity * w) (rowsPut h w by row cells) (drop (by * w) after)
   unfolding rowsPut rowsLaid
   rows-slid row e f =
-      rw f (front-same cells row (by * w) (h .held * w) (h .capacity * w) (mul-le-mul-right w (v .by-held)) (omega (arith, e, long, sizes v)) (row-fits v e) (omega (arith, lost-few, long))
+      rw f (front-same cells row (by * w) (h .held * w) (h .capacity * w) (mul-le-mul-right w (v .by-held)) (omega (arith, e, long, sizes v)) (row-fits v e) (omega (arith, lost-bounded, long))
       (rw e (zeros-follow (by * w) w b (lost (decLt (h .held) (h .capacity))))))
 
 -- ---- a table of one cell a row

@@ -29,7 +29,7 @@ use Rattle.settling.proofs.Findings.{found-by, found-gone}
 use Rattle.settling.proofs.Settled.{ready-columns, ready-positions, ready-lowers, ready-uppers, settled}
 use Rattle.settling.proofs.Reaching.{reached-clear, reached-unnamed}
 use Rattle.writing.specs.Bytes.{changeBytes, acceptedReply}
-use Rattle.quoting.proofs.Quotes.{Entering, book, few-held, retired-low, uppers-settled, quote-done, quote-refused}
+use Rattle.quoting.proofs.Quotes.{Entering, book, bounded-held, retired-low, uppers-settled, quote-done, quote-refused}
 use Rattle.sliding.specs.Laid.{rowsLaid, lowersLaid, uppersLaid, Roomy}
 use Rattle.sliding.specs.Slid.{later, Slid, stayed, slid, QuoteSlid}
 use Rattle.sliding.proofs.Laying.{rows-slid, cells-slid, lowers-slid, uppers-slid}
@@ -38,25 +38,25 @@ use Rattle.sliding.proofs.Laying.{rows-slid, cells-slid, lowers-slid, u
 slid-head : (h : Head) (live held : ℕ) {by : ℕ} {t u : Tables} → h .newest < lastPosition → by ≤ 1 → settingsHold (h .dimensions) (h .capacity) (h .directions) ≡ true
     → SamePlaces (h .dimensions) (h .capacity) t (later (h .dimensions) by u) → Slid (afterQuote h live held) t u by
 unfolding afterQuote
-slid-head h live held below few holds same = rw (lt-ltb (h .newest) lastPosition below) (slid few holds same)
+slid-head h live held below bounded holds same = rw (lt-ltb (h .newest) lastPosition below) (slid bounded holds same)
 
 -- ---- an accepted quote
 
 module _ {h : Head} {x : List ℕ} {t : Tables} {ws : List ℕ} {room : ℕ} {f : Finding} {ps : List ℕ} (v : Entering h x t ws room f ps) (r : Reached (world h t ws)) (m : Roomy t) where
   -- there is room for a row of columns
   pub columns-room : h .held * h .dimensions + length x ≤ length (t .columns)
-  columns-room = omega (arith, mul-le-mul (few-held (book v)) (within (book v) .few-columns), book v .wide, within (book v) .few-columns, m .columns)
+  columns-room = omega (arith, mul-le-mul (bounded-held (book v)) (within (book v) .bounded-columns), book v .wide, within (book v) .bounded-columns, m .columns)
 
   -- and for a cell
   pub cell-room : {n : ℕ} → 1025 ≤ n → h .held < n
-  cell-room l = omega (arith, few-held (book v))
+  cell-room l = omega (arith, bounded-held (book v))
 
   pub one-room : {n : ℕ} → 1025 ≤ n → h .held * 1 + 1 ≤ n
-  one-room l = omega (arith, mul-one (h .held), few-held (book v))
+  one-room l = omega (arith, mul-one (h .held), bounded-held (book v))
 
   -- the lower ends that may name the expired position are those of rows held
-  pub named-few : namedBefore h (t .upperEnds) ≤ h .held
-  named-few = reached-unnamed r (within (book v) .some-capacity) .within
+  pub named-bounded : namedBefore h (t .upperEnds) ≤ h .held
+  named-bounded = reached-unnamed r (within (book v) .some-capacity) .within
 
   abbrev by : ℕ
   by = f .by
@@ -81,7 +81,7 @@ module _ {h : Head} {x : List ℕ} {t : Tables} {ws : List ℕ} {room : ℕ} {f 
         let n = within a .small-capacity in
         let z = reached-clear r (within a .some-capacity) in
         record {
-          columns = rows-slid (ready-columns a g) (z .columns) e (omega (arith, mul-le-mul n (within a .few-columns), within a .few-columns, m .columns)) x (a .wide) c;
+          columns = rows-slid (ready-columns a g) (z .columns) e (omega (arith, mul-le-mul n (within a .bounded-columns), within a .bounded-columns, m .columns)) x (a .wide) c;
           positions = cells-slid (ready-positions a g) (z .positions) e (omega (arith, n, m .positions)) (h .newest + 1) q;
           lowerEnds = lowers-slid (ready-lowers a g) (z .lowerEnds) e (omega (arith, n, m .lowerEnds)) (f .lower) (rw (found-gone a g) (reached-unnamed r (within a .some-capacity))) l;
           upperEnds = uppers-slid (ready-uppers a g) (z .upperEnds) e (omega (arith, n, m .upperEnds)) (retired-low v) u;

@@ -36,7 +36,7 @@ pub fn put_out(gathered: &[u8], program: &[u8]) -> bool {
 }
 
 // Reads from standard input into the buffer. A read that fails is the end of the input, said on standard error.
-pub fn take_in(buffer: &mut [u8], program: &[u8]) -> Chunk
+pub fn read_in(buffer: &mut [u8], program: &[u8]) -> Chunk
     ensures { λ r. ⌜ Counts (r .count) (now (buffer .exit)) ⌝ }
 {
     let got = libc::read(STDIN_FILENO, buffer);

@@ -9,7 +9,7 @@ use Rattle.lists.specs.Lists.{laid}
 use Rattle.head.specs.Heads.{freshHead}
 use Rattle.frames.specs.Frames.{readAt}
 use Rattle.model.specs.Rows.{Tables}
-use Rattle.model.specs.Reference.{Reference, Lengths, opened, unopened}
+use Rattle.model.specs.Reference.{Reference, Lengths, isOpen, unopened}
 use Rattle.model.specs.Calls.{Lent, Outputs, lengthsOf}
 use Rattle.asking.specs.Asking.{Asked, finished, unread, misplaced, request, asked}
 use Rattle.tape_model.specs.Play.{playAsked, playAt, print, referenceMake, Player, bookMake, begun, bookPlay}
@@ -49,7 +49,7 @@ module _ {tape before after bytes' : List ℕ} {place : ℕ} {k : Player} {r : S
 -- what is printed by steps that were made is what the reference model prints of the same pieces, on whatever tables that agree in the places
 -- of the book the player goes on
 prints-stream : (lengths : Lengths) {piece rest text : List ℕ} {place : ℕ} {k : Player} → Prints piece place k rest text → (s : Reference) → Alike lengths s k
-    → Streams opened (referenceMake lengths) piece place s rest text
+    → Streams isOpen (referenceMake lengths) piece place s rest text
 prints-stream lengths (goes-on {k = k} h m o more) s v =
     rw (its-text m)
     (plays-alike lengths s k v h (sym (m .over) ∙ o)
@@ -61,8 +61,8 @@ prints-stream lengths (slides {k = k} {u = u} holds same p) s v = prints-stream 
 
 -- from a head of zeros, the lines that the player's steps print of a tape, read in any pieces, are the reference model's print of it
 pub played-agrees : (tape : List ℕ) (t : Tables) (ws bytes : List ℕ) {text : List ℕ} → Prints [] 0 (player (freshHead 0 0 0) t ws bytes) tape text
-    → text ≡ print opened (referenceMake (lengthsOf (record { tables = t; watches = ws }) (record { bytes = bytes; cells = replicate 1024 0 }))) tape unopened
+    → text ≡ print isOpen (referenceMake (lengthsOf (record { tables = t; watches = ws }) (record { bytes = bytes; cells = replicate 1024 0 }))) tape unopened
 played-agrees tape t ws bytes p =
     let l : Lent = record { tables = t; watches = ws } in
     let o : Outputs = record { bytes = bytes; cells = replicate 1024 0 } in
-    printed-in-pieces opened (referenceMake (lengthsOf l o)) tape unopened (prints-stream (lengthsOf l o) p unopened (at-first l o))
+    printed-in-pieces isOpen (referenceMake (lengthsOf l o)) tape unopened (prints-stream (lengthsOf l o) p unopened (at-first l o))

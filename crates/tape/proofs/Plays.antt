@@ -20,7 +20,7 @@ use Rattle.asking.specs.declared.Wanted.the-variants.{Quote, Look, Past, Watch,
 use Rattle.asking.specs.Asking.{asked}
 use Rattle.asking.specs.Placing.{wants}
 use Rattle.asking.proofs.Wanted.{the-type}
-use Rattle.asking.proofs.Places.{ends, asked-ends, wanted-asked, quote-few}
+use Rattle.asking.proofs.Places.{ends, asked-ends, wanted-asked, quote-bounded}
 use Rattle.tape_model.specs.Play.{Played, playAsked, playAt, Player, bookMake, begun, bookPlay}
 use Rattle.turn_lines.specs.declared.Turn.{Turn}
 use Rattle.turn_lines.specs.Turns.{player, Effect, made, refusedWith, Turned}
@@ -48,7 +48,7 @@ wish-there tape place h r {held} w e f g =
       columns = read-columns r e;
       next = read-next r e;
       six = rw (read-columns r e) (read-six tape place (found tape place));
-      few = λ n q. quote-few tape place held r w e g q;
+      bounded = λ n q. quote-bounded tape place held r w e g q;
     }
 
 -- what is no quote is taken without columns

@@ -25,7 +25,7 @@ pub record WishAt (tape : List ℕ) (place : ℕ) (h : Head) (w : Wanted) (x : L
   pub columns : x ≡ readAt tape place .columns
   pub next : after ≡ readAt tape place .next
   pub six : length x ≡ 6
-  pub few : (n : ℕ) → w ≡ Quote n → n ≤ 6
+  pub bounded : (n : ℕ) → w ≡ Quote n → n ≤ 6
 
 -- what playing the frame at a place hands back, and leaves of tables, bytes and text
 pub record Stepped (tape : List ℕ) (place : ℕ) (k : Player) (before : List ℕ) (r : Step) (t' : Tables) (bytes' after : List ℕ) : Type 0 where

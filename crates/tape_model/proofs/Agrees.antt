@@ -18,7 +18,7 @@ use Rattle.head.specs.Heads.{lastPosition}
 use Rattle.head.proofs.Numbers.{zero-passed}
 use Rattle.frames.specs.Frames.{Saying, told, ended, refused, readAt}
 use Rattle.model.specs.Changes.{changeRoom}
-use Rattle.model.specs.Reference.{Reference, Lengths, unopened, newest, opened, headOf, tells, foretells, referenceStep}
+use Rattle.model.specs.Reference.{Reference, Lengths, unopened, newest, isOpen, headOf, tells, foretells, referenceStep}
 use Rattle.model.specs.Calls.{Call, Open, Quote, Look, Watch, End, Past, Pair, Unpair, Due, Preview, Outputs, Lent, bookStep, lengthsOf, shown, expectedStep, runs, worldFirst}
 use Rattle.model.specs.Claims.{isOpening}
 use Rattle.model.proofs.Simulation.{Simulation, Agree, referenceWith, Bounded, bounded, in-range, in-pair-range}
@@ -42,7 +42,7 @@ quote-fits x lengths s ok =
     let a = zero-passed _ _ _ e in
     let c = zero-passed _ _ _ (zero-passed _ _ _ (a .1) .1) in
     let wide = ltb-false (lengths .bytes) changeRoom (zero-passed _ _ _ (c .1) .0) in
-    le-trans (written-fits s x (not-false (opened s) (a .0)) ok (leb-false lastPosition (newest s) (c .0))) wide) zero-le
+    le-trans (written-fits s x (not-false (isOpen s) (a .0)) ok (leb-false lastPosition (newest s) (c .0))) wide) zero-le
 
 -- nor is what any call writes
 bytes-fit : (c : Call) (lengths : Lengths) (s : Reference) → Bounded s → length (referenceStep c lengths s .bytes) ≤ lengths .bytes
@@ -57,7 +57,7 @@ bytes-fit (Watch desk n) lengths s ok =
     let b = zero-passed _ _ _ (a .1) in
     let r = in-range s n (b .0) in
     let wide = ltb-false (lengths .bytes) changeRoom (zero-passed _ _ _ (zero-passed _ _ _ (zero-passed _ _ _ (b .1) .1) .1) .0) in
-    le-trans (watch-written s (not-false (opened s) (a .0)) ok (watchOf desk n) n (r .0) (r .1)) wide) zero-le
+    le-trans (watch-written s (not-false (isOpen s) (a .0)) ok (watchOf desk n) n (r .0) (r .1)) wide) zero-le
 bytes-fit (End desk n) lengths s ok = either-way (λ (w : List ℕ). length w ≤ lengths .bytes) _ [] [] (λ _. zero-le) zero-le
 bytes-fit (Past n1 n2) lengths s ok = either-way (λ (w : List ℕ). length w ≤ lengths .bytes) _ [] [] (λ _. zero-le) zero-le
 bytes-fit (Pair n1 n2) lengths s ok =
@@ -69,7 +69,7 @@ bytes-fit (Pair n1 n2) lengths s ok =
     let r = in-pair-range s n1 n2 (b .0) (c .0) in
     let two = r .two in
     let wide = ltb-false (lengths .bytes) changeRoom (zero-passed _ _ _ (zero-passed _ _ _ (c .1) .1) .0) in
-    le-trans (pair-written s (not-false (opened s) (a .0)) ok n1 n2 (omega arith) (r .order) (r .most)) wide) zero-le
+    le-trans (pair-written s (not-false (isOpen s) (a .0)) ok n1 n2 (omega arith) (r .order) (r .most)) wide) zero-le
 bytes-fit Unpair lengths s ok = either-way (λ (w : List ℕ). length w ≤ lengths .bytes) _ [] [] (λ _. zero-le) zero-le
 bytes-fit Due lengths s ok = either-way (λ (w : List ℕ). length w ≤ lengths .bytes) _ [] [] (λ _. zero-le) zero-le
 bytes-fit (Preview x) lengths s ok = quote-fits x lengths s ok
@@ -145,11 +145,11 @@ module _ (lengths : Lengths) (s : Reference) where
 -- lengths of a book's own give the answers of the reference model that is lent these: they are the same; or an opening was accepted, from
 -- when on only those of the outputs count
 abbrev pub Answering : Reference → Lengths → Lengths → Type 0
-Answering s own lengths = (own ≡ lengths) ⊎ ((opened s ≡ true) × (own .bytes ≡ lengths .bytes) × (own .cells ≡ lengths .cells))
+Answering s own lengths = (own ≡ lengths) ⊎ ((isOpen s ≡ true) × (own .bytes ≡ lengths .bytes) × (own .cells ≡ lengths .cells))
 
 -- a call is no second opening
 abbrev Once : Reference → Call → Type 0
-Once s c = opened s ≡ true → isOpening c ≡ false
+Once s c = isOpen s ≡ true → isOpening c ≡ false
 
 module _ (s : Reference) (own lengths : Lengths) (c : Call) (once : Once s c) where
   -- then the reference model tells the same
@@ -218,8 +218,8 @@ module _ (lengths : Lengths) (c : Call) (s : Reference) (k : Player) (v : Alike 
 -- ---- one frame, and all of them
 
 -- an opening was accepted by both models or by neither
-pub begun-alike : {lengths : Lengths} (s : Reference) (k : Player) → Alike lengths s k → begun k ≡ opened s
-unfolding begun opened headOf
+pub begun-alike : {lengths : Lengths} (s : Reference) (k : Player) → Alike lengths s k → begun k ≡ isOpen s
+unfolding begun isOpen headOf
 begun-alike s k v = rw (v .simulation .head)
 
 -- what is asked for is an opening
@@ -266,8 +266,8 @@ pub record Matches (lengths : Lengths) (one : Played Player) (other : Played Ref
 
 module _ (lengths : Lengths) where
   -- what is asked at a place is played alike
-  asked-matches : (a : Asked) (next : ℕ) (s : Reference) (k : Player) → Alike lengths s k → (opened s ≡ true → asksOpening a ≡ false)
-      → Matches lengths (playAsked begun bookMake a next k) (playAsked opened (referenceMake lengths) a next s)
+  asked-matches : (a : Asked) (next : ℕ) (s : Reference) (k : Player) → Alike lengths s k → (isOpen s ≡ true → asksOpening a ≡ false)
+      → Matches lengths (playAsked begun bookMake a next k) (playAsked isOpen (referenceMake lengths) a next s)
   unfolding playAsked asksOpening
   asked-matches finished next s k v once = record { number = refl; text = refl; next = refl; over = refl; state = v }
   asked-matches (unread e) next s k v once = record { number = refl; text = refl; next = refl; over = refl; state = v }
@@ -282,16 +282,16 @@ module _ (lengths : Lengths) where
 
   -- one frame is played alike by both models
   pub frame-agrees : (tape : List ℕ) (place : ℕ) (s : Reference) (k : Player) → Alike lengths s k
-      → Matches lengths (playAt begun bookMake tape place k) (playAt opened (referenceMake lengths) tape place s)
+      → Matches lengths (playAt begun bookMake tape place k) (playAt isOpen (referenceMake lengths) tape place s)
   unfolding playAt
   frame-agrees tape place s k v =
       let read = readAt tape place in
       rw (begun-alike s k v)
-      (asked-matches (asked (opened s) (read .says) (read .columns)) (read .next) s k v (λ o. rw o (asked-once (read .says) (read .columns))))
+      (asked-matches (asked (isOpen s) (read .says) (read .columns)) (read .next) s k v (λ o. rw o (asked-once (read .says) (read .columns))))
 
   -- and so is any number of frames
   pub frames-agree : (frames : ℕ) (tape : List ℕ) (place : ℕ) (s : Reference) (k : Player) → Alike lengths s k
-      → printFrom begun bookMake frames tape place k ≡ printFrom opened (referenceMake lengths) frames tape place s
+      → printFrom begun bookMake frames tape place k ≡ printFrom isOpen (referenceMake lengths) frames tape place s
   unfolding printFrom
   frames-agree zero tape place s k v = refl
   frames-agree (suc frames) tape place s k v =
@@ -311,13 +311,13 @@ at-first l o = record { simulation = replay-ends [] l; lent = inl refl }
 -- the print of every tape by the book is the print by the reference model, whatever the tables, the watch records and the outputs hold
 -- and however long they are
 pub print-agrees : (tape : List ℕ) (l : Lent) (o : Outputs)
-    → print begun bookMake tape (record { world = worldFirst l; outputs = o }) ≡ print opened (referenceMake (lengthsOf l o)) tape unopened
+    → print begun bookMake tape (record { world = worldFirst l; outputs = o }) ≡ print isOpen (referenceMake (lengthsOf l o)) tape unopened
 unfolding print
 print-agrees tape l o = frames-agree (lengthsOf l o) (suc (length tape)) tape 0 unopened (atFirst l o) (at-first l o)
 
 -- the lines of the first frames of a tape are the reference model's too
 pub prefix-agrees : (frames : ℕ) (tape : List ℕ) (l : Lent) (o : Outputs)
-    → printFrom begun bookMake frames tape 0 (record { world = worldFirst l; outputs = o }) ≡ printFrom opened (referenceMake (lengthsOf l o)) frames tape 0 unopened
+    → printFrom begun bookMake frames tape 0 (record { world = worldFirst l; outputs = o }) ≡ printFrom isOpen (referenceMake (lengthsOf l o)) frames tape 0 unopened
 prefix-agrees frames tape l o = frames-agree (lengthsOf l o) frames tape 0 unopened (atFirst l o) (at-first l o)
 
 -- ---- where a tape comes to
@@ -357,7 +357,7 @@ module _ (lengths : Lengths) where
   begins-alike = (atFirst (blank lengths) (blankOutputs lengths), rw blank-lengths at (at-first (blank lengths) (blankOutputs lengths)))
 
   -- and wherever a tape comes to, the book has come to stand alike
-  pub reached-alike : (tape : List ℕ) {place : ℕ} {s : Reference} → Reaches opened (referenceMake lengths) tape unopened place s → (k : Player) × Alike lengths s k
+  pub reached-alike : (tape : List ℕ) {place : ℕ} {s : Reference} → Reaches isOpen (referenceMake lengths) tape unopened place s → (k : Player) × Alike lengths s k
   reached-alike tape start = begins-alike
   reached-alike tape (onward {place} {s} h o) =
       let t = reached-alike tape h in

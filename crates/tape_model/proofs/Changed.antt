@@ -17,7 +17,7 @@ use Rattle.head.proofs.Numbers.{zero-passed}
 use Rattle.frames.specs.declared.Message.{Message}
 use Rattle.model.specs.Changes.{join, pairJoin, allChanges, pairChanges, frames}
 use Rattle.model.specs.Rows.{liveRows}
-use Rattle.model.specs.Reference.{Reference, Lengths, unopened, newest, skylineOf, pastOf, pairOf, rowsOf, headOf, opened, outside, outsidePair, withQuote, tells, referenceStep}
+use Rattle.model.specs.Reference.{Reference, Lengths, unopened, newest, skylineOf, pastOf, pairOf, rowsOf, headOf, isOpen, outside, outsidePair, withQuote, tells, referenceStep}
 use Rattle.model.specs.Calls.{Call}
 use Rattle.model.proofs.Simulation.{Bounded, bounded, in-pair-range}
 use Rattle.model.proofs.Following.{sent-watch, sent-pairing, sent-quote}
@@ -56,7 +56,7 @@ module _ (s : Reference) (ok : Bounded s) where
 
 -- ---- wherever a tape comes to
 
-module _ (lengths : Lengths) (tape : List ℕ) (place : ℕ) (s : Reference) (h : Reaches opened (referenceMake lengths) tape unopened place s) where
+module _ (lengths : Lengths) (tape : List ℕ) (place : ℕ) (s : Reference) (h : Reaches isOpen (referenceMake lengths) tape unopened place s) where
   -- the reference model is bounded there
   reached-bounded : Bounded s
   reached-bounded = let t = reached-alike lengths tape h in bounded s (t .0 .world .lent) (t .1 .simulation .since)

@@ -23,7 +23,7 @@ use Rattle.head.proofs.Settings.{settings-within}
 use Rattle.frames.specs.Frames.{readAt}
 use Rattle.model.specs.Changes.{changeRoom}
 use Rattle.model.specs.Shares.{deskFull}
-use Rattle.model.specs.Reference.{Reference, Lengths, unopened, newest, over, skylineOf, pastOf, paired, opened, outside, outsidePast, outsidePair, tooShort, tells, referenceStep}
+use Rattle.model.specs.Reference.{Reference, Lengths, unopened, newest, over, skylineOf, pastOf, paired, isOpen, outside, outsidePast, outsidePair, tooShort, tells, referenceStep}
 use Rattle.model.specs.Calls.{Call, Open, Quote, Look, Watch, End, Past, Pair, Unpair, Due, Preview, Outputs, Lent, lengthsOf, worldFirst}
 use Rattle.model.proofs.Simulation.{in-range, in-past-range}
 use Rattle.asking.specs.Asking.{Asked, finished, unread, misplaced, request, asked, playable}
@@ -39,7 +39,7 @@ roomy : (lengths : Lengths) (d N directions : ℕ) → Ample lengths → setting
 unfolding tooShort
 roomy lengths d N directions a e =
     let w = settings-within d N directions e in
-    let few = w .few-columns in
+    let bounded = w .bounded-columns in
     let small = w .small-capacity in
     rw (
       le-ltb (lengths .columns) (N * d) (omega (arith, a .columns, mul-le-mul-right d small)),
@@ -52,23 +52,23 @@ roomy lengths d N directions a e =
 -- ---- the two looks
 
 -- a skyline of positions from a to b has at most as many
-skyline-few : (dom : ℕ → ℕ → Bool) (a b : ℕ) → length (skyline dom a b) ≤ suc b - a
+skyline-bounded : (dom : ℕ → ℕ → Bool) (a b : ℕ) → length (skyline dom a b) ≤ suc b - a
 unfolding skyline between
-skyline-few dom a b = omega (arith, length-filter (λ p. not (dominatedIn dom a b p)) (between a b), length-run a (suc b - a))
+skyline-bounded dom a b = omega (arith, length-filter (λ p. not (dominatedIn dom a b p)) (between a b), length-run a (suc b - a))
 
 -- a skyline of a window of n has at most n positions
 skyline-short : (s : Reference) (n : ℕ) → 1 ≤ n → length (skylineOf s n) ≤ n
 unfolding skylineOf windowStart
-skyline-short s n h = omega (arith, skyline-few (over s) (windowStart (newest s) n) (newest s))
+skyline-short s n h = omega (arith, skyline-bounded (over s) (windowStart (newest s) n) (newest s))
 
 -- and so has one that begins there and ended before the newest
 past-short : (s : Reference) (n1 n2 : ℕ) → 1 ≤ n1 → n1 ≤ n2 → length (pastOf s n1 n2) ≤ n2
 unfolding pastOf windowStart
-past-short s n1 n2 h k = omega (arith, skyline-few (over s) (windowStart (newest s) n2) (newest s + 1 - n1))
+past-short s n1 n2 h k = omega (arith, skyline-bounded (over s) (windowStart (newest s) n2) (newest s + 1 - n1))
 
 -- the list of an n in range fits into 1,024 cells
-list-short : (s : Reference) (n : ℕ) → opened s ≡ true → outside s n ≡ false → length (skylineOf s n) ≤ 1024
-unfolding opened
+list-short : (s : Reference) (n : ℕ) → isOpen s ≡ true → outside s n ≡ false → length (skylineOf s n) ≤ 1024
+unfolding isOpen
 list-short s n o e =
     let r = in-range s n e in
     let some = r .0 in
@@ -77,8 +77,8 @@ list-short s n o e =
     omega (arith, skyline-short s n some)
 
 -- and so does the past list of n1 and n2 in range
-past-list-short : (s : Reference) (n1 n2 : ℕ) → opened s ≡ true → 1 ≤ n1 → n1 ≤ n2 → n2 ≤ s .capacity → length (pastOf s n1 n2) ≤ 1024
-unfolding opened
+past-list-short : (s : Reference) (n1 n2 : ℕ) → isOpen s ≡ true → 1 ≤ n1 → n1 ≤ n2 → n2 ≤ s .capacity → length (pastOf s n1 n2) ≤ 1024
+unfolding isOpen
 past-list-short s n1 n2 o some order most =
     let small = settings-within (s .dimensions) (s .capacity) (s .directions) o .small-capacity in
     omega (arith, past-short s n1 n2 some order)
@@ -94,44 +94,44 @@ module _ (lengths : Lengths) (a : Ample lengths) (s : Reference) where
       (λ e. firstOf-fails (tooShort lengths d N) (number ShortLoan) [] (roomy lengths d N directions a (not-false (settingsHold d N directions) e)))
 
   -- a look by its n alone
-  look-plain : (n : ℕ) → referenceStep (Look n) lengths s .number ≡ firstOf ((not (opened s), number Settings) ∷ (outside s n, number WindowSize) ∷ [])
+  look-plain : (n : ℕ) → referenceStep (Look n) lengths s .number ≡ firstOf ((not (isOpen s), number Settings) ∷ (outside s n, number WindowSize) ∷ [])
   unfolding referenceStep tells
   look-plain n =
-      firstOf-alike (not (opened s)) (number Settings) _ _
-      (λ o. firstOf-alike (outside s n) (number WindowSize) _ [] (λ e. firstOf-fails (ltb (lengths .cells) (length (skylineOf s n))) (number ShortOutput) [] (le-ltb (lengths .cells) (length (skylineOf s n)) (omega (arith, a .cells, list-short s n (not-false (opened s) o) e)))))
+      firstOf-alike (not (isOpen s)) (number Settings) _ _
+      (λ o. firstOf-alike (outside s n) (number WindowSize) _ [] (λ e. firstOf-fails (ltb (lengths .cells) (length (skylineOf s n))) (number ShortOutput) [] (le-ltb (lengths .cells) (length (skylineOf s n)) (omega (arith, a .cells, list-short s n (not-false (isOpen s) o) e)))))
 
   -- a past look by its n1 and n2 alone
   past-plain : (n1 n2 : ℕ)
       → referenceStep (Past n1 n2) lengths s .number
-      ≡ firstOf ((not (opened s), number Settings) ∷ (outsidePast s n1 n2, number WindowSize) ∷ (ltb n2 n1, number WindowOrder) ∷ [])
+      ≡ firstOf ((not (isOpen s), number Settings) ∷ (outsidePast s n1 n2, number WindowSize) ∷ (ltb n2 n1, number WindowOrder) ∷ [])
   unfolding referenceStep tells
   past-plain n1 n2 =
-      firstOf-alike (not (opened s)) (number Settings) _ _
+      firstOf-alike (not (isOpen s)) (number Settings) _ _
       (λ o. firstOf-alike (outsidePast s n1 n2) (number WindowSize) _ _
       (λ e. firstOf-alike (ltb n2 n1) (number WindowOrder) _ []
       (λ f.
       let r = in-past-range s n1 n2 e f in
       firstOf-fails (ltb (lengths .cells) (length (pastOf s n1 n2))) (number ShortOutput) []
-      (le-ltb (lengths .cells) (length (pastOf s n1 n2)) (omega (arith, a .cells, past-list-short s n1 n2 (not-false (opened s) o) (r .0) (r .1) (r .2)))))))
+      (le-ltb (lengths .cells) (length (pastOf s n1 n2)) (omega (arith, a .cells, past-list-short s n1 n2 (not-false (isOpen s) o) (r .0) (r .1) (r .2)))))))
 
   -- a watch by its desk, its n and the watches
   watch-plain : (desk : Desk) (n : ℕ)
       → referenceStep (Watch desk n) lengths s .number
-      ≡ firstOf ((not (opened s), number Settings) ∷ (outside s n, number WindowSize) ∷ (contains (watchOf desk n) (s .watched), number AlreadyWatched) ∷ (deskFull desk (s .watched), number NoFreeRecord) ∷ [])
+      ≡ firstOf ((not (isOpen s), number Settings) ∷ (outside s n, number WindowSize) ∷ (contains (watchOf desk n) (s .watched), number AlreadyWatched) ∷ (deskFull desk (s .watched), number NoFreeRecord) ∷ [])
   unfolding referenceStep tells firstOf
   watch-plain desk n = rw (le-ltb (lengths .bytes) changeRoom (a .bytes))
 
   -- a pair by its n1 and n2 and whether one stands
   pair-plain : (n1 n2 : ℕ)
       → referenceStep (Pair n1 n2) lengths s .number
-      ≡ firstOf ((not (opened s), number Settings) ∷ (outsidePair s n1 n2, number WindowSize) ∷ (ltb n2 n1, number WindowOrder) ∷ (paired s, number NoFreeRecord) ∷ [])
+      ≡ firstOf ((not (isOpen s), number Settings) ∷ (outsidePair s n1 n2, number WindowSize) ∷ (ltb n2 n1, number WindowOrder) ∷ (paired s, number NoFreeRecord) ∷ [])
   unfolding referenceStep tells firstOf
   pair-plain n1 n2 = rw (le-ltb (lengths .bytes) changeRoom (a .bytes))
 
   -- a quote by its columns and the newest position
   quote-plain : (x : List ℕ)
       → referenceStep (Quote x) lengths s .number
-      ≡ firstOf ((not (opened s), number Settings) ∷ (not (eqb (length x) (s .dimensions)), number ColumnCount) ∷ (leb lastPosition (newest s), number TapeFull) ∷ [])
+      ≡ firstOf ((not (isOpen s), number Settings) ∷ (not (eqb (length x) (s .dimensions)), number ColumnCount) ∷ (leb lastPosition (newest s), number TapeFull) ∷ [])
   unfolding referenceStep tells firstOf
   quote-plain x = rw (le-ltb (lengths .bytes) changeRoom (a .bytes))
 
@@ -188,7 +188,7 @@ module _ (lengths lengths' : Lengths) (a : Ample lengths) (a' : Ample lengths') 
   made-same (Preview x) p s = absurd (clash false p refl)
 
   -- what is asked at a place is played alike
-  asked-same : (q : Asked) → asksPlayable q ≡ true → (next : ℕ) (s : Reference) → playAsked opened (referenceMake lengths) q next s ≡ playAsked opened (referenceMake lengths') q next s
+  asked-same : (q : Asked) → asksPlayable q ≡ true → (next : ℕ) (s : Reference) → playAsked isOpen (referenceMake lengths) q next s ≡ playAsked isOpen (referenceMake lengths') q next s
   unfolding playAsked asksPlayable
   asked-same finished p next s = refl
   asked-same (unread e) p next s = refl
@@ -197,22 +197,22 @@ module _ (lengths lengths' : Lengths) (a : Ample lengths) (a' : Ample lengths') 
 
   -- and so is any number of frames
   frames-same : (frames : ℕ) (tape : List ℕ) (place : ℕ) (s : Reference)
-      → printFrom opened (referenceMake lengths) frames tape place s ≡ printFrom opened (referenceMake lengths') frames tape place s
+      → printFrom isOpen (referenceMake lengths) frames tape place s ≡ printFrom isOpen (referenceMake lengths') frames tape place s
   unfolding printFrom playAt
   frames-same zero tape place s = refl
   frames-same (suc frames) tape place s =
-      let one = playAt opened (referenceMake lengths) tape place s in
+      let one = playAt isOpen (referenceMake lengths) tape place s in
       let read = readAt tape place in
       let rest = frames-same frames tape (one .next) (one .state) in
-      rw (← (asked-same (asked (opened s) (read .says) (read .columns)) (asked-playable (opened s) tape place (read .columns)) (read .next) s)) (ap (λ (l : List ℕ). one .text ++ cond (one .over) [] l) rest)
+      rw (← (asked-same (asked (isOpen s) (read .says) (read .columns)) (asked-playable (isOpen s) tape place (read .columns)) (read .next) s)) (ap (λ (l : List ℕ). one .text ++ cond (one .over) [] l) rest)
 
 -- the print by the reference model is the same for all ample lengths
 pub ample-alike : (lengths lengths' : Lengths) → Ample lengths → Ample lengths' → (tape : List ℕ)
-    → print opened (referenceMake lengths) tape unopened ≡ print opened (referenceMake lengths') tape unopened
+    → print isOpen (referenceMake lengths) tape unopened ≡ print isOpen (referenceMake lengths') tape unopened
 unfolding print
 ample-alike lengths lengths' a a' tape = frames-same lengths lengths' a a' (suc (length tape)) tape 0 unopened
 
 -- so a book that is lent ample lengths prints of every tape what the reference model prints with any ample lengths
 pub ample-agrees : (tape : List ℕ) (l : Lent) (o : Outputs) (lengths : Lengths) → Ample (lengthsOf l o) → Ample lengths
-    → print begun bookMake tape (record { world = worldFirst l; outputs = o }) ≡ print opened (referenceMake lengths) tape unopened
+    → print begun bookMake tape (record { world = worldFirst l; outputs = o }) ≡ print isOpen (referenceMake lengths) tape unopened
 ample-agrees tape l o lengths a a' = print-agrees tape l o ∙ ample-alike (lengthsOf l o) lengths a a' tape

@@ -10,7 +10,7 @@ use Rattle.head.specs.declared.Head.{Head}
 use Rattle.head.specs.Heads.{settingsHold}
 use Rattle.model.specs.Rows.{Tables}
 use Rattle.model.specs.Places.{SamePlaces}
-use Rattle.model.specs.Reference.{Reference, Lengths, unopened, headOf, opened}
+use Rattle.model.specs.Reference.{Reference, Lengths, unopened, headOf, isOpen}
 use Rattle.model.specs.Calls.{Lent, lengthsOf}
 use Rattle.model.proofs.Simulation.{Invariant}
 use Rattle.model.proofs.Places.{not-opened, invariant-alike}
@@ -28,7 +28,7 @@ module _ (lengths : Lengths) (s : Reference) (k : Player) (v : Alike lengths s k
   h = k .world .head
 
   module _ (u : Tables) (holds : settingsHold (h .dimensions) (h .capacity) (h .directions) ≡ true) (p : SamePlaces (h .dimensions) (h .capacity) (l .tables) u) where
-    taken : opened s ≡ true
+    taken : isOpen s ≡ true
     unfolding begun
     taken = sym (begun-alike s k v) ∙ holds
 
@@ -37,7 +37,7 @@ module _ (lengths : Lengths) (s : Reference) (k : Player) (v : Alike lengths s k
     invariant = go (v .simulation .since)
       where
         go : (s ≡ unopened) ⊎ Invariant s l → Invariant s (on u k .world .lent)
-        go (inl e) = absurd (clash (opened s) taken (rw e not-opened))
+        go (inl e) = absurd (clash (isOpen s) taken (rw e not-opened))
         go (inr f) = invariant-alike s l f u (rw (v .simulation .head) at p)
 
     -- the lengths of the outputs stay
@@ -53,12 +53,12 @@ module _ (lengths : Lengths) (s : Reference) (k : Player) (v : Alike lengths s k
   module _ {piece rest : List ℕ} {place : ℕ} (c : (ready piece place ≡ true) ⊎ (rest ≡ [])) where
     -- a frame that the book plays is played by the reference model, and then what both come to
     pub plays-alike : {text : List ℕ} → bookPlay piece place k .over ≡ false
-        → ((next : Reference) → Alike lengths next (bookPlay piece place k .state) → Streams opened (referenceMake lengths) piece (bookPlay piece place k .next) next rest text)
-        → Streams opened (referenceMake lengths) piece place s rest (bookPlay piece place k .text ++ text)
+        → ((next : Reference) → Alike lengths next (bookPlay piece place k .state) → Streams isOpen (referenceMake lengths) piece (bookPlay piece place k .next) next rest text)
+        → Streams isOpen (referenceMake lengths) piece place s rest (bookPlay piece place k .text ++ text)
     plays-alike {text} o more =
         let m = frame-agrees lengths piece place s k v in
         rw (m .text) (plays {text = text} c (sym (m .over) ∙ o) (rw (← (m .next)) (more _ (m .state))))
 
     -- and so is one that ends the tape
-    pub stops-alike : bookPlay piece place k .over ≡ true → Streams opened (referenceMake lengths) piece place s rest (bookPlay piece place k .text)
+    pub stops-alike : bookPlay piece place k .over ≡ true → Streams isOpen (referenceMake lengths) piece place s rest (bookPlay piece place k .text)
     stops-alike o = let m = frame-agrees lengths piece place s k v in rw (m .text) (stops c (sym (m .over) ∙ o))

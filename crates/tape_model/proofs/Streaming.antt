@@ -21,7 +21,7 @@ use Rattle.frame_kinds.specs.Kinds.{within, shapeOf, bodyLength}
 use Rattle.frames.specs.Frames.{messageBy, messageAt, columnsAt, told, ended, refused, Reading, stays, readAt}
 use Rattle.frame_kinds.proofs.Shapes.{within-bounds, quote-body, size-body, change-body, pair-body, position-body, open-body, kind-known, known-body}
 use Rattle.frames.proofs.Reading.{message-drop, columns-drop, Found, beyond, at-end, unknown, cut, whole, found}
-use Rattle.model.specs.Reference.{unopened, opened}
+use Rattle.model.specs.Reference.{unopened, isOpen}
 use Rattle.model.specs.Calls.{Call, Outputs, Lent, lengthsOf, worldFirst}
 use Rattle.asking.specs.Asking.{Asked, finished, unread, misplaced, request, asked}
 use Rattle.tape_model.specs.Print.{Answered}
@@ -349,5 +349,5 @@ module _ {S : Type 0} (begun : S → Bool) (make : Call → S → Answered × S)
 -- what the book prints of a tape that is read in pieces is the print by the reference model
 pub streamed-agrees : (tape : List ℕ) (l : Lent) (o : Outputs) {text : List ℕ}
     → Streams begun bookMake [] 0 (record { world = worldFirst l; outputs = o }) tape text
-    → text ≡ print opened (referenceMake (lengthsOf l o)) tape unopened
+    → text ≡ print isOpen (referenceMake (lengthsOf l o)) tape unopened
 streamed-agrees tape l o t = printed-in-pieces begun bookMake tape _ t ∙ print-agrees tape l o

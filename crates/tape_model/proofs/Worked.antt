@@ -14,7 +14,7 @@ use Rattle.frames.specs.Frames.{frame, messageBy, messageAt, columnsAt, stays, 
 use Rattle.model.specs.Changes.{leaveKindOf, joinKindOf, missing, changesBy, changes, allChanges, pairChanges, frames}
 use Rattle.model.specs.Shares.{ofDesk, countOf, aboveShares, deskFull}
 use Rattle.model.specs.Rows.{isLive, liveRows}
-use Rattle.model.specs.Reference.{unopened, ample, skylineOf, pastOf, paired, pairOf, rowOf, rowsOf, headOf, opened, outside, outsidePast, outsidePair, withQuote, withWatched, withPairOf, opening, tooShort, tells, referenceStep}
+use Rattle.model.specs.Reference.{unopened, ample, skylineOf, pastOf, paired, pairOf, rowOf, rowsOf, headOf, isOpen, outside, outsidePast, outsidePair, withQuote, withWatched, withPairOf, opening, tooShort, tells, referenceStep}
 use Rattle.text.specs.Text.{digitsUpTo, digits, field, line, line2}
 use Rattle.printed.specs.Printed.{letterOf, changeLine, changeLines, changesText}
 use Rattle.asking.specs.Asking.{sizedAsks, pairAsks, bareAsks, asks, inPlace, placed, asked}
@@ -23,44 +23,44 @@ use Rattle.tape_model.specs.Play.{playAsked, playAt, printFrom, print, r
 use Rattle.tape_model.specs.Worked.{workedTape, workedText, pastTape, pastText, pairTape, pairText, desksTape, desksText}
 
 -- the reference model prints 01's tape as 02 says
-pub worked-print : print opened (referenceMake ample) workedTape unopened ≡ workedText
+pub worked-print : print isOpen (referenceMake ample) workedTape unopened ≡ workedText
 unfolding filter any headOr lastOr flat run between contains insert
     higher better betterAt noWorse someBetter dominates quoteAt equalColumns renewed windowStart dominatedIn skyline lowerEnd upperEnd
     firstOf granted settingsHold recordOf deskIn sizeIn watchOf bytes2 bytes4 number2 number4 kinds shapeIn shapeOf lengthOf bodyLength frame messageBy messageAt columnsAt stays readAt toldFirst messagesFrom
-    leaveKindOf joinKindOf ofDesk countOf aboveShares deskFull missing changesBy changes allChanges pairChanges frames skylineOf paired pairOf rowOf rowsOf isLive liveRows headOf opened outside
+    leaveKindOf joinKindOf ofDesk countOf aboveShares deskFull missing changesBy changes allChanges pairChanges frames skylineOf paired pairOf rowOf rowsOf isLive liveRows headOf isOpen outside
     withQuote withWatched opening tooShort tells referenceStep
     digitsUpTo digits field line letterOf changeLine changeLines changesText deskLine linesOf textOf
     sizedAsks asks inPlace placed asked playAsked playAt printFrom print referenceMake
 worked-print = refl
 
 -- and the tape with past looks
-pub past-print : print opened (referenceMake ample) pastTape unopened ≡ pastText
+pub past-print : print isOpen (referenceMake ample) pastTape unopened ≡ pastText
 unfolding filter any headOr lastOr flat run between contains insert
     higher better betterAt noWorse someBetter dominates quoteAt equalColumns renewed windowStart dominatedIn skyline lowerEnd upperEnd
     firstOf granted settingsHold bytes2 bytes4 number2 number4 kinds shapeIn shapeOf lengthOf bodyLength frame messageBy messageAt columnsAt stays readAt toldFirst messagesFrom
-    missing changesBy changes allChanges pairChanges frames skylineOf pastOf paired pairOf rowOf rowsOf isLive liveRows headOf opened outside outsidePast
+    missing changesBy changes allChanges pairChanges frames skylineOf pastOf paired pairOf rowOf rowsOf isLive liveRows headOf isOpen outside outsidePast
     withQuote withWatched opening tooShort tells referenceStep
     digitsUpTo digits field line letterOf changeLine changeLines changesText linesOf textOf
     sizedAsks pairAsks asks inPlace placed asked playAsked playAt printFrom print referenceMake
 past-print = refl
 
 -- and the tape with a pair
-pub pair-print : print opened (referenceMake ample) pairTape unopened ≡ pairText
+pub pair-print : print isOpen (referenceMake ample) pairTape unopened ≡ pairText
 unfolding filter any headOr lastOr flat run between contains insert
     higher better betterAt noWorse someBetter dominates quoteAt equalColumns renewed windowStart dominatedIn skyline lowerEnd upperEnd
     firstOf granted settingsHold bytes2 bytes4 number2 number4 kinds shapeIn shapeOf lengthOf bodyLength frame messageBy messageAt columnsAt stays readAt toldFirst messagesFrom
-    missing changesBy changes allChanges pairChanges frames skylineOf pastOf paired pairOf rowOf rowsOf isLive liveRows headOf opened outsidePair
+    missing changesBy changes allChanges pairChanges frames skylineOf pastOf paired pairOf rowOf rowsOf isLive liveRows headOf isOpen outsidePair
     withQuote withPairOf opening tooShort tells referenceStep
     digitsUpTo digits field line line2 letterOf changeLine changeLines changesText linesOf textOf
     pairAsks bareAsks asks inPlace placed asked playAsked playAt printFrom print referenceMake
 pair-print = refl
 
 -- and the tape with two desks
-pub desks-print : print opened (referenceMake ample) desksTape unopened ≡ desksText
+pub desks-print : print isOpen (referenceMake ample) desksTape unopened ≡ desksText
 unfolding filter any headOr lastOr flat run between contains insert without
     higher better betterAt noWorse someBetter dominates quoteAt equalColumns renewed windowStart dominatedIn skyline lowerEnd upperEnd
     firstOf granted settingsHold recordOf deskIn sizeIn watchOf bytes2 bytes4 number2 number4 kinds shapeIn shapeOf lengthOf bodyLength frame messageBy messageAt columnsAt stays readAt toldFirst messagesFrom
-    leaveKindOf joinKindOf ofDesk countOf aboveShares deskFull missing changesBy changes allChanges pairChanges frames skylineOf pastOf paired pairOf rowOf rowsOf isLive liveRows headOf opened outside outsidePair
+    leaveKindOf joinKindOf ofDesk countOf aboveShares deskFull missing changesBy changes allChanges pairChanges frames skylineOf pastOf paired pairOf rowOf rowsOf isLive liveRows headOf isOpen outside outsidePair
     withQuote withWatched withPairOf opening tooShort tells referenceStep
     digitsUpTo digits field line line2 letterOf changeLine changeLines changesText deskLine linesOf refusalLine textOf
     sizedAsks pairAsks asks inPlace placed asked playAsked playAt printFrom print referenceMake

@@ -18,12 +18,12 @@ use Rattle.sliding.specs.Slid.{later}
 use Rattle.turn_lines.specs.Turns.{player}
 use Rattle.tape_sliding.specs.declared.SlidStep.{SlidStep}
 use Rattle.tape_sliding.specs.Steps.{StepSlid}
-use Rattle.tape_sliding.proofs.Slides.{left-reached, left-few, left-holds}
+use Rattle.tape_sliding.proofs.Slides.{left-reached, left-bounded, left-holds}
 use Rattle.row_starts.specs.declared.Start.{Start}
 use Rattle.tape_playback.specs.declared.Playback.{Playback}
 use Rattle.tape_playback.specs.Played.{SameBook}
 use Rattle.row_starts.specs.Starts.{Long, Within, FullOpened, onward}
-use Rattle.row_starts.proofs.Rewinding.{few-cells}
+use Rattle.row_starts.proofs.Rewinding.{bounded-cells}
 
 -- players with the same book: it stands for both, and starts as near
 pub same-reached : {s r : Playback} (t : Tables) → SameBook s r → Reached (world (s .head) (onward (s .start) t) (s .watches)) → Reached (world (r .head) (onward (r .start) t) (r .watches))
@@ -65,17 +65,17 @@ module _ (s : Start) (t : Tables) where
   module _ (k : Long t) (w : Within 1023 s) where
     -- they start within the tables
     pub starts-inside : (s .cell ≤ length (t .columns)) × (s .row ≤ length (t .positions)) × (s .row ≤ length (t .lowerEnds)) × (s .row ≤ length (t .upperEnds))
-    starts-inside = omega (arith, k .columns, k .positions, k .lowerEnds, k .upperEnds, w .few, w .near)
+    starts-inside = omega (arith, k .columns, k .positions, k .lowerEnds, k .upperEnds, w .bounded, w .near)
 
     -- there is room for a row behind them
     pub parts-roomy : Roomy parts
     unfolding onward
     parts-roomy =
         rw parts-are (record {
-          columns = omega (arith, length-drop (s .cell) (t .columns), k .columns, w .few, w .near);
-          positions = omega (arith, length-drop (s .row) (t .positions), k .positions, w .few);
-          lowerEnds = omega (arith, length-drop (s .row) (t .lowerEnds), k .lowerEnds, w .few);
-          upperEnds = omega (arith, length-drop (s .row) (t .upperEnds), k .upperEnds, w .few);
+          columns = omega (arith, length-drop (s .cell) (t .columns), k .columns, w .bounded, w .near);
+          positions = omega (arith, length-drop (s .row) (t .positions), k .positions, w .bounded);
+          lowerEnds = omega (arith, length-drop (s .row) (t .lowerEnds), k .lowerEnds, w .bounded);
+          upperEnds = omega (arith, length-drop (s .row) (t .upperEnds), k .upperEnds, w .bounded);
         })
 
     -- the rows so many places on
@@ -97,25 +97,25 @@ module _ (s : Start) (t : Tables) where
 -- ---- a frame is played
 
 slid-cells : {by d : ℕ} → by ≤ 1 → Dec (0 < by) → (0 < by → d ≤ 6) → by * d ≤ 6 * by
-slid-cells {by} {d} k (yes l) h = omega (arith, few-cells d k, h l)
-slid-cells {by} {d} k (no n) h = let z : by ≡ 0 = omega arith in omega (arith, few-cells d k, ap (λ (j : ℕ). j * d) z, zero-mul d)
+slid-cells {by} {d} k (yes l) h = omega (arith, bounded-cells d k, h l)
+slid-cells {by} {d} k (no n) h = let z : by ≡ 0 = omega arith in omega (arith, bounded-cells d k, ap (λ (j : ℕ). j * d) z, zero-mul d)
 
 module _ {tape : List ℕ} {place : ℕ} {h : Head} {t : Tables} {ws bytes before : List ℕ} {z : SlidStep} {t' : Tables} {bytes' after : List ℕ}
     (m : StepSlid tape place (player h t ws bytes) before z t' bytes' after) {s s' : Start} (w : Within 1023 s)
     (e : s' ≡ record { row = s .row + z .by; cell = s .cell + z .by * z .step .head .dimensions }) where
   -- only a book that was opened slides
   six : 0 < z .by → z .step .head .dimensions ≤ 6
-  six l = settings-within _ _ _ (left-holds m l) .few-columns
+  six l = settings-within _ _ _ (left-holds m l) .bounded-columns
 
   -- where the rows start then
   pub start-within : Within 1024 s'
   start-within = rw e record {
-    few = omega (arith, w .few, left-few m);
-    near = omega (arith, w .near, slid-cells (left-few m) (decLt 0 (z .by)) six);
+    bounded = omega (arith, w .bounded, left-bounded m);
+    near = omega (arith, w .near, slid-cells (left-bounded m) (decLt 0 (z .by)) six);
   }
 
   pub start-opened : FullOpened s' (z .step .head)
-  start-opened = rw e record { opened = λ q. left-holds m (omega (arith, w .few)) }
+  start-opened = rw e record { opened = λ q. left-holds m (omega (arith, w .bounded)) }
 
 -- and the book stands there
 pub start-reached : (s : Start) (t : Tables) {tape : List ℕ} {place : ℕ} {h : Head} {ws bytes before : List ℕ} {z : SlidStep} {t' : Tables} {bytes' after : List ℕ} {s' : Start}

@@ -83,17 +83,17 @@ module _ (tape : List ℕ) (place : ℕ) (h : Head) (t : Tables) (ws bytes befor
 slid-reached : {h : Head} {t u : Tables} {ws : List ℕ} {by : ℕ} → Slid h t u by → Reached (world h t ws) → Reached (world h (later (h .dimensions) by u) ws)
 unfolding later
 slid-reached {h} (stayed e) c = rw (e, zero-mul (h .dimensions)) c
-slid-reached (slid few holds same) c = reached-in-places holds c same
+slid-reached (slid bounded holds same) c = reached-in-places holds c same
 
 -- the rows slid by at most one place
-slid-few : {h : Head} {t u : Tables} {by : ℕ} → Slid h t u by → by ≤ 1
-slid-few (stayed e) = omega arith
-slid-few (slid few holds same) = few
+slid-bounded : {h : Head} {t u : Tables} {by : ℕ} → Slid h t u by → by ≤ 1
+slid-bounded (stayed e) = omega arith
+slid-bounded (slid bounded holds same) = bounded
 
 -- and only in a book that was opened
 slid-holds : {h : Head} {t u : Tables} {by : ℕ} → Slid h t u by → 0 < by → settingsHold (h .dimensions) (h .capacity) (h .directions) ≡ true
 slid-holds (stayed e) l = absurd (omega arith)
-slid-holds (slid few holds same) l = holds
+slid-holds (slid bounded holds same) l = holds
 
 module _ {tape : List ℕ} {place : ℕ} {h : Head} {t : Tables} {ws bytes before : List ℕ} {s : SlidStep} {t' : Tables} {bytes' after : List ℕ}
     (m : StepSlid tape place (player h t ws bytes) before s t' bytes' after) where
@@ -101,8 +101,8 @@ module _ {tape : List ℕ} {place : ℕ} {h : Head} {t : Tables} {ws bytes befor
   pub left-reached : Reached (world h t ws) → Reached (world (s .step .head) (later (s .step .head .dimensions) (s .by) t') (s .step .watches))
   left-reached c = slid-reached (m .slides) (step-reached (m .stepped) c)
 
-  pub left-few : s .by ≤ 1
-  left-few = slid-few (m .slides)
+  pub left-bounded : s .by ≤ 1
+  left-bounded = slid-bounded (m .slides)
 
   pub left-holds : 0 < s .by → settingsHold (s .step .head .dimensions) (s .step .head .capacity) (s .step .head .directions) ≡ true
   left-holds = slid-holds (m .slides)
@@ -114,7 +114,7 @@ slid-prints : (k : Player) (r : Step) {piece rest text bytes' : List ℕ} {place
     → Prints piece place (left k r (later (r .head .dimensions) by u) bytes') rest text → Prints piece place (left k r t bytes') rest text
 unfolding later
 slid-prints k r (stayed e) p = rw (e, zero-mul (r .head .dimensions)) at p
-slid-prints k r (slid few holds same) p = slides holds same p
+slid-prints k r (slid bounded holds same) p = slides holds same p
 
 -- so a step that was made while the rows slide is one by which a player prints
 pub slid-goes-on : {piece rest text before after bytes' : List ℕ} {place : ℕ} {k : Player} {s : SlidStep} {t' : Tables} → (ready piece place ≡ true) ⊎ (rest ≡ [])

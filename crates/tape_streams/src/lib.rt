@@ -33,7 +33,7 @@ pub fn refill(playback: Playback, tape: &mut [u8]) -> Playback
     }
     let rest = end - now.place;
     streams::to_front(tape, now.place, end);
-    let came = streams::take_in(&mut tape[rest..], b"tape_printer: standard input");
+    let came = streams::read_in(&mut tape[rest..], b"tape_printer: standard input");
     now.place = 0;
     now.end = rest + came.count;
     now.ended = !came.more;

@@ -55,7 +55,7 @@ fn with_room(cursor: Cursor, out: &[u8]) -> Cursor
 }
 
 // Lays the frame of a line behind what is gathered, or names the line.
-fn take_line(cursor: Cursor, line: &[u8], out: &mut [u8]) -> Cursor
+fn frame_line(cursor: Cursor, line: &[u8], out: &mut [u8]) -> Cursor
     requires { ⌜ cursor .used ≤ length (now out) ⌝ }
     ensures { λ r. ⌜ (r .used ≤ length (now (out .entry))) × (r .rest ≡ cursor .rest) ⌝ }
 {
@@ -72,7 +72,7 @@ fn take_line(cursor: Cursor, line: &[u8], out: &mut [u8]) -> Cursor
 }
 
 // Takes the whole lines of the text, and tells in rest how many bytes stand behind them.
-fn take_lines(cursor: Cursor, text: &[u8], out: &mut [u8]) -> Cursor
+fn frame_lines(cursor: Cursor, text: &[u8], out: &mut [u8]) -> Cursor
     requires { ⌜ cursor .used ≤ length (now out) ⌝ }
     ensures { λ r. ⌜ (r .used ≤ length (now (out .entry))) × (r .rest ≤ length (now (text .entry))) ⌝ }
 {
@@ -80,7 +80,7 @@ fn take_lines(cursor: Cursor, text: &[u8], out: &mut [u8]) -> Cursor
     let mut place = 0;
     let mut stop = line_end(text, 0);
     while stop < text.len() {
-        now = take_line(now, &text[place..stop], out);
+        now = frame_line(now, &text[place..stop], out);
         place = stop + 1;
         stop = line_end(text, place);
     }
@@ -109,10 +109,10 @@ fn read_on(cursor: Cursor, text: &mut [u8], out: &mut [u8]) -> Cursor
         return now;
     }
     let begun = now.rest;
-    let came = streams::take_in(&mut text[begun..], b"tape_writer: standard input");
+    let came = streams::read_in(&mut text[begun..], b"tape_writer: standard input");
     let end = begun + came.count;
     if came.more {
-        now = take_lines(now, &text[..end], out);
+        now = frame_lines(now, &text[..end], out);
         let place = end - now.rest;
         let stop = kept_end(place, end);
         streams::to_front(text, place, stop);
@@ -120,7 +120,7 @@ fn read_on(cursor: Cursor, text: &mut [u8], out: &mut [u8]) -> Cursor
         return now;
     }
     if 0 < end {
-        now = take_line(now, &text[..end], out);
+        now = frame_line(now, &text[..end], out);
     }
     now.over = true;
     now

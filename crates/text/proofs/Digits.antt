@@ -62,8 +62,8 @@ digits-fixed (suc k) j n s = go (s .reached) (λ t. digits-fixed k j (n / 10) t)
 -- ---- counting
 
 -- a number below 2^32 has at most ten digits
-few : (n count : ℕ) → n < 2 ^ 32 → (count ≡ 1) ⊎ (10 ^ (count - 1) ≤ n) → count ≤ 10
-few n count h = go (decLe count 10)
+bounded : (n count : ℕ) → n < 2 ^ 32 → (count ≡ 1) ⊎ (10 ^ (count - 1) ≤ n) → count ≤ 10
+bounded n count h = go (decLe count 10)
   where
     go : Dec (count ≤ 10) → (count ≡ 1) ⊎ (10 ^ (count - 1) ≤ n) → count ≤ 10
     go (yes k) p = k
@@ -84,7 +84,7 @@ sized n count k h p = let e : suc (count - 1) ≡ count = omega arith in record 
 pub counted : (n count : ℕ) → n < 2 ^ 32 → 1 ≤ count → n < 10 ^ count → (count ≡ 1) ⊎ (10 ^ (count - 1) ≤ n) → count ≡ length (digits n)
 unfolding digits
 counted n count w k h p =
-    let f = few n count w p in
+    let f = bounded n count w p in
     let e : suc (count - 1) ≡ count = omega arith in
     let t : 10 ≡ suc (count - 1) + (10 - count) = omega arith in
     sym (

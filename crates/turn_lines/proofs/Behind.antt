@@ -34,7 +34,7 @@ laid-fits : (lines before : List ℕ) {after : List ℕ} → after ≡ laid line
 unfolding laid
 laid-fits lines before e same = omega (arith, ap length e, length-append lines (drop (length lines) before), length-drop (length lines) before)
 
-module _ (number : ℕ) (desk : Desk) (letter : ℕ) (numbers bytes : List ℕ) (count : ℕ) {before text : List ℕ} {at : ℕ} (few : length numbers ≤ 2) (inside : count ≤ length bytes)
+module _ (number : ℕ) (desk : Desk) (letter : ℕ) (numbers bytes : List ℕ) (count : ℕ) {before text : List ℕ} {at : ℕ} (bounded : length numbers ≤ 2) (inside : count ≤ length bytes)
     (most : length bytes ≤ changeRoom) (room : textBytes ≤ length before) (l : Laid (answerLine number (deskLine desk letter numbers)) before at text) where
   -- the line of the answer
   abbrev said : List ℕ
@@ -42,7 +42,7 @@ module _ (number : ℕ) (desk : Desk) (letter : ℕ) (numbers bytes : List ℕ) 
 
   -- the changes fit behind the line: 25 bytes suffice for each 7 of them
   pub changes-room : 7 * at + 25 * count ≤ 7 * length before
-  changes-room = omega (arith, l .counted, answer-short number desk letter numbers few)
+  changes-room = omega (arith, l .counted, answer-short number desk letter numbers bounded)
 
   module _ {last : List ℕ} {used : ℕ} (m : Laid (changesText (take count bytes)) (midOf at (length text - at) text) used last) (kept : length last ≡ length (midOf at (length text - at) text))
       (same : length text ≡ length before) where

@@ -90,18 +90,18 @@ pub fn put_opening(
     dimensions: u32,
     capacity: u32,
     directions: u32,
-    opened: WatchReply,
+    replied: WatchReply,
     text: &mut [u8],
 ) -> Turn
     requires { ⌜ textBytes ≤ length (now text) ⌝ }
-    ensures { λ r. ⌜ ((t t' : Tables) (ws bytes : List ℕ) → Opened dimensions capacity directions t ws (opened .reply)
-        t' (opened .watches) → Turned (made (Call.Open dimensions capacity directions) (player head t ws bytes))
+    ensures { λ r. ⌜ ((t t' : Tables) (ws bytes : List ℕ) → Opened dimensions capacity directions t ws (replied .reply)
+        t' (replied .watches) → Turned (made (Call.Open dimensions capacity directions) (player head t ws bytes))
         (now (text .entry)) r t' bytes (now (text .exit))) ⌝ }
 {
-    let reply = opened.reply;
+    let reply = replied.reply;
     let answer = reply.answer;
     let fresh = reply.head;
-    let kept = opened.watches;
+    let kept = replied.watches;
     let numbers = [dimensions, capacity, directions];
     Turn {
         answer,

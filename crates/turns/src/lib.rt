@@ -305,7 +305,7 @@ pub fn make_other(
 {
     match wanted {
         Wanted::Open(d, n, directions) => {
-            let opened = opening::open(
+            let replied = opening::open(
                 d as u32,
                 n as u32,
                 directions as u32,
@@ -315,7 +315,7 @@ pub fn make_other(
                 upper_ends,
                 watches,
             );
-            put_opening(head, d as u32, n as u32, directions as u32, opened, text)
+            put_opening(head, d as u32, n as u32, directions as u32, replied, text)
         }
         _ => observe(
             wanted,

@@ -110,8 +110,8 @@ laid-least l before = go (decLe (length l) (length before))
         → take (min (length l) (length before)) l ++ drop (length (take (min (length l) (length before)) l)) before ≡ take (length before) (l ++ drop (length l) before)
     go (yes h) =
         let e : min (length l) (length before) ≡ length l = omega arith in
-        let few : length (l ++ drop (length l) before) ≤ length before = simp (length-append, length-drop) (omega arith) in
-        rw (e, take-length l, take-all (length before) (l ++ drop (length l) before) few)
+        let bounded : length (l ++ drop (length l) before) ≤ length before = simp (length-append, length-drop) (omega arith) in
+        rw (e, take-length l, take-all (length before) (l ++ drop (length l) before) bounded)
     go (no h) =
         let e : min (length l) (length before) ≡ length before = omega arith in
         let fits : length before ≤ length l = omega arith in

@@ -53,8 +53,8 @@ desk-counted desk watches =
     ∙ ap length (filter-same-mem (λ w. ltb 0 w && ofDesk desk w) (ofNumber (deskNumber desk)) (take 8 watches) (λ w m. desk-of-standing desk w))
 
 -- a desk has eight at most
-pub few-of-desk : (desk : Desk) (watches : List ℕ) → countOf desk (standing watches) ≤ 8
-few-of-desk desk watches = omega (arith, desk-counted desk watches, length-prefix (ofNumber (deskNumber desk)) watches 8)
+pub bounded-of-desk : (desk : Desk) (watches : List ℕ) → countOf desk (standing watches) ≤ 8
+bounded-of-desk desk watches = omega (arith, desk-counted desk watches, length-prefix (ofNumber (deskNumber desk)) watches 8)
 
 module _ (watches : List ℕ) (number : ℕ) where
   pub start-count : length watches ≡ 8 → Counting watches number 0 0
@@ -62,8 +62,8 @@ module _ (watches : List ℕ) (number : ℕ) where
   start-count e = record { eight = e; within = omega arith; counted = refl }
 
   module _ (count i : ℕ) (s : Counting watches number count i) (h : i < 8) where
-    pub few-counted : count < 8
-    few-counted = omega (arith, s .counted, length-prefix (ofNumber number) watches i)
+    pub bounded-counted : count < 8
+    bounded-counted = omega (arith, s .counted, length-prefix (ofNumber number) watches i)
 
     pub more-owned : deskIn (getD watches i 0) ≡ number → Counting watches number (count + 1) (i + 1)
     unfolding ofNumber

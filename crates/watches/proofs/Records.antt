@@ -58,12 +58,12 @@ module _ (ws : List ℕ) (enough : 8 ≤ length ws) where
   pub vacant-first : Vacant ws → Vacant (firstEight ws)
   vacant-first v = record { capacity = v .capacity; untorn = torn-first (v .capacity) ws enough ∙ v .untorn; free = rw (standing-first ws) (v .free) }
 
-pub few-inserted : (n : ℕ) (ws : List ℕ) → Vacant ws → length (insert n (standing ws)) ≤ 8
-few-inserted n ws v = rw length-insert (v .free)
+pub bounded-inserted : (n : ℕ) (ws : List ℕ) → Vacant ws → length (insert n (standing ws)) ≤ 8
+bounded-inserted n ws v = rw length-insert (v .free)
 
-pub few-left : (n : ℕ) (ws : List ℕ) → length (without n (standing ws)) ≤ 8
+pub bounded-left : (n : ℕ) (ws : List ℕ) → length (without n (standing ws)) ≤ 8
 unfolding without standing
-few-left n ws =
+bounded-left n ws =
     omega (arith, length-filter (λ y. not (eqb n y)) (filter (ltb 0) (take 8 ws)), length-prefix (ltb 0) ws 8)
 
 pub many : (records : List Watch) → 8 ≤ length records → 8 ≤ length (watched records)

@@ -36,8 +36,8 @@ module _ (watches : List ℕ) (n : ℕ) where
         rw (filter-filter (λ y. not (eqb n y)) (ltb 0) (take 8 watches)) (rw e at (s .written))
 
     module _ (h : i < 8) where
-      pub few : count < 8
-      few = omega (arith, s .counted, length-prefix (stays n) watches i)
+      pub bounded : count < 8
+      bounded = omega (arith, s .counted, length-prefix (stays n) watches i)
 
       -- one more is passed
       passed : (b : Bool) → stays n (getD watches i 0) ≡ b
@@ -50,7 +50,7 @@ module _ (watches : List ℕ) (n : ℕ) where
             eight = s .eight;
             within = omega arith;
             counted = rw (passed true e, length-append) (ap (λ (k : ℕ). k + 1) (s .counted));
-            written = rw (passed true e, s .written, s .counted) (padded-more 8 (filter (stays n) (take i watches)) watches (getD watches i 0) (omega (arith, few, s .counted)));
+            written = rw (passed true e, s .written, s .counted) (padded-more 8 (filter (stays n) (take i watches)) watches (getD watches i 0) (omega (arith, bounded, s .counted)));
           }
 
       pub more-goes : stays n (getD watches i 0) ≡ false → Removing watches n kept count (i + 1)

@@ -14,12 +14,12 @@ use Rattle.model.proofs.Sound.{untorn-records}
 use Rattle.watches.specs.Records.{Vacant}
 
 -- both desks together have fewer than eight where one is not full
-few : (desk : Desk) (ws : List ℕ) → (countOf desk ws < 3) ⊎ (aboveShares ws < 2) → aboveShares ws ≤ 2 → countOf One ws + countOf Two ws < 8
+bounded : (desk : Desk) (ws : List ℕ) → (countOf desk ws < 3) ⊎ (aboveShares ws < 2) → aboveShares ws ≤ 2 → countOf One ws + countOf Two ws < 8
 unfolding aboveShares
-few One ws (inl a) h = omega arith
-few One ws (inr a) h = omega arith
-few Two ws (inl a) h = omega arith
-few Two ws (inr a) h = omega arith
+bounded One ws (inl a) h = omega arith
+bounded One ws (inr a) h = omega arith
+bounded Two ws (inl a) h = omega arith
+bounded Two ws (inr a) h = omega arith
 
 -- what `insert` asks, of records that are not torn and a desk that is not full
 pub vacant : (capacity : ℕ) (desk : Desk) (ws : List ℕ) → tornWatches capacity ws ≡ false → deskFull desk (standing ws) ≡ false → Vacant ws
@@ -28,5 +28,5 @@ vacant capacity desk ws t f =
     record {
       capacity = capacity;
       untorn = t;
-      free = omega (arith, count-both capacity (standing ws) (r .each), few desk (standing ws) (not-full desk (standing ws) f) (r .shares));
+      free = omega (arith, count-both capacity (standing ws) (r .each), bounded desk (standing ws) (not-full desk (standing ws) f) (r .shares));
     }

@@ -21,7 +21,7 @@ changeBytes h lower lowers rows ws = allFrames h lowers rows lower ws ++ pairFra
 
 -- they may be written, by the places of the rows that are retired: the rows stand in their tables, and the changes find room
 pub record Writable (h : Head) (lower : ℕ) (retired lowers : List ℕ) (rows : Rows) (ws : List ℕ) (room : ℕ) : Type 0 where
-  pub few : h .capacity < 65536
+  pub bounded : h .capacity < 65536
   pub untorn : tornWatches (h .capacity) ws ≡ false
   pub full : Full h lowers rows
   pub outdone : Outdone h lowers rows retired

@@ -30,7 +30,7 @@ one-requires : tie.Need-one-requires Inv-loop μ-loop
 one-requires c κs = search needs
 
 add-count : tie.Need-add-count Inv-loop μ-loop
-add-count c = omega (arith, c .one .ensures .1, c .before .before .before .loop .inv .few, c .before .before .loop-test .taken)
+add-count c = omega (arith, c .one .ensures .1, c .before .before .before .loop .inv .bounded, c .before .before .loop-test .taken)
 
 add-i : tie.Need-add-i Inv-loop μ-loop
 add-i c = search needs

@@ -1,11 +1,11 @@
 -- `taken_live` meets its contract, by the tests it makes.
 use borrow.Author.Needs.{needs}
-use Rattle.finding.proofs.Looping.{taken-few, taken-dense, taken-counted}
+use Rattle.finding.proofs.Looping.{taken-bounded, taken-dense, taken-counted}
 use Rattle.finding.proofs.taken_live.Statement.{statement}
 use Rattle.finding.proofs.taken_live.Tie as tie
 
 returns : tie.Need-returns
-returns c = taken-few _ _ _ (c .if1 .taken)
+returns c = taken-bounded _ _ _ (c .if1 .taken)
 
 returns-2 : tie.Need-returns-2
 returns-2 c = taken-dense _ _ _ (c .before .if1 .left) (c .if2 .taken)

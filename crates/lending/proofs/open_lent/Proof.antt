@@ -1,7 +1,7 @@
 -- `open_lent` meets its contract: fewer than eight records are refused, and of more only eight are asked.
 use native.Mathlib.Omega.{arith}
 use borrow.Author.Needs.{needs}
-use Rattle.lending.proofs.Fewer.{open-eight, open-few}
+use Rattle.lending.proofs.ShortLoan.{open-eight, open-short}
 use Rattle.lending.proofs.open_lent.Statement.{statement}
 use Rattle.lending.proofs.open_lent.Tie as tie
 
@@ -11,8 +11,8 @@ fresh-requires c κs = search needs
 fresh-requires-2 : tie.Need-fresh-requires-2
 fresh-requires-2 c κs = search needs
 
-few-requires : tie.Need-few-requires
-few-requires c κs = search needs
+short-loan-requires : tie.Need-short-loan-requires
+short-loan-requires c κs = search needs
 
 judge-requires : tie.Need-judge-requires
 judge-requires c κs = search needs
@@ -20,7 +20,7 @@ judge-requires c κs = search needs
 returns : tie.Need-returns
 returns c =
     let a = c .before .before .before .before .before .before .before .before .before .args in
-    open-few (a .watches) (a .lent) (omega arith) _ _ _ _ _ (c .before .before .before .fresh .ensures) (c .before .before .fresh2 .ensures) (c .before .few .ensures) (c .judge .ensures)
+    open-short (a .watches) (a .lent) (omega arith) _ _ _ _ _ (c .before .before .before .fresh .ensures) (c .before .before .fresh2 .ensures) (c .before .short-loan .ensures) (c .judge .ensures)
 
 open-requires : tie.Need-open-requires
 open-requires c κs = search needs
@@ -50,4 +50,4 @@ returns-2 c =
 pub open-lent-spec : {M : Type 1} → statement M
 open-lent-spec =
     tie.close
-    (tie.spec fresh-requires fresh-requires-2 few-requires judge-requires returns open-requires judge-requires-2 same-length same-length-2 same-length-3 same-length-4 returns-2)
+    (tie.spec fresh-requires fresh-requires-2 short-loan-requires judge-requires returns open-requires judge-requires-2 same-length same-length-2 same-length-3 same-length-4 returns-2)

@@ -1,17 +1,17 @@
 -- `pair_lent` meets its contract: fewer than eight records are refused, and of more only eight are asked.
 use native.Mathlib.Omega.{arith}
-use Rattle.lending.proofs.Fewer.{pair-eight, pair-few}
+use Rattle.lending.proofs.ShortLoan.{pair-eight, pair-short}
 use borrow.Author.Needs.{needs}
 use Rattle.lending.proofs.pair_lent.Statement.{statement}
 use Rattle.lending.proofs.pair_lent.Tie as tie
 
-few-requires : tie.Need-few-requires
-few-requires c κs = search needs
+short-loan-requires : tie.Need-short-loan-requires
+short-loan-requires c κs = search needs
 
 returns : tie.Need-returns
 returns c =
     let a = c .before .before .before .before .before .before .before .args in
-    pair-few (a .watches) (a .lent) (omega arith) _ _ _ _ (c .few .ensures)
+    pair-short (a .watches) (a .lent) (omega arith) _ _ _ _ (c .short-loan .ensures)
 
 pair-requires : tie.Need-pair-requires
 pair-requires c κs = search needs
@@ -27,4 +27,4 @@ returns-2 c =
     pair-eight (a .watches) (a .lent) _ _ _ _ (omega (arith, g)) (c .before .before .pair .ensures)
 
 pub pair-lent-spec : {M : Type 1} → statement M
-pair-lent-spec = tie.close (tie.spec few-requires returns pair-requires same-length returns-2)
+pair-lent-spec = tie.close (tie.spec short-loan-requires returns pair-requires same-length returns-2)

@@ -1,12 +1,12 @@
 -- `preview_lent` meets its contract: fewer than eight records are refused, and of more only eight are asked.
 use native.Mathlib.Omega.{arith}
-use Rattle.lending.proofs.Fewer.{preview-eight, preview-few}
+use Rattle.lending.proofs.ShortLoan.{preview-eight, preview-short}
 use borrow.Author.Needs.{needs}
 use Rattle.lending.proofs.preview_lent.Statement.{statement}
 use Rattle.lending.proofs.preview_lent.Tie as tie
 
-few-requires : tie.Need-few-requires
-few-requires c κs = search needs
+short-loan-requires : tie.Need-short-loan-requires
+short-loan-requires c κs = search needs
 
 effect-of-requires : tie.Need-effect-of-requires
 effect-of-requires c κs = search needs
@@ -14,7 +14,7 @@ effect-of-requires c κs = search needs
 returns : tie.Need-returns
 returns c =
     let a = c .before .before .before .before .before .before .before .before .before .args in
-    preview-few (a .watches) (a .lent) (omega arith) _ _ _ _ (c .before .few .ensures) (c .effect-of .ensures)
+    preview-short (a .watches) (a .lent) (omega arith) _ _ _ _ (c .before .short-loan .ensures) (c .effect-of .ensures)
 
 preview-requires : tie.Need-preview-requires
 preview-requires c κs = search needs
@@ -30,4 +30,4 @@ returns-2 c =
     preview-eight (a .watches) (a .lent) _ _ _ (omega (arith, g)) (c .before .before .preview .ensures)
 
 pub preview-lent-spec : {M : Type 1} → statement M
-preview-lent-spec = tie.close (tie.spec few-requires effect-of-requires returns preview-requires same-length returns-2)
+preview-lent-spec = tie.close (tie.spec short-loan-requires effect-of-requires returns preview-requires same-length returns-2)

@@ -1,17 +1,17 @@
 -- `quote_lent` meets its contract: fewer than eight records are refused, and of more only eight are asked.
 use native.Mathlib.Omega.{arith}
 use borrow.Author.Needs.{needs}
-use Rattle.lending.proofs.Fewer.{quote-eight, quote-few}
+use Rattle.lending.proofs.ShortLoan.{quote-eight, quote-short}
 use Rattle.lending.proofs.quote_lent.Statement.{statement}
 use Rattle.lending.proofs.quote_lent.Tie as tie
 
-few-requires : tie.Need-few-requires
-few-requires c κs = search needs
+short-loan-requires : tie.Need-short-loan-requires
+short-loan-requires c κs = search needs
 
 returns : tie.Need-returns
 returns c =
     let a = c .before .before .before .before .before .before .before .before .args in
-    quote-few (a .watches) (a .lent) (omega arith) _ _ _ (c .few .ensures)
+    quote-short (a .watches) (a .lent) (omega arith) _ _ _ (c .short-loan .ensures)
 
 quote-requires : tie.Need-quote-requires
 quote-requires c κs = search needs
@@ -41,4 +41,4 @@ returns-2 c =
 pub quote-lent-spec : {M : Type 1} → statement M
 quote-lent-spec =
     tie.close
-    (tie.spec few-requires returns quote-requires same-length same-length-2 same-length-3 same-length-4 same-length-5 returns-2)
+    (tie.spec short-loan-requires returns quote-requires same-length same-length-2 same-length-3 same-length-4 same-length-5 returns-2)

@@ -1,17 +1,17 @@
 -- `unpair_lent` meets its contract: fewer than eight records are refused, and of more only eight are asked.
 use native.Mathlib.Omega.{arith}
-use Rattle.lending.proofs.Fewer.{unpair-eight, unpair-few}
+use Rattle.lending.proofs.ShortLoan.{unpair-eight, unpair-short}
 use borrow.Author.Needs.{needs}
 use Rattle.lending.proofs.unpair_lent.Statement.{statement}
 use Rattle.lending.proofs.unpair_lent.Tie as tie
 
-few-requires : tie.Need-few-requires
-few-requires c κs = search needs
+short-loan-requires : tie.Need-short-loan-requires
+short-loan-requires c κs = search needs
 
 returns : tie.Need-returns
 returns c =
     let a = c .before .before .before .before .before .before .args in
-    unpair-few (a .watches) (a .lent) (omega arith) _ _ (c .few .ensures)
+    unpair-short (a .watches) (a .lent) (omega arith) _ _ (c .short-loan .ensures)
 
 unpair-requires : tie.Need-unpair-requires
 unpair-requires c κs = search needs
@@ -24,4 +24,4 @@ returns-2 c =
     unpair-eight (a .watches) (a .lent) _ _ (omega (arith, g)) (c .unpair .ensures)
 
 pub unpair-lent-spec : {M : Type 1} → statement M
-unpair-lent-spec = tie.close (tie.spec few-requires returns unpair-requires returns-2)
+unpair-lent-spec = tie.close (tie.spec short-loan-requires returns unpair-requires returns-2)

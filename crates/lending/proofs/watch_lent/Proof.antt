@@ -1,12 +1,12 @@
 -- `watch_lent` meets its contract: fewer than eight records are refused, and of more only eight are asked.
 use native.Mathlib.Omega.{arith}
 use borrow.Author.Needs.{needs}
-use Rattle.lending.proofs.Fewer.{watch-eight, watch-few}
+use Rattle.lending.proofs.ShortLoan.{watch-eight, watch-short}
 use Rattle.lending.proofs.watch_lent.Statement.{statement}
 use Rattle.lending.proofs.watch_lent.Tie as tie
 
-few-requires : tie.Need-few-requires
-few-requires c κs = search needs
+short-loan-requires : tie.Need-short-loan-requires
+short-loan-requires c κs = search needs
 
 judge-requires : tie.Need-judge-requires
 judge-requires c κs = search needs
@@ -14,7 +14,7 @@ judge-requires c κs = search needs
 returns : tie.Need-returns
 returns c =
     let a = c .before .before .before .before .before .before .before .before .args in
-    watch-few (a .watches) (a .lent) (omega arith) _ _ _ _ _ (c .before .few .ensures) (c .judge .ensures)
+    watch-short (a .watches) (a .lent) (omega arith) _ _ _ _ _ (c .before .short-loan .ensures) (c .judge .ensures)
 
 watch-requires : tie.Need-watch-requires
 watch-requires c κs = search needs
@@ -35,4 +35,4 @@ returns-2 c =
 pub watch-lent-spec : {M : Type 1} → statement M
 watch-lent-spec =
     tie.close
-    (tie.spec few-requires judge-requires returns watch-requires judge-requires-2 same-length returns-2)
+    (tie.spec short-loan-requires judge-requires returns watch-requires judge-requires-2 same-length returns-2)

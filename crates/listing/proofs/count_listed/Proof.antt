@@ -51,7 +51,7 @@ cast-n : tie.Need-cast-n Inv-loop μ-loop
 cast-n c = search needs
 
 add-n : tie.Need-add-n Inv-loop μ-loop
-add-n c = omega (arith, byte-small (c .is-listed .result), c .before .before .before .before .loop .inv .counted .few, c .before .before .before .before .before .before .before .pre .starts)
+add-n c = omega (arith, byte-small (c .is-listed .result), c .before .before .before .before .loop .inv .counted .bounded, c .before .before .before .before .before .before .before .pre .starts)
 
 add-i : tie.Need-add-i Inv-loop μ-loop
 add-i c = search needs

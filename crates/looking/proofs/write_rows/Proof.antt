@@ -1,7 +1,7 @@
 -- `write_rows` meets its contract: nothing is written where the rows' cells do not fit.
 use native.Mathlib.Omega.{arith}
 use Rattle.skyline.specs.Skyline.{windowStart}
-use Rattle.listing.proofs.DueRows.{due-few}
+use Rattle.listing.proofs.DueRows.{due-bounded}
 use Rattle.looking.proofs.DueLooks.{rows-none, rows-all}
 use borrow.Author.Needs.{needs}
 use Rattle.looking.proofs.write_rows.Statement.{statement}
@@ -25,8 +25,8 @@ count-due-requires c κs = search needs
 mul-cells : tie.Need-mul-cells
 mul-cells c =
     let known = c .before .before .before .before .before .before .before .args in
-    let few = due-few (c .before .before .before .before .start-of .result) (c .before .before .start-of2 .result) (known .head .newest) (c .before .start-of3 .result) (known .lower-ends .now) in
-    omega (arith, few, c .count-due .ensures)
+    let bounded = due-bounded (c .before .before .before .before .start-of .result) (c .before .before .start-of2 .result) (known .head .newest) (c .before .start-of3 .result) (known .lower-ends .now) in
+    omega (arith, bounded, c .count-due .ensures)
 
 returns : tie.Need-returns
 returns c = rows-none _ _ _ (c .before .before .before .before .before .start-of .ensures) (c .before .before .before .start-of2 .ensures) (c .before .before .start-of3 .ensures) (c .before .count-due .ensures) (c .if1 .taken)

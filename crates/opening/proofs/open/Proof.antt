@@ -43,7 +43,7 @@ mul-clear : tie.Need-mul-clear
 mul-clear c =
     let judged = c .before .before .before in
     let within = open-passed _ _ _ _ (judged .before .before .before .before .before .fresh .ensures) (judged .judge-loan .ensures) (c .before .enum-told .given .1) .0 in
-    omega (arith, mul-le-mul (within .small-capacity) (within .few-columns))
+    omega (arith, mul-le-mul (within .small-capacity) (within .bounded-columns))
 
 clear-requires : tie.Need-clear-requires
 clear-requires c κs =

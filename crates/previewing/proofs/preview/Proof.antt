@@ -2,7 +2,7 @@
 use native.Mathlib.Omega.{arith}
 use Rattle.head.proofs.Numbers.{accepted-number}
 use Rattle.settling.proofs.Findings.{findable}
-use Rattle.quoting.proofs.Quotes.{Entering, taken, few-held, reply-is, out-is, quote-refused}
+use Rattle.quoting.proofs.Quotes.{Entering, taken, bounded-held, reply-is, out-is, quote-refused}
 use Rattle.quoting.proofs.Reaching.{any-sound-if}
 use Rattle.previewing.proofs.Previews.{tells-quote, writable-in}
 use borrow.Author.Needs.{needs}
@@ -30,7 +30,7 @@ slice-aggregate-find c = search needs
 find-requires : tie.Need-find-requires
 find-requires c κs =
     let a = taken _ _ _ _ _ (accepted-number _ (c .before .before .before .judge-row .ensures) (c .before .enum-told .given .1)) .admitted in
-    findable a (omega (arith, few-held a))
+    findable a (omega (arith, bounded-held a))
 
 mul-write : tie.Need-mul-write
 mul-write c = search needs

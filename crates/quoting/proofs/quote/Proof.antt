@@ -2,7 +2,7 @@
 use native.Mathlib.Omega.{arith}
 use Rattle.head.proofs.Numbers.{accepted-number}
 use Rattle.settling.proofs.Findings.{findable}
-use Rattle.quoting.proofs.Quotes.{taken, few-held, quote-refused}
+use Rattle.quoting.proofs.Quotes.{taken, bounded-held, quote-refused}
 use Rattle.quoting.proofs.Reaching.{any-sound-if}
 use borrow.Author.Needs.{needs}
 use Rattle.quoting.proofs.quote.Statement.{statement}
@@ -38,7 +38,7 @@ slice-aggregate-find c = search needs
 find-requires : tie.Need-find-requires
 find-requires c κs =
     let a = taken _ _ _ _ _ (accepted-number _ (c .before .before .before .before .before .judge-row .ensures) (c .before .before .before .enum-told .given .1)) .admitted in
-    findable a (omega (arith, few-held a))
+    findable a (omega (arith, bounded-held a))
 
 slice-aggregate-enter : tie.Need-slice-aggregate-enter
 slice-aggregate-enter c = search needs

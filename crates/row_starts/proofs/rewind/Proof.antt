@@ -6,7 +6,7 @@ use Rattle.row_starts.proofs.rewind.Statement.{statement}
 use Rattle.row_starts.proofs.rewind.Tie as tie
 
 returns : tie.Need-returns
-returns c = let p = c .before .before .before .before .before .pre in (record { few = omega (arith, c .if1 .taken); near = p .1 .0 .near }, λ ws r. r)
+returns c = let p = c .before .before .before .before .before .pre in (record { bounded = omega (arith, c .if1 .taken); near = p .1 .0 .near }, λ ws r. r)
 
 cast-n : tie.Need-cast-n
 cast-n c = search needs
@@ -56,7 +56,7 @@ same-length-4 c = search needs
 returns-2 : tie.Need-returns-2
 returns-2 c =
     let p = c .before .before .before .before .before .before .before .before .before .before .before .before .before .before .before .before .before .before .before .before .before .before .before .pre in (
-      record { few = omega arith; near = omega arith },
+      record { bounded = omega arith; near = omega arith },
       rewound (p .0) (p .1 .0) (p .1 .1) (c .before .before .before .before .before .before .before .before .before .before .before .before .before .before .before .before .before .before .if1 .left) (c .before .before .before .before .before .before .before .before .before .before .before .before .before .before .shift .ensures) (c .before .before .before .before .before .before .before .before .before .before .shift2 .ensures) (c .before .before .before .before .before .before .shift3 .ensures) (c .before .before .shift4 .ensures),
     )
 

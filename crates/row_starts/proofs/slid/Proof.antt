@@ -1,6 +1,6 @@
 -- `slid` meets its contract.
 use native.Mathlib.Omega.{arith}
-use Rattle.row_starts.proofs.Rewinding.{few-cells}
+use Rattle.row_starts.proofs.Rewinding.{bounded-cells}
 use borrow.Author.Needs.{needs}
 use Rattle.row_starts.proofs.slid.Statement.{statement}
 use Rattle.row_starts.proofs.slid.Tie as tie
@@ -12,10 +12,10 @@ add-t5 : tie.Need-add-t5
 add-t5 c = search needs
 
 mul-t6 : tie.Need-mul-t6
-mul-t6 c = omega (arith, few-cells (c .before .before .args .head .dimensions) (c .before .before .pre .1), c .before .before .good, c .before .before .fits)
+mul-t6 c = omega (arith, bounded-cells (c .before .before .args .head .dimensions) (c .before .before .pre .1), c .before .before .good, c .before .before .fits)
 
 add-t7 : tie.Need-add-t7
-add-t7 c = omega (arith, few-cells (c .before .before .before .args .head .dimensions) (c .before .before .before .pre .1), c .before .before .before .pre .0 .few, c .before .before .before .pre .0 .near, c .before .before .before .good, c .before .before .before .fits)
+add-t7 c = omega (arith, bounded-cells (c .before .before .before .args .head .dimensions) (c .before .before .before .pre .1), c .before .before .before .pre .0 .bounded, c .before .before .before .pre .0 .near, c .before .before .before .good, c .before .before .before .fits)
 
 returns : tie.Need-returns
 returns c = search needs

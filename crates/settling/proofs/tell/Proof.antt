@@ -23,7 +23,7 @@ cast-lost : tie.Need-cast-lost
 cast-lost c = search needs
 
 add-lost : tie.Need-add-lost
-add-lost c = let v = c .before .before .before .before .before .pre in omega (arith, lost-within v (c .before .before .before .expired-places .ensures) (c .expired-live .ensures), v .live-few, v .held-few)
+add-lost c = let v = c .before .before .before .before .before .pre in omega (arith, lost-within v (c .before .before .before .expired-places .ensures) (c .expired-live .ensures), v .live-bounded, v .held-bounded)
 
 sub-t11 : tie.Need-sub-t11
 sub-t11 c = lost-within (c .before .before .before .before .before .before .pre) (c .before .before .before .before .expired-places .ensures) (c .before .expired-live .ensures)

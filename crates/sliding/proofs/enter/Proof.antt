@@ -7,7 +7,7 @@ use Rattle.settling.proofs.Standing.{within}
 use Rattle.settling.proofs.Settled.{placed}
 use Rattle.quoting.proofs.Quotes.{Entering, book, writable, retired-low}
 use Rattle.quoting.proofs.Reaching.{reached-sound-if}
-use Rattle.sliding.proofs.Sliding.{columns-room, cell-room, one-room, named-few, slide-done}
+use Rattle.sliding.proofs.Sliding.{columns-room, cell-room, one-room, named-bounded, slide-done}
 use borrow.Author.Needs.{needs}
 use Rattle.sliding.proofs.enter.Statement.{statement}
 use Rattle.sliding.proofs.enter.Tie as tie
@@ -51,7 +51,7 @@ lay-behind-requires-2 : tie.Need-lay-behind-requires-2
 lay-behind-requires-2 c κs = let s = c .before .before .before .before .before .before .before .before .before .before .before .before .before .before .before .before .before .before .before .before .before .before .before .before .before in one-room (entering s) (s .pre .0) (s .pre .1 .0) (s .pre .1 .0 .positions)
 
 lay-lower-end-requires : tie.Need-lay-lower-end-requires
-lay-lower-end-requires c κs = let s = c .before .before .before .before .before .before .before .before .before .before .before .before .before .before .before .before .before .before .before .before .before .before .before .before .before .before .before .before .before in (cell-room (entering s) (s .pre .0) (s .pre .1 .0) (s .pre .1 .0 .lowerEnds), rw (c .before .before .before .before .before .before .before .before .before .before .before .before .named-before .ensures) (named-few (entering s) (s .pre .0) (s .pre .1 .0)))
+lay-lower-end-requires c κs = let s = c .before .before .before .before .before .before .before .before .before .before .before .before .before .before .before .before .before .before .before .before .before .before .before .before .before .before .before .before .before in (cell-room (entering s) (s .pre .0) (s .pre .1 .0) (s .pre .1 .0 .lowerEnds), rw (c .before .before .before .before .before .before .before .before .before .before .before .before .named-before .ensures) (named-bounded (entering s) (s .pre .0) (s .pre .1 .0)))
 
 mul-lay-upper-end : tie.Need-mul-lay-upper-end
 mul-lay-upper-end c = let s = c .before .before .before .before .before .before .before .before .before .before .before .before .before .before .before .before .before .before .before .before .before .before .before .before .before .before .before .before .before .before .before .before in omega (arith, s .good, s .pre .1 .1 .1 .most)

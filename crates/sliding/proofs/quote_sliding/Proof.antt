@@ -4,7 +4,7 @@ use Rattle.head.proofs.Numbers.{accepted-number}
 use Rattle.settling.proofs.Standing.{within}
 use Rattle.settling.proofs.Findings.{findable}
 use Rattle.settling.proofs.Reaching.{reached-sound}
-use Rattle.quoting.proofs.Quotes.{taken, few-held}
+use Rattle.quoting.proofs.Quotes.{taken, bounded-held}
 use Rattle.quoting.proofs.Reaching.{reached-answers}
 use Rattle.sliding.proofs.Sliding.{slide-refused}
 use borrow.Author.Needs.{needs}
@@ -30,7 +30,7 @@ find-reached-requires : tie.Need-find-reached-requires
 find-reached-requires c κs =
     let reached = c .before .before .before .before .before .before .before .before .before .before .before .before .pre .0 in
     let a = taken _ _ _ _ _ (accepted-number _ (reached-answers _ _ reached (c .before .before .before .before .before .judge-reached .ensures)) (c .before .before .before .enum-told .given .1)) .admitted in
-    (findable a (omega (arith, few-held a)), reached-sound _ reached (within a .some-capacity))
+    (findable a (omega (arith, bounded-held a)), reached-sound _ reached (within a .some-capacity))
 
 slice-aggregate-enter : tie.Need-slice-aggregate-enter
 slice-aggregate-enter c = search needs

@@ -5,7 +5,7 @@ use native.Mathlib.Omega.{arith}
 use lib.ListN.{length-take, length-drop}
 use Rattle.tape_playback.proofs.Advancing.{stepped-on, stepped-fits}
 use Rattle.tape_playback.proofs.Starting.{parts-roomy, parts-reached, start-within, start-opened, start-reached}
-use Rattle.tape_sliding.proofs.Slides.{left-few}
+use Rattle.tape_sliding.proofs.Slides.{left-bounded}
 use borrow.Author.Needs.{needs}
 use Rattle.tape_playback.proofs.play_frame.Statement.{statement}
 use Rattle.tape_playback.proofs.play_frame.Tie as tie
@@ -71,7 +71,7 @@ play-sliding-requires : tie.Need-play-sliding-requires
 play-sliding-requires c κs = let p = c .before .before .before .before .before .before .before .before .before .before .before .before .before .before .before .pre in (simp (length-take, length-drop) (omega (arith, p .0 .0)), (parts-reached _ _ (p .1 .1 .1), parts-roomy _ _ (p .1 .0) (p .1 .1 .0)))
 
 slid-requires : tie.Need-slid-requires
-slid-requires c κs = (c .before .before .before .before .before .before .before .before .before .before .before .before .before .before .before .before .before .before .before .before .before .before .before .before .before .before .before .before .before .pre .1 .1 .0, left-few (c .before .before .before .before .before .before .before .before .before .before .before .before .before .play-sliding .ensures))
+slid-requires c κs = (c .before .before .before .before .before .before .before .before .before .before .before .before .before .before .before .before .before .before .before .before .before .before .before .before .before .before .before .before .before .pre .1 .1 .0, left-bounded (c .before .before .before .before .before .before .before .before .before .before .before .before .before .play-sliding .ensures))
 
 add-now : tie.Need-add-now
 add-now c =

@@ -31,7 +31,7 @@ loop-holds c =
       fits = omega arith;
       inside = omega arith;
       come = omega arith;
-      starts = record { few = omega arith; near = omega arith };
+      starts = record { bounded = omega arith; near = omega arith };
       reached = first-reached _ _ (c .fresh .ensures);
     }
 

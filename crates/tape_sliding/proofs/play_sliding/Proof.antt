@@ -17,10 +17,10 @@ cast-quote : tie.Need-cast-quote
 cast-quote c = search needs
 
 array-share-prefix-quote : tie.Need-array-share-prefix-quote
-array-share-prefix-quote c = let wish = c .before .before .before .before .wish-at .ensures in omega (arith, wish .six, wish .few _ (c .before .wanted .given .1))
+array-share-prefix-quote c = let wish = c .before .before .before .before .wish-at .ensures in omega (arith, wish .six, wish .bounded _ (c .before .wanted .given .1))
 
 slice-aggregate-quote-sliding : tie.Need-slice-aggregate-quote-sliding
-slice-aggregate-quote-sliding c = let wish = c .before .before .before .before .before .wish-at .ensures in simp length-take (omega (arith, wish .six, wish .few _ (c .before .before .wanted .given .1)))
+slice-aggregate-quote-sliding c = let wish = c .before .before .before .before .before .wish-at .ensures in simp length-take (omega (arith, wish .six, wish .bounded _ (c .before .before .wanted .given .1)))
 
 quote-sliding-requires : tie.Need-quote-sliding-requires
 quote-sliding-requires c κs = search needs

@@ -26,20 +26,20 @@ sub-rest c = search needs
 to-front-requires : tie.Need-to-front-requires
 to-front-requires c κs = search needs
 
-sub-take-in : tie.Need-sub-take-in
-sub-take-in c = search needs
+sub-read-in : tie.Need-sub-read-in
+sub-read-in c = search needs
 
-part-take-in-start : tie.Need-part-take-in-start
-part-take-in-start c = search needs
+part-read-in-start : tie.Need-part-read-in-start
+part-read-in-start c = search needs
 
-part-take-in-end : tie.Need-part-take-in-end
-part-take-in-end c = search needs
+part-read-in-end : tie.Need-part-read-in-end
+part-read-in-end c = search needs
 
-slice-aggregate-take-in : tie.Need-slice-aggregate-take-in
-slice-aggregate-take-in c = search needs
+slice-aggregate-read-in : tie.Need-slice-aggregate-read-in
+slice-aggregate-read-in c = search needs
 
-take-in-requires : tie.Need-take-in-requires
-take-in-requires c κs = search needs
+read-in-requires : tie.Need-read-in-requires
+read-in-requires c κs = search needs
 
 add-now : tie.Need-add-now
 add-now c = search needs
@@ -61,11 +61,11 @@ refill-spec =
     returns
     sub-rest
     to-front-requires
-    sub-take-in
-    part-take-in-start
-    part-take-in-end
-    slice-aggregate-take-in
-    take-in-requires
+    sub-read-in
+    part-read-in-start
+    part-read-in-end
+    slice-aggregate-read-in
+    read-in-requires
     add-now
     same-length-2
     returns-2)

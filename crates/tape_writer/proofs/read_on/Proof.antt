@@ -14,35 +14,35 @@ same-length c = search needs
 returns : tie.Need-returns
 returns c = search needs
 
-sub-take-in : tie.Need-sub-take-in
-sub-take-in c = search needs
+sub-read-in : tie.Need-sub-read-in
+sub-read-in c = search needs
 
-part-take-in-start : tie.Need-part-take-in-start
-part-take-in-start c = search needs
+part-read-in-start : tie.Need-part-read-in-start
+part-read-in-start c = search needs
 
-part-take-in-end : tie.Need-part-take-in-end
-part-take-in-end c = search needs
+part-read-in-end : tie.Need-part-read-in-end
+part-read-in-end c = search needs
 
-slice-aggregate-take-in : tie.Need-slice-aggregate-take-in
-slice-aggregate-take-in c = search needs
+slice-aggregate-read-in : tie.Need-slice-aggregate-read-in
+slice-aggregate-read-in c = search needs
 
-take-in-requires : tie.Need-take-in-requires
-take-in-requires c κs = search needs
+read-in-requires : tie.Need-read-in-requires
+read-in-requires c κs = search needs
 
 add-end : tie.Need-add-end
 add-end c = search needs
 
-slice-reshare-prefix-take-lines : tie.Need-slice-reshare-prefix-take-lines
-slice-reshare-prefix-take-lines c = search needs
+slice-reshare-prefix-frame-lines : tie.Need-slice-reshare-prefix-frame-lines
+slice-reshare-prefix-frame-lines c = search needs
 
-slice-aggregate-take-lines : tie.Need-slice-aggregate-take-lines
-slice-aggregate-take-lines c = simp length-take (omega arith)
+slice-aggregate-frame-lines : tie.Need-slice-aggregate-frame-lines
+slice-aggregate-frame-lines c = simp length-take (omega arith)
 
-take-lines-requires : tie.Need-take-lines-requires
-take-lines-requires c κs = search needs
+frame-lines-requires : tie.Need-frame-lines-requires
+frame-lines-requires c κs = search needs
 
 sub-place : tie.Need-sub-place
-sub-place c = omega (arith, rw length-take at (c .before .before .before .«take-lines» .ensures .1))
+sub-place c = omega (arith, rw length-take at (c .before .before .before .«frame-lines» .ensures .1))
 
 kept-end-requires : tie.Need-kept-end-requires
 kept-end-requires c κs = search needs
@@ -62,14 +62,14 @@ same-length-3 c = search needs
 returns-2 : tie.Need-returns-2
 returns-2 c = search needs
 
-slice-reshare-prefix-take-line : tie.Need-slice-reshare-prefix-take-line
-slice-reshare-prefix-take-line c = search needs
+slice-reshare-prefix-frame-line : tie.Need-slice-reshare-prefix-frame-line
+slice-reshare-prefix-frame-line c = search needs
 
-slice-aggregate-take-line : tie.Need-slice-aggregate-take-line
-slice-aggregate-take-line c = simp length-take (omega arith)
+slice-aggregate-frame-line : tie.Need-slice-aggregate-frame-line
+slice-aggregate-frame-line c = simp length-take (omega arith)
 
-take-line-requires : tie.Need-take-line-requires
-take-line-requires c κs = search needs
+frame-line-requires : tie.Need-frame-line-requires
+frame-line-requires c κs = search needs
 
 same-length-4 : tie.Need-same-length-4
 same-length-4 c = search needs
@@ -96,15 +96,15 @@ read-on-spec =
     flush-requires
     same-length
     returns
-    sub-take-in
-    part-take-in-start
-    part-take-in-end
-    slice-aggregate-take-in
-    take-in-requires
+    sub-read-in
+    part-read-in-start
+    part-read-in-end
+    slice-aggregate-read-in
+    read-in-requires
     add-end
-    slice-reshare-prefix-take-lines
-    slice-aggregate-take-lines
-    take-lines-requires
+    slice-reshare-prefix-frame-lines
+    slice-aggregate-frame-lines
+    frame-lines-requires
     sub-place
     kept-end-requires
     to-front-requires
@@ -112,9 +112,9 @@ read-on-spec =
     same-length-2
     same-length-3
     returns-2
-    slice-reshare-prefix-take-line
-    slice-aggregate-take-line
-    take-line-requires
+    slice-reshare-prefix-frame-line
+    slice-aggregate-frame-line
+    frame-line-requires
     same-length-4
     same-length-5
     returns-3

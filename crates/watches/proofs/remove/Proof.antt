@@ -2,7 +2,7 @@
 use Prim.Native.Nat.{_-_}
 use native.Mathlib.Omega.{arith}
 use borrow.Author.Needs.{needs}
-use Rattle.watches.proofs.Removing.{stays, Removing, start, few, more-stays, more-goes, finish}
+use Rattle.watches.proofs.Removing.{stays, Removing, start, bounded, more-stays, more-goes, finish}
 use Rattle.watches.proofs.remove.Statement.{statement}
 use Rattle.watches.proofs.remove.Tie as tie
 
@@ -28,13 +28,13 @@ add-i : tie.Need-add-i Inv-loop μ-loop
 add-i c = omega arith
 
 mul-kept : tie.Need-mul-kept Inv-loop μ-loop
-mul-kept c = omega (arith, few _ _ _ _ _ (c .before .before .loop .inv) (c .before .loop-test .taken))
+mul-kept c = omega (arith, bounded _ _ _ _ _ (c .before .before .loop .inv) (c .before .loop-test .taken))
 
 array-write-kept : tie.Need-array-write-kept Inv-loop μ-loop
-array-write-kept c = few _ _ _ _ _ (c .before .before .loop .inv) (c .before .loop-test .taken)
+array-write-kept c = bounded _ _ _ _ _ (c .before .before .loop .inv) (c .before .loop-test .taken)
 
 add-count : tie.Need-add-count Inv-loop μ-loop
-add-count c = omega (arith, few _ _ _ _ _ (c .before .before .loop .inv) (c .before .loop-test .taken))
+add-count c = omega (arith, bounded _ _ _ _ _ (c .before .before .loop .inv) (c .before .loop-test .taken))
 
 loop-less : tie.Need-loop-less Inv-loop μ-loop
 loop-less c = omega arith

@@ -41,7 +41,7 @@ use Rattle.head.proofs.Desk.Laws as D′
 use Rattle.head.proofs.Watch as T
 use Rattle.model.specs.Book.{standing}
 use Rattle.watches.specs.Records.{watched, firstEight, stored}
-use Rattle.watches.proofs.Records.{many, changed, few-left}
+use Rattle.watches.proofs.Records.{many, changed, bounded-left}
 use Rattle.watches.proofs.DeskValues.{desk-value, desk-values}
 use Rattle.watches.proofs.Lending.{at-name}
 use Rattle.watches.proofs.Calling.{Numbers, Store, handed}
@@ -103,7 +103,7 @@ module _ {M : Type 1} (𝓤 : URA M) (H : Heap 𝓤) (A : Atoms 𝓤) (W : Given
   exits zs e len =
       qed W (Left κ q γ desk n zs) ∵
       suffices ! _ (ends-at 𝓤 H A f.ended stayed (f.clauses 𝓤 H A mem run) W (((κ, tt), (q, tt), tt, x, at), tt) vunit tt (zs, (tt, (tt, tt))) (len, (tt, (tt, tt)))) $
-      says ! (e ∙ changed (watched ys) (many ys enough) (without watch) (few-left watch (watched ys))) $ nothing ! $ move ! (1 ∷ 0 ∷ []) $ join ! $ frame ! $ fjoin ! $ frame ! $ feqI ! (List Val) (vunit ∷ []) (vunit ∷ []) refl $ done !
+      says ! (e ∙ changed (watched ys) (many ys enough) (without watch) (bounded-left watch (watched ys))) $ nothing ! $ move ! (1 ∷ 0 ∷ []) $ join ! $ frame ! $ fjoin ! $ frame ! $ feqI ! (List Val) (vunit ∷ []) (vunit ∷ []) refl $ done !
 
   module _ (𝓣 : Tables 𝓤 H) (known-numbers : Triple 𝓤 (𝓣 .C #watches·numbers) (Numbers 𝓤 H A mem run)) (known-change : Triple 𝓤 (𝓣 .C #watches·remove) (Change 𝓤 H A mem run)) (known-store : Triple 𝓤 (𝓣 .C #watches·store) (Store 𝓤 H A mem run)) where
     walk : ent 𝓤 (onEntry 𝓤 H A f.signature (κ, tt) (q, tt) x at) (WpFn 𝓤 H (𝓣 .C) (𝓣 .Λ) code.function (sliceVal (b, o) (length ys) ∷ desk-value desk ∷ vint w32 n ∷ []) Post)

@@ -46,7 +46,7 @@ paired-room c = front-room (front c) (P (begin c)) (room (begin c))
 write-all-changes-requires : tie.Need-write-all-changes-requires
 write-all-changes-requires c κs =
     let p = c .before .before .before .before .before .before .before .pre in
-    (p .0 .few, (p .0 .untorn, (p .0 .full, (p .0 .outdone, (p .1 .named, watched-room (c .before .before .before .before .before .before .before))))))
+    (p .0 .bounded, (p .0 .untorn, (p .0 .full, (p .0 .outdone, (p .1 .named, watched-room (c .before .before .before .before .before .before .before))))))
 
 sub-write-pair-changes : tie.Need-sub-write-pair-changes
 sub-write-pair-changes c = omega (arith, paired-room (c .before .before))

@@ -45,7 +45,7 @@ add-n : tie.Need-add-n Inv-loop μ-loop
 add-n c =
     let known = c .before .before .before .args in
     let small = byte-small (ltb (getD (known .lower-ends .now) (c .before .before .loop .i) 0) (known .c)) in
-    omega (arith, small, c .before .before .loop .inv .counted .few, c .before .before .before .pre .starts)
+    omega (arith, small, c .before .before .loop .inv .counted .bounded, c .before .before .before .pre .starts)
 
 add-i : tie.Need-add-i Inv-loop μ-loop
 add-i c = search needs

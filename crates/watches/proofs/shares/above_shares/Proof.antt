@@ -3,7 +3,7 @@ use native.Mathlib.Omega.{arith}
 use borrow.Author.Needs.{needs}
 use Rattle.head.specs.declared.Desk.the-variants.{One, Two}
 use Rattle.model.specs.Shares.{aboveShares}
-use Rattle.watches.proofs.Counting.{few-of-desk}
+use Rattle.watches.proofs.Counting.{bounded-of-desk}
 use Rattle.watches.proofs.shares.above_shares.Statement.{statement}
 use Rattle.watches.proofs.shares.above_shares.Tie as tie
 
@@ -20,7 +20,7 @@ above-three-requires-2 : tie.Need-above-three-requires-2
 above-three-requires-2 c κs = search needs
 
 add-result : tie.Need-add-result
-add-result c = omega (arith, few-of-desk One (c .before .before .before .before .args .watches), few-of-desk Two (c .before .before .before .before .args .watches))
+add-result c = omega (arith, bounded-of-desk One (c .before .before .before .before .args .watches), bounded-of-desk Two (c .before .before .before .before .args .watches))
 
 returns : tie.Need-returns
 unfolding aboveShares

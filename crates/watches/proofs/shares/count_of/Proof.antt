@@ -3,7 +3,7 @@ use Prim.Native.Nat.{_-_}
 use mathlib.Core.Path.{sym, _∙_}
 use native.Mathlib.Omega.{arith}
 use borrow.Author.Needs.{needs}
-use Rattle.watches.proofs.Counting.{Counting, start-count, few-counted, more-owned, more-other, finish-count}
+use Rattle.watches.proofs.Counting.{Counting, start-count, bounded-counted, more-owned, more-other, finish-count}
 use Rattle.watches.proofs.shares.count_of.Statement.{statement}
 use Rattle.watches.proofs.shares.count_of.Tie as tie
 
@@ -32,7 +32,7 @@ add-seen : tie.Need-add-seen Inv-loop μ-loop
 add-seen c = omega arith
 
 add-count : tie.Need-add-count Inv-loop μ-loop
-add-count c = omega (arith, few-counted _ _ _ _ (c .before .before .before .loop .inv) (c .before .before .loop-test .taken))
+add-count c = omega (arith, bounded-counted _ _ _ _ (c .before .before .before .loop .inv) (c .before .before .loop-test .taken))
 
 loop-less : tie.Need-loop-less Inv-loop μ-loop
 loop-less c = omega arith

@@ -23,7 +23,7 @@ use Rattle.model.specs.Promises.{Opened, Quoted, Previewed, Watched, Ended, Pai
 use Rattle.previewing.specs.Effects.{effectOf}
 use Rattle.previewing.proofs.Previews.{tells-quote}
 use Rattle.lending.specs.declared.Judgement.{Judgement}
-use Rattle.lending.specs.Lent.{judgement, Judged, fewAnswer, fewReply, OpenJudged, WatchJudged}
+use Rattle.lending.specs.Lent.{judgement, Judged, shortLoanAnswer, shortLoanReply, OpenJudged, WatchJudged}
 
 -- a reply that is judged hands back what it did
 pub judges : {j : Judgement} (r : Reply) {o : Outcome} → j ≡ judgement r → outcome r ≡ o → Judged o j
@@ -32,27 +32,27 @@ judges r e f =
     record { reply = ap (λ (j : Judgement). outcome (j .reply)) e ∙ f; accepted = ap Judgement.accepted e ∙ ap (λ (o : Outcome). granted (o .number) true false) f }
 
 -- a refusal it is
-few-above : (h : Head) → 1 ≤ fewAnswer h
-unfolding fewAnswer firstOf
-few-above h = go (settingsHold (h .dimensions) (h .capacity) (h .directions))
+short-above : (h : Head) → 1 ≤ shortLoanAnswer h
+unfolding shortLoanAnswer firstOf
+short-above h = go (settingsHold (h .dimensions) (h .capacity) (h .directions))
   where
     go : (s : Bool) → 1 ≤ firstOf ((not s, number Settings) ∷ (true, number ShortLoan) ∷ [])
     go true = omega arith
     go false = omega arith
 
 -- so that nothing is as it is after an accepted call
-few-left : {A : Type 0} (h : Head) (x y : A) → y ≡ granted (fewAnswer h) x y
-few-left h x y = sym (granted-refused (fewAnswer h) (few-above h) x y)
+short-left : {A : Type 0} (h : Head) (x y : A) → y ≡ granted (shortLoanAnswer h) x y
+short-left h x y = sym (granted-refused (shortLoanAnswer h) (short-above h) x y)
 
-three-few : (s l : Bool) (rest : List (Bool × ℕ)) → firstOf ((not s, number Settings) ∷ (l || true, number ShortLoan) ∷ rest) ≡ firstOf ((not s, number Settings) ∷ (true, number ShortLoan) ∷ [])
+three-short : (s l : Bool) (rest : List (Bool × ℕ)) → firstOf ((not s, number Settings) ∷ (l || true, number ShortLoan) ∷ rest) ≡ firstOf ((not s, number Settings) ∷ (true, number ShortLoan) ∷ [])
 unfolding firstOf
-three-few true true rest = refl
-three-few true false rest = refl
-three-few false l rest = refl
+three-short true true rest = refl
+three-short true false rest = refl
+three-short false l rest = refl
 
-few-reply : (h back next : Head) (count : ℕ) → fewReply h back ≡ replyOf (fewAnswer h) back next count
-unfolding fewReply replyOf
-few-reply h back next count = rw (← few-left h next back, ← few-left h back back, ← few-left {A = ℕ} h count 0, ← few-left {A = ℕ} h 0 0)
+short-reply : (h back next : Head) (count : ℕ) → shortLoanReply h back ≡ replyOf (shortLoanAnswer h) back next count
+unfolding shortLoanReply replyOf
+short-reply h back next count = rw (← short-left h next back, ← short-left h back back, ← short-left {A = ℕ} h count 0, ← short-left {A = ℕ} h 0 0)
 
 module _ (watches : List ℕ) (lent : ℕ) where
   abbrev ws : List ℕ
@@ -84,56 +84,56 @@ module _ (watches : List ℕ) (lent : ℕ) where
   pub unpair-eight : (h : Head) (t : Tables) {r : Reply} → length watches ≤ lent → Unpaired h t watches r → Unpaired h t ws r
   unpair-eight h t {r} k m = subst (λ (l : List ℕ). Unpaired h t l r) (enough k) m
 
-  module _ (few : lent < 8) where
+  module _ (lacking : lent < 8) where
     short : ltb (length ws) 8 ≡ true
     short = lt-ltb (length ws) 8 (omega (arith, length-take lent watches))
 
-    few-watchful : (h : Head) (t : Tables) (more : List (Bool × ℕ)) → watchfulAnswer h t ws more ≡ fewAnswer h
-    unfolding watchfulAnswer shortLoan fewAnswer
-    few-watchful h t more = rw short (three-few (settingsHold (h .dimensions) (h .capacity) (h .directions)) (shortTables t (h .dimensions) (h .capacity)) _)
+    short-watchful : (h : Head) (t : Tables) (more : List (Bool × ℕ)) → watchfulAnswer h t ws more ≡ shortLoanAnswer h
+    unfolding watchfulAnswer shortLoan shortLoanAnswer
+    short-watchful h t more = rw short (three-short (settingsHold (h .dimensions) (h .capacity) (h .directions)) (shortTables t (h .dimensions) (h .capacity)) _)
 
-    few-open : (d N directions : ℕ) (t : Tables) → openAnswer d N directions t ws ≡ fewAnswer (freshHead d N directions)
-    unfolding openAnswer shortLoan fewAnswer
-    few-open d N directions t = rw short (three-few (settingsHold d N directions) (shortTables t d N) [])
+    short-open : (d N directions : ℕ) (t : Tables) → openAnswer d N directions t ws ≡ shortLoanAnswer (freshHead d N directions)
+    unfolding openAnswer shortLoan shortLoanAnswer
+    short-open d N directions t = rw short (three-short (settingsHold d N directions) (shortTables t d N) [])
 
-    pub end-few : (h : Head) (desk : Desk) (n : ℕ) (t : Tables) (r : Reply) → outcome r ≡ fewReply h h → {j : Judgement} → j ≡ judgement r → Judged (endReply h desk n t ws) j
+    pub end-short : (h : Head) (desk : Desk) (n : ℕ) (t : Tables) (r : Reply) → outcome r ≡ shortLoanReply h h → {j : Judgement} → j ≡ judgement r → Judged (endReply h desk n t ws) j
     unfolding endReply endAnswer
-    end-few h desk n t r e f = judges r f (e ∙ rw (few-watchful h t) (few-reply h h h 0))
+    end-short h desk n t r e f = judges r f (e ∙ rw (short-watchful h t) (short-reply h h h 0))
 
-    pub open-few : (d N directions : ℕ) (t : Tables) (r : Reply) {settings back : Head} → settings ≡ freshHead d N directions → back ≡ freshHead 0 0 0 → outcome r ≡ fewReply settings back
+    pub open-short : (d N directions : ℕ) (t : Tables) (r : Reply) {settings back : Head} → settings ≡ freshHead d N directions → back ≡ freshHead 0 0 0 → outcome r ≡ shortLoanReply settings back
         → {j : Judgement} → j ≡ judgement r → OpenJudged d N directions t ws j t
     unfolding openReply openTables
-    open-few d N directions t r s z e f =
+    open-short d N directions t r s z e f =
         record {
-          judged = judges r f (e ∙ rw (s, z, few-open d N directions t) (few-reply (freshHead d N directions) (freshHead 0 0 0) (freshHead d N directions) 0));
-          lent = rw (few-open d N directions t) (few-left (freshHead d N directions) _ t);
+          judged = judges r f (e ∙ rw (s, z, short-open d N directions t) (short-reply (freshHead d N directions) (freshHead 0 0 0) (freshHead d N directions) 0));
+          lent = rw (short-open d N directions t) (short-left (freshHead d N directions) _ t);
         }
 
-    pub watch-few : (h : Head) (desk : Desk) (n : ℕ) (t : Tables) {before : List ℕ} (r : Reply) → outcome r ≡ fewReply h h → {j : Judgement} → j ≡ judgement r → WatchJudged h desk n t ws before j before
+    pub watch-short : (h : Head) (desk : Desk) (n : ℕ) (t : Tables) {before : List ℕ} (r : Reply) → outcome r ≡ shortLoanReply h h → {j : Judgement} → j ≡ judgement r → WatchJudged h desk n t ws before j before
     unfolding watchReply watchAnswer watchOut
-    watch-few h desk n t {before} r e f =
-        record { judged = judges r f (e ∙ rw (few-watchful h t) (few-reply h h h (length (watchBytes h desk n t ws)))); out = rw (few-watchful h t) (few-left h _ before) }
+    watch-short h desk n t {before} r e f =
+        record { judged = judges r f (e ∙ rw (short-watchful h t) (short-reply h h h (length (watchBytes h desk n t ws)))); out = rw (short-watchful h t) (short-left h _ before) }
 
-    pub quote-few : (h : Head) (x : List ℕ) (t : Tables) {before : List ℕ} {r : Reply} → outcome r ≡ fewReply h h → Quoted h x t ws before r t before
+    pub quote-short : (h : Head) (x : List ℕ) (t : Tables) {before : List ℕ} {r : Reply} → outcome r ≡ shortLoanReply h h → Quoted h x t ws before r t before
     unfolding quoteReply quoteAnswer quoteTables quoteOut
-    quote-few h x t {before} e =
+    quote-short h x t {before} e =
         record {
-          reply = e ∙ rw (few-watchful h t) (few-reply h h (quoteHead h x t ws) (length (quoteBytes h x t ws)));
-          lent = rw (few-watchful h t) (few-left h _ t);
-          out = rw (few-watchful h t) (few-left h _ before);
+          reply = e ∙ rw (short-watchful h t) (short-reply h h (quoteHead h x t ws) (length (quoteBytes h x t ws)));
+          lent = rw (short-watchful h t) (short-left h _ t);
+          out = rw (short-watchful h t) (short-left h _ before);
         }
 
-    pub preview-few : (h : Head) (x : List ℕ) (t : Tables) {before : List ℕ} (r : Reply) → outcome r ≡ fewReply h h → {e : Effect} → e ≡ effectOf h r → Previewed h x t ws before e before
-    preview-few h x t {before} r f told = let m : Quoted h x t ws before r t before = quote-few h x t f in tells-quote h x t ws r told (m .reply) (m .out)
+    pub preview-short : (h : Head) (x : List ℕ) (t : Tables) {before : List ℕ} (r : Reply) → outcome r ≡ shortLoanReply h h → {e : Effect} → e ≡ effectOf h r → Previewed h x t ws before e before
+    preview-short h x t {before} r f told = let m : Quoted h x t ws before r t before = quote-short h x t f in tells-quote h x t ws r told (m .reply) (m .out)
 
-    pub pair-few : (h : Head) (n1 n2 : ℕ) (t : Tables) {before : List ℕ} {r : Reply} → outcome r ≡ fewReply h h → Paired h n1 n2 t ws before r before
+    pub pair-short : (h : Head) (n1 n2 : ℕ) (t : Tables) {before : List ℕ} {r : Reply} → outcome r ≡ shortLoanReply h h → Paired h n1 n2 t ws before r before
     unfolding pairReply pairAnswer pairOut
-    pair-few h n1 n2 t {before} e =
+    pair-short h n1 n2 t {before} e =
         record {
-          reply = e ∙ rw (few-watchful h t) (few-reply h h (withPair h n1 n2) (length (pairBytes h n1 n2 t ws)));
-          out = rw (few-watchful h t) (few-left h _ before);
+          reply = e ∙ rw (short-watchful h t) (short-reply h h (withPair h n1 n2) (length (pairBytes h n1 n2 t ws)));
+          out = rw (short-watchful h t) (short-left h _ before);
         }
 
-    pub unpair-few : (h : Head) (t : Tables) {r : Reply} → outcome r ≡ fewReply h h → Unpaired h t ws r
+    pub unpair-short : (h : Head) (t : Tables) {r : Reply} → outcome r ≡ shortLoanReply h h → Unpaired h t ws r
     unfolding unpairReply unpairAnswer
-    unpair-few h t e = record { reply = e ∙ rw (few-watchful h t) (few-reply h h (withPair h 0 0) 0) }
+    unpair-short h t e = record { reply = e ∙ rw (short-watchful h t) (short-reply h h (withPair h 0 0) 0) }

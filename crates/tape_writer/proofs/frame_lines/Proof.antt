@@ -1,11 +1,11 @@
--- `take_lines` meets its contract: each line stands within the text.
+-- `frame_lines` meets its contract: each line stands within the text.
 use Prim.Native.Nat.{_-_}
 use native.Mathlib.Omega.{arith}
 use lib.ListN.{length}
 use borrow.Author.Needs.{needs}
 use Rattle.tape_writer.proofs.Taking.{Taking, start, next}
-use Rattle.tape_writer.proofs.take_lines.Statement.{statement}
-use Rattle.tape_writer.proofs.take_lines.Tie as tie
+use Rattle.tape_writer.proofs.frame_lines.Statement.{statement}
+use Rattle.tape_writer.proofs.frame_lines.Tie as tie
 
 abbrev Inv-loop : tie.InvT-loop
 Inv-loop text out₀ now₀ place₀ stop₀ out now place stop = Taking text out₀ out (now .used) place stop
@@ -19,17 +19,17 @@ line-end-requires c κs = search needs
 loop-holds : tie.Need-loop-holds Inv-loop μ-loop
 loop-holds c = start (c .before .before .before .pre) (c .«line-end» .ensures)
 
-sub-take-line : tie.Need-sub-take-line Inv-loop μ-loop
-sub-take-line c = omega arith
+sub-frame-line : tie.Need-sub-frame-line Inv-loop μ-loop
+sub-frame-line c = omega arith
 
-part-take-line-start : tie.Need-part-take-line-start Inv-loop μ-loop
-part-take-line-start c = omega arith
+part-frame-line-start : tie.Need-part-frame-line-start Inv-loop μ-loop
+part-frame-line-start c = omega arith
 
-part-take-line-end : tie.Need-part-take-line-end Inv-loop μ-loop
-part-take-line-end c = omega arith
+part-frame-line-end : tie.Need-part-frame-line-end Inv-loop μ-loop
+part-frame-line-end c = omega arith
 
-take-line-requires : tie.Need-take-line-requires Inv-loop μ-loop
-take-line-requires c κs = c .before .before .before .loop .inv .gathered
+frame-line-requires : tie.Need-frame-line-requires Inv-loop μ-loop
+frame-line-requires c κs = c .before .before .before .loop .inv .gathered
 
 add-place : tie.Need-add-place Inv-loop μ-loop
 add-place c = omega arith
@@ -41,7 +41,7 @@ loop-less : tie.Need-loop-less Inv-loop μ-loop
 loop-less c = omega (arith, c .«line-end2» .ensures)
 
 loop-again : tie.Need-loop-again Inv-loop μ-loop
-loop-again c = next (c .before .before .before .before .before .before .before .loop .inv) (c .before .before .before .before .before .before .«loop-test» .taken) (c .before .before .before .«take-line» .ensures .0) (c .before .before .out .given) (c .«line-end2» .ensures)
+loop-again c = next (c .before .before .before .before .before .before .before .loop .inv) (c .before .before .before .before .before .before .«loop-test» .taken) (c .before .before .before .«frame-line» .ensures .0) (c .before .before .out .given) (c .«line-end2» .ensures)
 
 sub-now : tie.Need-sub-now Inv-loop μ-loop
 sub-now c = omega arith
@@ -52,18 +52,18 @@ same-length c = c .before .loop .inv .long
 returns : tie.Need-returns Inv-loop μ-loop
 returns c = (omega arith, omega arith)
 
-pub take-lines-spec : {M : Type 1} → statement M
-take-lines-spec =
+pub frame-lines-spec : {M : Type 1} → statement M
+frame-lines-spec =
     tie.close
     (tie.spec
     Inv-loop
     μ-loop
     line-end-requires
     loop-holds
-    sub-take-line
-    part-take-line-start
-    part-take-line-end
-    take-line-requires
+    sub-frame-line
+    part-frame-line-start
+    part-frame-line-end
+    frame-line-requires
     add-place
     line-end-requires-2
     loop-less

@@ -1,10 +1,10 @@
--- `take_line` meets its contract: the frame fits the output.
+-- `frame_line` meets its contract: the frame fits the output.
 use native.Mathlib.Omega.{arith}
 use lib.ListN.{length-take, length-drop}
 use borrow.Author.Needs.{needs}
 use Rattle.notation.proofs.Reading.{wrote-fits}
-use Rattle.tape_writer.proofs.take_line.Statement.{statement}
-use Rattle.tape_writer.proofs.take_line.Tie as tie
+use Rattle.tape_writer.proofs.frame_line.Statement.{statement}
+use Rattle.tape_writer.proofs.frame_line.Tie as tie
 
 with-room-requires : tie.Need-with-room-requires
 with-room-requires c κs = search needs
@@ -48,8 +48,8 @@ same-length-2 c = search needs
 returns-2 : tie.Need-returns-2
 returns-2 c = (omega (arith, wrote-fits (c .before .before .before .before .before .«write-line» .ensures)), c .before .before .before .before .before .before .before .before .«with-room» .ensures .1)
 
-pub take-line-spec : {M : Type 1} → statement M
-take-line-spec =
+pub frame-line-spec : {M : Type 1} → statement M
+frame-line-spec =
     tie.close
     (tie.spec
     with-room-requires
