@@ -15,7 +15,7 @@ use Rattle.skyline.specs.Skyline.{windowStart}
 use Rattle.head.specs.declared.Head.{Head}
 use Rattle.model.specs.Rows.{Row, Tables, rowAt, rowsIn, overOlder, overYounger}
 use Rattle.model.specs.Book.{tornRows, bookRows}
-use Rattle.model.specs.Audit.{rightLower, rightUpper, wrongEnd, zeroFrom, passes}
+use Rattle.audit_model.specs.Audit.{rightLower, rightUpper, wrongEnd, zeroFrom, passes}
 use Rattle.model.specs.Promises.{tables}
 use Rattle.model.proofs.Torn.{Whole, untorn-whole, window-bounded}
 use Rattle.rows.proofs.Reading.{length-rows}

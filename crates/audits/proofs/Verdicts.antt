@@ -8,7 +8,7 @@ use Rattle.head.specs.Replies.{refused}
 use Rattle.head.specs.Heads.{settingsHold}
 use Rattle.model.specs.Rows.{Tables}
 use Rattle.model.specs.Book.{shortTables}
-use Rattle.model.specs.Audit.{passes, findingOf, auditFinding}
+use Rattle.audit_model.specs.Audit.{passes, findingOf, auditFinding}
 
 module _ (h : Head) (t : Tables) where
   -- settings outside their ranges are refused

@@ -10,7 +10,7 @@ use lib.ListN.{length, getD, take, drop}
 use lib.Seq.{drop-cons}
 use Rattle.lists.specs.Lists.{any}
 use Rattle.lists.proofs.Booleans.{or-assoc}
-use Rattle.model.specs.Audit.{zeroFrom}
+use Rattle.audit_model.specs.Audit.{zeroFrom}
 
 -- the cells before place i have been passed, and found says whether one of them is not 0
 pub record Seeking (cells : List ℕ) (from to : ℕ) (found : Bool) (i : ℕ) : Type 0 where

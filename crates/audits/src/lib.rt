@@ -12,7 +12,7 @@ ghost use mathlib.Core.List.{[]};
 ghost use lib.ListN.{length};
 ghost use Rattle.lists.specs.Lists.{any, run};
 ghost use Rattle.head.specs.Replies.{finding};
-ghost use Rattle.model.specs.Audit.{zeroFrom, passes, auditFinding};
+ghost use Rattle.audit_model.specs.Audit.{zeroFrom, passes, auditFinding};
 ghost use Rattle.model.specs.Promises.{tables};
 ghost use Rattle.audits.specs.Ends.{overYoungerAt, overOlderAt, lowerFound, upperFound, wrongAt};
 

@@ -25,7 +25,7 @@ use Rattle.model.specs.Rows.{Row, Tables, rowAt, rowsIn, listed, expiring, over
 use Rattle.model.specs.Changes.{changesBy, changes, allChanges, frames}
 use Rattle.model.specs.Book.{tornWatches, bookRows, standing, listOf, quoteRows, quoteHead}
 use Rattle.model.proofs.Torn.{Whole, upperAstray, upper-place}
-use Rattle.model.proofs.Listing.{list-after}
+use Rattle.listing.proofs.UntornLists.{list-after}
 use Rattle.finding.specs.Found.{live, Rows, rows, over}
 use Rattle.finding.specs.Found as found
 use Rattle.listing.specs.Picked.{picked}

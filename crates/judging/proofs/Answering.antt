@@ -19,7 +19,7 @@ use Rattle.head.proofs.Numbers.{zero-passed, firstOf-append, number-above, refu
 use Rattle.head.proofs.Settings.{Within, settings-within}
 use Rattle.model.specs.Rows.{Row, Tables}
 use Rattle.model.specs.Book.{shortTables, shortLoan, tornRows, tornWatches, bookRows, answerOf, watchfulAnswer, outOfRange}
-use Rattle.model.proofs.AuditTables.{length-read}
+use Rattle.model.proofs.Tables.{length-read}
 use Rattle.model.proofs.Torn.{Whole, untorn-whole, window-bounded}
 use Rattle.judging.specs.Answers.{loanAnswer}
 

@@ -1,4 +1,5 @@
 -- The laws of the crate.
+pub mod UntornLists
 pub mod Picking
 pub mod Writing
 pub mod Framing

@@ -10,6 +10,7 @@ use lib.Seq.{take-at, drop-append-add}
 use borrow.Author.Tests.{ltb-false}
 use Rattle.lists.specs.Lists.{flat, run, padded}
 use Rattle.lists.proofs.Booleans.{none-left, none-right}
+use Rattle.lists.proofs.Runs.{length-run}
 use Rattle.lists.proofs.Members.{map-same-mem}
 use Rattle.lists.proofs.Writing.{length-padded, padded-again}
 use Rattle.model.specs.Rows.{Row, Tables, rowAt, rowsIn, filled}
@@ -104,3 +105,8 @@ module _ (d : ℕ) where
           length-padded N (map Row.lowerEnd rs) (t .lowerEnds) (rw length-map bounded) (ltb-false (length (t .lowerEnds)) N (none-right (c || p) l three)),
           length-padded N (map Row.upperEnd rs) (t .upperEnds) (rw length-map bounded) (ltb-false (length (t .upperEnds)) N (none-right (c || p || l) u h)),
         )
+
+-- as many rows are read as asked for
+pub length-read : (d k : ℕ) (t : Tables) → length (rowsIn d k t) ≡ k
+unfolding rowsIn
+length-read d k t = length-map (run 0 k) (rowAt d t) ∙ length-run 0 k

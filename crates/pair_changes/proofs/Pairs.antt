@@ -18,7 +18,7 @@ use Rattle.model.specs.Rows.{Tables, rowAt, rowsIn}
 use Rattle.model.specs.Changes.{pairLeave, pairJoin, pairChanges, frames}
 use Rattle.model.specs.Book.{bookRows, pairStands, pairListOf, quoteRows, quoteHead}
 use Rattle.model.proofs.Torn.{Whole, lowerAstray, pair-within}
-use Rattle.model.proofs.PairMoves.{startBefore, endBefore, startAfter, endAfter, gone, come, places-full, place-at, pair-changes-are, pair-changes-none}
+use Rattle.pair_changes.proofs.PairMoves.{startBefore, endBefore, startAfter, endAfter, gone, come, places-full, place-at, pair-changes-are, pair-changes-none}
 use Rattle.changes.specs.Watches.{shiftOf}
 use Rattle.pair_changes.specs.Pairs.{sought, falls, enters, dropped, gained, leaving, joining, moved, endShift, begun, pairFrames, Paired}
 

@@ -11,7 +11,7 @@ use Rattle.frames.specs.declared.Message.{Message}
 use Rattle.frames.specs.Frames.{messageAt, readAt, messagesFrom}
 use Rattle.frames.proofs.Reading.{Told, told-at, messages-on, messages-none}
 use Rattle.model.specs.Changes.{frames}
-use Rattle.model.proofs.ReadBack.{Sent, read-back}
+use Rattle.watcher.proofs.ReadBack.{Sent, read-back}
 use Rattle.text.specs.Text.{Laid}
 use Rattle.printed.specs.Printed.{changeLine, changeLines, changesText}
 use Rattle.printed.proofs.Decoding.{line-fits}

@@ -11,10 +11,10 @@ use Rattle.head.specs.declared.Head.{Head}
 use Rattle.head.specs.Heads.{settingsHold}
 use Rattle.head.proofs.Settings.{settings-within}
 use Rattle.model.specs.Rows.{Tables}
-use Rattle.model.specs.Places.{SameFront}
+use Rattle.claims.specs.Places.{SameFront}
 use Rattle.model.specs.Calls.{Reached}
 use Rattle.model.specs.Promises.{tables, world}
-use Rattle.model.proofs.Places.{reached-in-places}
+use Rattle.claims.proofs.Places.{reached-in-places}
 use Rattle.row_starts.specs.declared.Start.{Start}
 use Rattle.row_starts.specs.Starts.{Long, Within, FullOpened, onward}
 

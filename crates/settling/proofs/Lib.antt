@@ -1,4 +1,5 @@
 -- The laws of the crate.
+pub mod Sought
 pub mod Reading
 pub mod Numbers
 pub mod Standing

@@ -31,7 +31,7 @@ use Rattle.model.proofs.Tables.{cells-counted}
 use Rattle.model.proofs.Torn.{window-length}
 use Rattle.model.proofs.Sound.{rows-bounded, rows-wide}
 use Rattle.model.proofs.Simulation.{Invariant, some-capacity, rows-read}
-use Rattle.model.proofs.Sought.{named-before-upper, named-behind-lower, named-live-on}
+use Rattle.settling.proofs.Sought.{named-before-upper, named-behind-lower, named-live-on}
 use Rattle.model.proofs.Reached.{reached-by}
 use Rattle.finding.specs.Found.{Rows, live, over, under, retires, Sound}
 use Rattle.settling.specs.Findings.{expiredPlaces, heldRows, namedBefore}

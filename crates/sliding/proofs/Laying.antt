@@ -12,7 +12,7 @@ use Rattle.lists.specs.Lists.{padded}
 use Rattle.lists.proofs.Writing.{take-padded}
 use Rattle.head.specs.declared.Head.{Head}
 use Rattle.model.specs.Rows.{renamed}
-use Rattle.model.specs.Places.{SameFront}
+use Rattle.claims.specs.Places.{SameFront}
 use Rattle.cells.specs.Marked.{marked, Below}
 use Rattle.cells.proofs.Marking.{length-marked}
 use Rattle.settling.specs.Blank.{Blank}

@@ -17,7 +17,7 @@ use Rattle.head.specs.declared.Reply.{Reply}
 use Rattle.head.specs.Heads.{settingsHold, lastPosition, afterQuote}
 use Rattle.head.specs.Refusals.{numberOf}
 use Rattle.model.specs.Rows.{Tables}
-use Rattle.model.specs.Places.{SamePlaces}
+use Rattle.claims.specs.Places.{SamePlaces}
 use Rattle.model.specs.Book.{quoteAnswer}
 use Rattle.model.specs.Calls.{Reached}
 use Rattle.model.specs.Promises.{tables, world}

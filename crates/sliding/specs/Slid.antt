@@ -7,7 +7,7 @@ use lib.ListN.{length, drop}
 use Rattle.head.specs.declared.Head.{Head}
 use Rattle.head.specs.Heads.{settingsHold}
 use Rattle.model.specs.Rows.{Tables}
-use Rattle.model.specs.Places.{SamePlaces}
+use Rattle.claims.specs.Places.{SamePlaces}
 use Rattle.model.specs.Book.{quoteTables}
 use Rattle.model.specs.Promises.{tables, Quoted}
 use Rattle.sliding.specs.declared.Slide.{Slide}

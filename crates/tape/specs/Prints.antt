@@ -7,7 +7,7 @@ use mathlib.Core.List.{List, [], _++_}
 use lib.ListN.{length, take}
 use Rattle.head.specs.Heads.{settingsHold}
 use Rattle.model.specs.Rows.{Tables}
-use Rattle.model.specs.Places.{SamePlaces}
+use Rattle.claims.specs.Places.{SamePlaces}
 use Rattle.model.specs.Promises.{world}
 use Rattle.tape_model.specs.Play.{Player, on}
 use Rattle.tape_model.specs.Streams.{ready}

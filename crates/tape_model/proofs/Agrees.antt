@@ -20,12 +20,12 @@ use Rattle.frames.specs.Frames.{Saying, told, ended, refused, readAt}
 use Rattle.model.specs.Changes.{changeRoom}
 use Rattle.model.specs.Reference.{Reference, Lengths, unopened, newest, isOpen, headOf, tells, foretells, referenceStep}
 use Rattle.model.specs.Calls.{Call, Open, Quote, Look, Watch, End, Past, Pair, Unpair, Due, Preview, Outputs, Lent, bookStep, lengthsOf, shown, expectedStep, runs, worldFirst}
-use Rattle.model.specs.Claims.{isOpening}
+use Rattle.claims.specs.Claims.{isOpening}
 use Rattle.model.proofs.Simulation.{Simulation, Agree, referenceWith, Bounded, bounded, in-range, in-pair-range}
 use Rattle.model.proofs.Written.{written-fits, watch-written, pair-written}
 use Rattle.model.proofs.Replay.{call-agrees, replay-ends}
 use Rattle.model.proofs.Lengths.{either-way, long-after, lengths-kept, since-long}
-use Rattle.model.proofs.Places.{lengths-unread, opened-kept}
+use Rattle.claims.proofs.Places.{lengths-unread, opened-kept}
 use Rattle.asking.specs.Asking.{Asked, finished, unread, misplaced, request, asks, inPlace, placed, asked}
 use Rattle.tape_model.specs.Print.{Answered, linesOf, textOf}
 use Rattle.tape_model.specs.Play.{Played, playAsked, playAt, printFrom, print, referenceMake, Player, bookMake, begun}

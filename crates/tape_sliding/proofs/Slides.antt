@@ -17,7 +17,7 @@ use Rattle.model.specs.Rows.{Tables}
 use Rattle.model.specs.Book.{quoteTables, quoteReply}
 use Rattle.model.specs.Calls.{Call, Reached, bookSeen, headAfter, worldAfter, bookStep}
 use Rattle.model.specs.Promises.{world}
-use Rattle.model.proofs.Places.{reached-in-places}
+use Rattle.claims.proofs.Places.{reached-in-places}
 use Rattle.sliding.specs.declared.Slide.{Slide}
 use Rattle.sliding.specs.Slid.{later, Slid, stayed, slid, QuoteSlid}
 use Rattle.asking.specs.declared.Wanted.{Wanted}

@@ -3,7 +3,7 @@ use mathlib.Core.Path.{sym, _∙_}
 use borrow.Author.Needs.{needs}
 use borrow.Author.Tests.{not-true, not-false}
 use Rattle.head.proofs.Settings.{settings-within}
-use Rattle.model.specs.Audit.{findingOf}
+use Rattle.audit_model.specs.Audit.{findingOf}
 use Rattle.judging.proofs.Answering.{long-enough}
 use Rattle.audits.proofs.Verdicts.{wrong-settings, too-short, by-rules}
 use Rattle.audits.proofs.audit.Statement.{statement}

@@ -1,0 +1,8 @@
+-- The theorems of the crate.
+pub mod Places
+pub mod Kept
+pub mod Stretches
+pub mod Due
+pub mod Refining
+pub mod Previews
+pub mod Shares

@@ -1,0 +1,3 @@
+-- The theorems of the crate.
+pub mod Alone
+pub mod Isolated

@@ -1,0 +1,1 @@
+// The marked cases M1 to M10: one table (specs/), and one proof over it (proofs/).

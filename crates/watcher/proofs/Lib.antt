@@ -1,0 +1,5 @@
+-- The theorems of the crate.
+pub mod Applying
+pub mod ReadBack
+pub mod Following
+pub mod Watcher
