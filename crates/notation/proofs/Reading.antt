@@ -1,4 +1,4 @@
--- What a line says, case by case; and the turns of the two loops over its bytes.
+-- What a line says, case by case; and the turns of the loop that seeks its end.
 use mathlib.Core.Path.{_≡_, refl, sym, ap, _∙_}
 use Prim.Native.Nat.{ℕ, suc, _+_, _≤_, _<_}
 use native.Mathlib.Omega.{arith}
@@ -17,8 +17,8 @@ use Rattle.frame_writer.specs.Writing.{writeAnswer, Wrote}
 use Rattle.frame_writer.specs.declared.Written.{Written}
 use Rattle.frames.specs.declared.Message.{Message}
 use Rattle.frames.specs.declared.Message.the-variants.{Quote, Sized, Pair, Bare, Open}
-use Rattle.notation.specs.declared.Fields.{Fields}
-use Rattle.notation.specs.Fields.{noField, after, fieldsFrom}
+use Rattle.line_fields.specs.declared.Fields.{Fields}
+use Rattle.line_fields.specs.Fields.{noField, after, fieldsFrom}
 use Rattle.notation.specs.Lines.{nothing, opens, opening, quoteOf, pairs, pairOf, bareOf, fits, ofNumber, sizedOf, said, marked, signOf, saidBy, lineLength}
 
 -- ---- messages
@@ -153,21 +153,9 @@ module _ (sign n : ℕ) where
   unfolding ofNumber
   of-other l w u v e = rw (ne-eqb sign 76 l, ne-eqb sign 87 w, ne-eqb sign 85 u, ne-eqb sign 343 v, ne-eqb sign 341 e)
 
--- ---- the bytes of a line
+-- ---- the end of a line
 
 module _ (line : List ℕ) where
-  -- one more byte is taken
-  pub fields-more : (f : Fields) {whole : Fields} {at : ℕ} → at < length line → whole ≡ fieldsFrom f (drop at line) → whole ≡ fieldsFrom (after f (getD line at 0)) (drop (at + 1) line)
-  unfolding fieldsFrom
-  fields-more f {at = at} h e = e ∙ ap (fieldsFrom f) (drop-cons line at 0 h) ∙ rw (add-one at)
-
-  -- all bytes are taken
-  pub fields-finish : (f : Fields) {whole : Fields} {at : ℕ} → length line ≤ at → whole ≡ fieldsFrom f (drop at line) → f ≡ whole
-  unfolding fieldsFrom
-  fields-finish f h e = sym (e ∙ ap (fieldsFrom f) (drop-of-length-le line h))
-
-  -- ---- the end of a line
-
   -- one more byte is no newline
   pub end-more : {end at : ℕ} → at < length line → not (eqb (getD line at 0) 10) ≡ true → end ≡ at + lineLength (drop at line) → end ≡ (at + 1) + lineLength (drop (at + 1) line)
   unfolding lineLength

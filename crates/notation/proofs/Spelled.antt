@@ -15,11 +15,11 @@ use Rattle.lists.proofs.Booleans.{either, and-left, and-right}
 use Rattle.text.specs.Text.{digitsUpTo, digits, field, line, line2}
 use Rattle.frames.specs.declared.Message.the-variants.{Quote, Sized, Pair, Bare, Open}
 use Rattle.frame_kinds.specs.Kinds.{lookKind, watchKind, unwatchKind, watchTwoKind, unwatchTwoKind, pairKind, unpairKind, pastKind}
-use Rattle.notation.specs.declared.Fields.{Fields}
-use Rattle.notation.specs.Fields.{noField, grown, after, fieldsFrom}
+use Rattle.line_fields.specs.declared.Fields.{Fields}
+use Rattle.line_fields.specs.Fields.{noField, grown, after, fieldsFrom}
 use Rattle.notation.specs.declared.Parsed.{Parsed}
 use Rattle.notation.specs.Lines.{opens, opening, quoteOf, pairs, pairOf, bareOf, fits, ofNumber, sizedOf, said, marked, signOf, saidBy}
-use Rattle.notation.proofs.Steps.{begun-next, grown-next, after-space, after-digit}
+use Rattle.line_fields.proofs.Steps.{begun-next, grown-next, after-space, after-digit}
 
 -- bytes behind bytes
 pub fields-append : (f : Fields) (xs ys : List ℕ) → fieldsFrom f (xs ++ ys) ≡ fieldsFrom (fieldsFrom f xs) ys

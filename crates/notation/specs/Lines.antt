@@ -8,9 +8,9 @@ use Rattle.head.specs.declared.Refusal.the-variants.{UnknownKind}
 use Rattle.frames.specs.declared.Message.{Message}
 use Rattle.frames.specs.declared.Message.the-variants.{Quote, Sized, Pair, Bare, Open, Refused}
 use Rattle.frame_kinds.specs.Kinds.{lookKind, watchKind, unwatchKind, watchTwoKind, unwatchTwoKind, pairKind, unpairKind, pastKind}
-use Rattle.notation.specs.declared.Fields.{Fields}
+use Rattle.line_fields.specs.declared.Fields.{Fields}
 use Rattle.notation.specs.declared.Parsed.{Parsed}
-use Rattle.notation.specs.Fields.{noField, fieldsFrom}
+use Rattle.line_fields.specs.Fields.{noField, fieldsFrom}
 
 -- no message
 unfoldable pub nothing : Message

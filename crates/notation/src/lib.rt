@@ -1,24 +1,14 @@
 // The notation of a tape, line by line: a letter, a 2 behind it where the line is desk two's, and its numbers, in decimal, with one space
 // before each. A line is read as a message.
 mod lines;
-mod scanning;
 
 use frames::Message;
 pub use lines::line_end;
 pub use lines::read_line;
 pub use lines::write_line;
-pub use scanning::fields_from;
 
 // What a line says: its message, or a refusal where it says none, and its numbers with zeros behind them.
 pub struct Parsed {
     pub message: Message,
-    pub numbers: [u32; 6],
-}
-
-// The fields read so far: whether they are valid, whether the last has no digit yet, how many are begun, and their numbers.
-pub struct Fields {
-    pub valid: bool,
-    pub empty: bool,
-    pub count: usize,
     pub numbers: [u32; 6],
 }

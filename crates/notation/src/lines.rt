@@ -5,9 +5,7 @@ ghost use Prim.Native.Nat.{_+_};
 ghost use lib.ListN.{drop};
 ghost use Rattle.frame_writer.specs.Writing.{Wrote};
 ghost use Rattle.notation.specs.Lines.{opens, opening, quoteOf, pairs, pairOf, bareOf, fits, sizedOf, said, marked, signOf, saidBy, lineLength};
-use crate::Fields;
 use crate::Parsed;
-use crate::scanning::fields_from;
 use frame_writer::Written;
 use frames::LOOK;
 use frames::Message;
@@ -19,6 +17,8 @@ use frames::UNWATCH_TWO;
 use frames::WATCH;
 use frames::WATCH_TWO;
 use head::Refusal;
+use line_fields::Fields;
+use line_fields::fields_from;
 
 // Whether the fields are three numbers that fit the frame of an opening.
 fn opens(fields: Fields) -> bool

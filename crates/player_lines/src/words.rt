@@ -3,7 +3,7 @@ use crate::Command;
 use crate::Line;
 use crate::Name;
 use head::Desk;
-use notation::fields_from;
+use line_fields::fields_from;
 
 // The numbers of a line behind its words: whether they are valid, how many there are, and zeros behind them.
 struct Numbers {

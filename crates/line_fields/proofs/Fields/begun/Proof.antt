@@ -1,9 +1,9 @@
 -- `begun` meets its contract: each answer is a case of the definition.
 use borrow.Author.Needs.{needs}
 use mathlib.Core.Path.{_∙_}
-use Rattle.notation.proofs.Steps.{begun-empty, begun-full, begun-next}
-use Rattle.notation.proofs.Fields.begun.Statement.{statement}
-use Rattle.notation.proofs.Fields.begun.Tie as tie
+use Rattle.line_fields.proofs.Steps.{begun-empty, begun-full, begun-next}
+use Rattle.line_fields.proofs.Fields.begun.Statement.{statement}
+use Rattle.line_fields.proofs.Fields.begun.Tie as tie
 
 invalid-requires : tie.Need-invalid-requires
 invalid-requires c κs = search needs

@@ -2,9 +2,9 @@
 use borrow.Author.Needs.{needs}
 use mathlib.Core.Path.{_∙_}
 use borrow.Author.Tests.{not-true, not-false}
-use Rattle.notation.proofs.Steps.{after-invalid, after-space, after-low, after-high, after-digit}
-use Rattle.notation.proofs.Fields.after.Statement.{statement}
-use Rattle.notation.proofs.Fields.after.Tie as tie
+use Rattle.line_fields.proofs.Steps.{after-invalid, after-space, after-low, after-high, after-digit}
+use Rattle.line_fields.proofs.Fields.after.Statement.{statement}
+use Rattle.line_fields.proofs.Fields.after.Tie as tie
 
 returns : tie.Need-returns
 returns c = after-invalid _ _ (not-true _ (c .if1 .taken))

@@ -4,7 +4,7 @@ use mathlib.Core.Bool.{Bool, true, false, _&&_, not, cond}
 use mathlib.Core.List.{List, [], _∷_}
 use lib.Dec.{ltb, leb, eqb}
 use lib.ListN.{getD, set}
-use Rattle.notation.specs.declared.Fields.{Fields}
+use Rattle.line_fields.specs.declared.Fields.{Fields}
 
 -- before the first field
 unfoldable pub noField : Fields

@@ -7,8 +7,8 @@ use mathlib.Core.List.{List, [], _∷_}
 use lib.Dec.{eqb}
 use lib.ListN.{getD, set}
 use borrow.Author.Tests.{lt-ltb, le-ltb, le-leb, lt-leb, eq-eqb, ne-eqb}
-use Rattle.notation.specs.declared.Fields.{Fields}
-use Rattle.notation.specs.Fields.{invalid, begun, grown, after}
+use Rattle.line_fields.specs.declared.Fields.{Fields}
+use Rattle.line_fields.specs.Fields.{invalid, begun, grown, after}
 
 module _ (f : Fields) where
   -- ---- a space

@@ -5,10 +5,10 @@ use native.Mathlib.Omega.{arith}
 use denote.Ref.{now}
 use lib.ListN.{length, drop}
 use borrow.Author.Needs.{needs}
-use Rattle.notation.proofs.Reading.{fields-more, fields-finish}
-use Rattle.notation.specs.Fields.{noField, fieldsFrom}
-use Rattle.notation.proofs.scanning.fields_from.Statement.{statement}
-use Rattle.notation.proofs.scanning.fields_from.Tie as tie
+use Rattle.line_fields.proofs.Scanning.{fields-more, fields-finish}
+use Rattle.line_fields.specs.Fields.{noField, fieldsFrom}
+use Rattle.line_fields.proofs.fields_from.Statement.{statement}
+use Rattle.line_fields.proofs.fields_from.Tie as tie
 
 abbrev Inv-loop : tie.InvT-loop
 Inv-loop line place fields₀ at₀ fields at = fieldsFrom noField (drop place line) ≡ fieldsFrom fields (drop at line)

@@ -1,9 +1,9 @@
 -- `grown` meets its contract: each answer is a case of the definition.
 use mathlib.Core.Path.{_∙_}
 use borrow.Author.Needs.{needs}
-use Rattle.notation.proofs.Steps.{grown-none, grown-many, grown-zero, grown-large, grown-next}
-use Rattle.notation.proofs.Fields.grown.Statement.{statement}
-use Rattle.notation.proofs.Fields.grown.Tie as tie
+use Rattle.line_fields.proofs.Steps.{grown-none, grown-many, grown-zero, grown-large, grown-next}
+use Rattle.line_fields.proofs.Fields.grown.Statement.{statement}
+use Rattle.line_fields.proofs.Fields.grown.Tie as tie
 
 invalid-requires : tie.Need-invalid-requires
 invalid-requires c κs = search needs

@@ -2,8 +2,15 @@
 ghost use mathlib.Core.Path.{_≡_};
 ghost use Prim.Native.Nat.{_+_, _*_};
 ghost use lib.ListN.{drop};
-ghost use Rattle.notation.specs.Fields.{noField, invalid, begun, grown, after, fieldsFrom};
-use crate::Fields;
+ghost use Rattle.line_fields.specs.Fields.{noField, invalid, begun, grown, after, fieldsFrom};
+
+// The fields read so far: whether they are valid, whether the last has no digit yet, how many are begun, and their numbers.
+pub struct Fields {
+    pub valid: bool,
+    pub empty: bool,
+    pub count: usize,
+    pub numbers: [u32; 6],
+}
 
 // A number with one more digit behind it.
 fn extended(number: u32, digit: u32) -> u64

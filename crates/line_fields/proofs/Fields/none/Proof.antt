@@ -1,8 +1,8 @@
 -- `none` meets its contract.
 use borrow.Author.Needs.{needs}
-use Rattle.notation.specs.Fields.{noField}
-use Rattle.notation.proofs.Fields.none.Statement.{statement}
-use Rattle.notation.proofs.Fields.none.Tie as tie
+use Rattle.line_fields.specs.Fields.{noField}
+use Rattle.line_fields.proofs.Fields.none.Statement.{statement}
+use Rattle.line_fields.proofs.Fields.none.Tie as tie
 
 returns : tie.Need-returns
 unfolding noField
