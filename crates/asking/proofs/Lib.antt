@@ -1,3 +1,4 @@
 -- The laws of the crate.
 pub mod Wishes
 pub mod Places
+pub mod Reading

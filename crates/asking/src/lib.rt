@@ -5,6 +5,7 @@ ghost use Prim.Native.Nat.{ℕ};
 ghost use Rattle.frames.specs.Frames.{saying};
 ghost use Rattle.asking.specs.Asking.{sizedAsks, pairAsks, bareAsks, asks, asked};
 ghost use Rattle.asking.specs.Placing.{wants, outOfPlace};
+ghost use Rattle.asking.specs.Reading.{WishAt};
 use frames::LOOK;
 use frames::Message;
 use frames::PAIR;
@@ -14,7 +15,9 @@ use frames::UNWATCH;
 use frames::UNWATCH_TWO;
 use frames::WATCH;
 use frames::WATCH_TWO;
+use frames::read_at;
 use head::Desk;
+use head::Head;
 use head::Refusal;
 
 // What a frame wants of the player: a call, nothing at the end of the tape, or a refusal: of what cannot be read, or of a frame out of
@@ -131,4 +134,25 @@ pub fn placed(begun: bool, message: Message) -> Wanted
         return Wanted::Misplaced;
     }
     wanted
+}
+
+// What stands at a place of a tape: what it wants of the player, the columns of its quote, and the place behind it.
+pub struct Wish {
+    pub wanted: Wanted,
+    pub columns: [u32; 6],
+    pub next: usize,
+}
+
+// Reads the frame at a place of a tape, and judges its place on the tape.
+pub fn wish_at(tape: &[u8], place: usize, head: Head) -> Wish
+    ensures { λ r. ⌜ WishAt (now (tape .entry)) place head (r .wanted) (r .columns) (r .next) ⌝ }
+{
+    let read = read_at(tape, place);
+    let quote = read.columns;
+    let found = read.message;
+    Wish {
+        wanted: placed(head.settings_hold(), found),
+        columns: quote,
+        next: read.next,
+    }
 }

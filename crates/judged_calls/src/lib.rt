@@ -76,7 +76,7 @@ pub fn open(capacity: u32) -> Worked {
 }
 
 // Takes a quote of two columns, and prints its line and its changes, or the refusal.
-pub fn take(worked: Worked, quote: [u32; 2]) -> Worked {
+pub fn quote(worked: Worked, quote: [u32; 2]) -> Worked {
     let mut columns = worked.columns;
     let mut positions = worked.positions;
     let mut lower_ends = worked.lower_ends;
@@ -116,12 +116,12 @@ pub fn take(worked: Worked, quote: [u32; 2]) -> Worked {
 }
 
 // Takes quotes of two columns, one behind the other.
-pub fn take_all(worked: Worked, quotes: &[u32]) -> Worked {
+pub fn quote_all(worked: Worked, quotes: &[u32]) -> Worked {
     let mut now = worked;
     let mut i = 0;
     while i + 1 < quotes.len() {
-        let quote = [quotes[i], quotes[i + 1]];
-        now = take(now, quote);
+        let columns = [quotes[i], quotes[i + 1]];
+        now = quote(now, columns);
         i += 2;
     }
     now

@@ -18,7 +18,7 @@ use Rattle.tape_model.proofs.Agrees.{Alike, at-first}
 use Rattle.tape_model.proofs.Streaming.{printed-in-pieces}
 use Rattle.tape_model.proofs.Sliding.{slide-alike, plays-alike, stops-alike}
 use Rattle.turn_lines.specs.Turns.{player}
-use Rattle.tape.specs.declared.Step.{Step}
+use Rattle.turn_lines.specs.declared.Step.{Step}
 use Rattle.tape.specs.Steps.{Stepped}
 use Rattle.tape.specs.Prints.{left, Prints, goes-on, ends, forgets, reads, slides}
 

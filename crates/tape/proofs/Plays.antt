@@ -4,52 +4,27 @@ use Prim.Native.Nat.{ℕ}
 use mathlib.Core.Bool.{Bool}
 use mathlib.Core.List.{List, [], _∷_}
 use lib.Dec.{eqb}
-use lib.ListN.{length, take}
+use lib.ListN.{take}
 use types.Run.{OneOf, miss}
 use denote.Enum.Declared.{tagOf}
-use Rattle.lists.specs.Lists.{run}
 use Rattle.head.specs.declared.Head.{Head}
-use Rattle.head.specs.Heads.{settingsHold}
-use Rattle.frames.specs.declared.Read.{Read}
-use Rattle.frames.specs.Frames.{columnsAt, saying, Reading, reading, stays, readAt}
-use Rattle.frames.proofs.Reading.{read-columns, read-next, Found, beyond, at-end, unknown, cut, whole, found}
+use Rattle.frames.specs.Frames.{readAt}
 use Rattle.model.specs.Rows.{Tables}
 use Rattle.model.specs.Calls.{Call}
 use Rattle.asking.specs.declared.Wanted.{Wanted}
 use Rattle.asking.specs.declared.Wanted.the-variants.{Quote, Look, Past, Watch, End, Pair, Unpair, Open, Nothing, Refused, Misplaced}
 use Rattle.asking.specs.Asking.{asked}
 use Rattle.asking.specs.Placing.{wants}
+use Rattle.asking.specs.Reading.{WishAt}
 use Rattle.asking.proofs.Wanted.{the-type}
-use Rattle.asking.proofs.Places.{ends, asked-ends, wanted-asked, quote-bounded}
+use Rattle.asking.proofs.Places.{ends, asked-ends}
 use Rattle.tape_model.specs.Play.{Played, playAsked, playAt, Player, bookMake, begun, bookPlay}
 use Rattle.turn_lines.specs.declared.Turn.{Turn}
 use Rattle.turn_lines.specs.Turns.{player, Effect, made, refusedWith, Turned}
 use Rattle.turn_reads.specs.Reads.{refused, looked}
 use Rattle.turns.specs.Wishes.{pairObserved, observed, unquoted}
-use Rattle.tape.specs.declared.Step.{Step}
-use Rattle.tape.specs.Steps.{WishAt, Stepped, taken}
-
--- what is read has six columns, with zeros behind those of its quote
-read-six : (tape : List ℕ) (place : ℕ) {r : Reading} → Found tape place r → length (r .columns) ≡ 6
-unfolding stays columnsAt run
-read-six tape place (beyond h) = refl
-read-six tape place (at-end e) = refl
-read-six tape place unknown = refl
-read-six tape place cut = refl
-read-six tape place (whole k h) = refl
-
--- what was read at a place, judged by whether an opening was accepted
-pub wish-there : (tape : List ℕ) (place : ℕ) (h : Head) (r : Read) {held : Bool} (w : Wanted) → reading r ≡ readAt tape place
-    → held ≡ settingsHold (h .dimensions) (h .capacity) (h .directions) → ((columns : List ℕ) → wants w columns ≡ asked held (saying (r .message)) columns)
-    → WishAt tape place h w (r .columns) (r .next)
-wish-there tape place h r {held} w e f g =
-    record {
-      asks = λ columns. wanted-asked tape place held r w e g columns ∙ ap (λ (b : Bool). asked b (readAt tape place .says) columns) f;
-      columns = read-columns r e;
-      next = read-next r e;
-      six = rw (read-columns r e) (read-six tape place (found tape place));
-      bounded = λ n q. quote-bounded tape place held r w e g q;
-    }
+use Rattle.turn_lines.specs.declared.Step.{Step}
+use Rattle.tape.specs.Steps.{Stepped, taken}
 
 -- what is no quote is taken without columns
 taken-unquoted : (w : Wanted) (columns : List ℕ) (k : Player) → OneOf (1 ∷ 2 ∷ 3 ∷ 4 ∷ 5 ∷ 6 ∷ 7 ∷ 8 ∷ 9 ∷ 10 ∷ []) (tagOf the-type w) → taken w columns k ≡ unquoted w k

@@ -10,7 +10,7 @@ use Rattle.model.specs.Promises.{world}
 use Rattle.asking.specs.Asking.{Asked, finished, unread, misplaced, request, asked}
 use Rattle.tape_model.specs.Play.{playAsked, playAt, Player, bookMake, begun, bookPlay}
 use Rattle.turn_lines.specs.Turns.{player}
-use Rattle.tape.specs.declared.Step.{Step}
+use Rattle.turn_lines.specs.declared.Step.{Step}
 use Rattle.tape.specs.Steps.{Stepped}
 
 module _ (k : Player) (c : Reached (k .world)) where

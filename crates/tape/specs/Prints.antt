@@ -11,7 +11,7 @@ use Rattle.claims.specs.Places.{SamePlaces}
 use Rattle.model.specs.Promises.{world}
 use Rattle.tape_model.specs.Play.{Player, on}
 use Rattle.tape_model.specs.Streams.{ready}
-use Rattle.tape.specs.declared.Step.{Step}
+use Rattle.turn_lines.specs.declared.Step.{Step}
 use Rattle.tape.specs.Steps.{Stepped}
 
 -- the player that a step leaves: it keeps its cells for positions

@@ -1,31 +1,18 @@
 -- One frame played on lent tables, bytes and text: what the player hands back and what it leaves.
 use mathlib.Core.Path.{_≡_}
-use Prim.Native.Nat.{ℕ, _≤_}
+use Prim.Native.Nat.{ℕ}
 use mathlib.Core.List.{List}
 use lib.ListN.{length, take}
 use Rattle.lists.specs.Lists.{laid}
-use Rattle.head.specs.declared.Head.{Head}
 use Rattle.head.specs.Refusals.{numberOf}
-use Rattle.head.specs.Heads.{settingsHold}
-use Rattle.frames.specs.Frames.{readAt}
 use Rattle.model.specs.Rows.{Tables}
 use Rattle.model.specs.Calls.{Call}
 use Rattle.asking.specs.declared.Wanted.{Wanted}
 use Rattle.asking.specs.declared.Wanted.the-variants.{Quote, Look, Past, Watch, End, Pair, Unpair, Open, Nothing, Refused, Misplaced}
-use Rattle.asking.specs.Asking.{asked}
-use Rattle.asking.specs.Placing.{wants}
 use Rattle.tape_model.specs.Play.{Player, bookPlay}
 use Rattle.turn_lines.specs.Turns.{Effect, made}
 use Rattle.turns.specs.Wishes.{unquoted}
-use Rattle.tape.specs.declared.Step.{Step}
-
--- what stands at a place of a tape is wanted of a player with this head, with at most six columns, and ends before next
-pub record WishAt (tape : List ℕ) (place : ℕ) (h : Head) (w : Wanted) (x : List ℕ) (after : ℕ) : Type 0 where
-  pub asks : (columns : List ℕ) → wants w columns ≡ asked (settingsHold (h .dimensions) (h .capacity) (h .directions)) (readAt tape place .says) columns
-  pub columns : x ≡ readAt tape place .columns
-  pub next : after ≡ readAt tape place .next
-  pub six : length x ≡ 6
-  pub bounded : (n : ℕ) → w ≡ Quote n → n ≤ 6
+use Rattle.turn_lines.specs.declared.Step.{Step}
 
 -- what playing the frame at a place hands back, and leaves of tables, bytes and text
 pub record Stepped (tape : List ℕ) (place : ℕ) (k : Player) (before : List ℕ) (r : Step) (t' : Tables) (bytes' after : List ℕ) : Type 0 where

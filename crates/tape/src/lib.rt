@@ -2,15 +2,11 @@
 mod playing;
 mod waiting;
 
-use head::Answer;
-use head::Head;
-pub use playing::Wish;
 pub use playing::play;
-pub use playing::step_of;
-pub use playing::wish_at;
 pub use sizes::CHANGE_BYTES;
 use sizes::CHANGE_FRAME;
 use sizes::PLACES;
+pub use turn_lines::Step;
 pub use waiting::ready;
 
 // How many bytes the line of a change has at most: its letter, desk two's 2 and newline, and a space and ten digits for n and the position.
@@ -21,14 +17,3 @@ pub const LIST_LINE: usize = 3 + 11 * (2 + PLACES);
 
 // How many bytes the lines of any frame have room in: the longest list, and for every seven bytes of changes a line.
 pub const TEXT_BYTES: usize = LIST_LINE + CHANGE_LINE * (CHANGE_BYTES / CHANGE_FRAME);
-
-// What playing a frame hands back: the frame's answer, as its line says it (Accepted at the end of the tape), whether the
-// tape is over, the place behind the frame, how many bytes of text, and the head and the watches for the next one.
-pub struct Step {
-    pub answer: Answer,
-    pub over: bool,
-    pub next: usize,
-    pub count: usize,
-    pub head: Head,
-    pub watches: [u64; 8],
-}

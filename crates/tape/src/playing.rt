@@ -1,63 +1,15 @@
 // The player: reads the frame at a place, judges its place on the tape, makes its call, and lays its lines.
 ghost use mathlib.Core.Path.{_≡_};
-ghost use lib.Dec.{eqb};
 ghost use Rattle.model.specs.Promises.{tables};
 ghost use Rattle.turn_lines.specs.Turns.{player};
-ghost use Rattle.tape.specs.Steps.{WishAt, Stepped};
+ghost use Rattle.tape.specs.Steps.{Stepped};
 use crate::CHANGE_BYTES;
-use crate::Step;
 use crate::TEXT_BYTES;
 use asking::Wanted;
-use asking::placed;
-use frames::read_at;
+use asking::wish_at;
 use head::Head;
-use turn_lines::Turn;
-
-// What stands at a place of a tape: what it wants of the player, the columns of its quote, and the place behind it.
-pub struct Wish {
-    pub wanted: Wanted,
-    pub columns: [u32; 6],
-    pub next: usize,
-}
-
-// Reads the frame at a place of a tape, and judges its place on the tape.
-pub fn wish_at(tape: &[u8], place: usize, head: Head) -> Wish
-    ensures { λ r. ⌜ WishAt (now (tape .entry)) place head (r .wanted) (r .columns) (r .next) ⌝ }
-{
-    let read = read_at(tape, place);
-    let quote = read.columns;
-    let found = read.message;
-    Wish {
-        wanted: placed(head.settings_hold(), found),
-        columns: quote,
-        next: read.next,
-    }
-}
-
-// The step that a turn makes: the tape is over where nothing could be read, and the place stayed.
-pub fn step_of(place: usize, next: usize, turn: Turn) -> Step
-    ensures { λ r. ⌜ r ≡ record {
-      answer = turn .answer;
-      over = eqb next place;
-      next = next;
-      count = turn .count;
-      head =
-          turn .head;
-      watches = turn .watches;
-    } ⌝ }
-{
-    let answer = turn.answer;
-    let head = turn.head;
-    let watches = turn.watches;
-    Step {
-        answer,
-        over: next == place,
-        next,
-        count: turn.count,
-        head,
-        watches,
-    }
-}
+use turn_lines::Step;
+use turn_lines::step_of;
 
 // Plays the frame at a place of a tape, on any book: its lines are laid at the start of the text.
 pub fn play(

@@ -10,7 +10,7 @@ use Rattle.frames.proofs.Reading.{Found, beyond, at-end, unknown, cut, whole, f
 use Rattle.asking.specs.Asking.{Asked, finished, unread, misplaced, request, asked}
 use Rattle.tape_model.specs.Play.{playAsked, playAt, Player, bookMake, begun, bookPlay}
 use Rattle.model.specs.Rows.{Tables}
-use Rattle.tape.specs.declared.Step.{Step}
+use Rattle.turn_lines.specs.declared.Step.{Step}
 use Rattle.tape.specs.Steps.{Stepped}
 use Rattle.tape_playback.specs.Played.{left, Advanced}
 

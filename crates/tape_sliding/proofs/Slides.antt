@@ -28,8 +28,9 @@ use Rattle.tape_model.specs.Streams.{ready}
 use Rattle.turn_lines.specs.declared.Turn.{Turn}
 use Rattle.turn_lines.specs.Turns.{player, made, Turned}
 use Rattle.turns.specs.Wishes.{unquoted}
-use Rattle.tape.specs.declared.Step.{Step}
-use Rattle.tape.specs.Steps.{WishAt, Stepped}
+use Rattle.turn_lines.specs.declared.Step.{Step}
+use Rattle.asking.specs.Reading.{WishAt}
+use Rattle.tape.specs.Steps.{Stepped}
 use Rattle.tape.specs.Prints.{left, Prints, goes-on, slides}
 use Rattle.tape.proofs.Plays.{quote-played, other-played}
 use Rattle.tape.proofs.Reached.{step-reached}

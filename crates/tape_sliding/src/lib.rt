@@ -7,13 +7,13 @@ ghost use Rattle.sliding.specs.Laid.{Roomy};
 ghost use Rattle.turn_lines.specs.Turns.{textBytes, player};
 ghost use Rattle.tape_sliding.specs.Steps.{StepSlid};
 use asking::Wanted;
+use asking::wish_at;
 use head::Head;
 use sliding::quote_sliding;
 use tape::CHANGE_BYTES;
-use tape::Step;
-use tape::step_of;
-use tape::wish_at;
+use turn_lines::Step;
 use turn_lines::put_quote;
+use turn_lines::step_of;
 use turns::make_other;
 
 // What playing a frame hands back, and by how many places the rows slid.

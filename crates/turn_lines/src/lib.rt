@@ -1,7 +1,8 @@
-// The lines of a call of a tape that was made, laid at the start of a lent text.
+// The lines of a call of a tape that was made, laid at the start of a lent text, and the step that this makes along the tape.
 ghost use mathlib.Core.Path.{_≡_};
 ghost use mathlib.Core.List.{List, _++_};
 ghost use Prim.Native.Nat.{ℕ, _+_, _≤_};
+ghost use lib.Dec.{eqb};
 ghost use lib.ListN.{length, take};
 ghost use Rattle.head.specs.declared.Head.{Head};
 ghost use Rattle.head.specs.Refusals.{number, numberOf, granted};
@@ -141,6 +142,42 @@ pub fn put_refusal(refusal: Refusal, head: Head, watches: [u64; 8], text: &mut [
     Turn {
         answer: Answer::Refused(refusal),
         count: text::put_line(b'R', &number, text),
+        head,
+        watches,
+    }
+}
+
+// What playing a frame hands back: the frame's answer, as its line says it (Accepted at the end of the tape), whether the
+// tape is over, the place behind the frame, how many bytes of text, and the head and the watches for the next one.
+pub struct Step {
+    pub answer: Answer,
+    pub over: bool,
+    pub next: usize,
+    pub count: usize,
+    pub head: Head,
+    pub watches: [u64; 8],
+}
+
+// The step that a turn makes: the tape is over where nothing could be read, and the place stayed.
+pub fn step_of(place: usize, next: usize, turn: Turn) -> Step
+    ensures { λ r. ⌜ r ≡ record {
+      answer = turn .answer;
+      over = eqb next place;
+      next = next;
+      count = turn .count;
+      head =
+          turn .head;
+      watches = turn .watches;
+    } ⌝ }
+{
+    let answer = turn.answer;
+    let head = turn.head;
+    let watches = turn.watches;
+    Step {
+        answer,
+        over: next == place,
+        next,
+        count: turn.count,
         head,
         watches,
     }

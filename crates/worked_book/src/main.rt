@@ -1,14 +1,16 @@
 // A worked book: opens, quotes, previews, looks, looks back, watches, ends and audits on real buffers, and judges and prints
 // each answer; then it draws the refusals that the calls give, works a pair and two desks, writes and reads a frame, and
 // plays one.
-use drawn_refusals::limits;
-use drawn_refusals::refusals;
-use drawn_refusals::refuse_opening;
+mod desks;
+mod pair;
+mod refusals;
+
+use desks::show_desks;
 use head::Desk;
 use judged_calls::Worked;
 use judged_calls::open;
-use judged_calls::take;
-use judged_calls::take_all;
+use judged_calls::quote;
+use judged_calls::quote_all;
 use judged_frames::play_opening;
 use judged_frames::there_and_back;
 use judged_reads::audit;
@@ -17,21 +19,23 @@ use judged_reads::past;
 use judged_reads::preview;
 use judged_reads::tell;
 use judged_watches::watch;
+use pair::show_pair;
+use refusals::limits;
+use refusals::refusals;
+use refusals::refuse_opening;
 use short_loans::short_lists;
 use short_loans::short_outputs;
-use worked_desks::show_desks;
-use worked_pair::show_pair;
 
 // Plays 01's worked example with desk two's watch of 3 beside desk one's of 2, and hands back the book that it leaves.
 fn play_example() -> Worked {
     let opened = open(5);
-    let five = take_all(opened, &[5, 5, 3, 8, 4, 4, 7, 2, 4, 4]);
+    let five = quote_all(opened, &[5, 5, 3, 8, 4, 4, 7, 2, 4, 4]);
     let one = watch(five, Desk::One, 2);
     let both = watch(one, Desk::Two, 3);
     preview(both, [6, 6]);
-    let six = take(both, [6, 6]);
+    let six = quote(both, [6, 6]);
     look(six, 5);
-    take_all(six, &[2, 9, 4, 3])
+    quote_all(six, &[2, 9, 4, 3])
 }
 
 // Plays 01's worked example, reads and audits the book that it leaves, draws the refusals, and works the rest.

@@ -3,12 +3,12 @@
 use head::Desk;
 use judged_calls::Worked;
 use judged_calls::open;
-use judged_calls::take_all;
-use judged_pair::due;
-use judged_pair::pair;
-use judged_pair::unpair;
+use judged_calls::quote_all;
 use judged_reads::audit;
 use judged_reads::look;
+use judged_watches::due;
+use judged_watches::pair;
+use judged_watches::unpair;
 use judged_watches::watch;
 
 // What is due, and its refusal where a cell is wanting: 13. A pair that could not be set is 12 to a look, though nothing
@@ -38,11 +38,11 @@ pub fn show_pair() {
     let opened = open(6);
     let set = pair(opened, 3, 5);
     let watched = watch(set, Desk::Two, 2);
-    let four = take_all(watched, &[3, 3, 4, 4, 1, 5, 2, 2]);
+    let four = quote_all(watched, &[3, 3, 4, 4, 1, 5, 2, 2]);
     ask(four);
     pair(four, 1, 5);
     pair(four, 4, 3);
     pair(four, 2, 2);
-    let seven = take_all(four, &[9, 9, 1, 1, 5, 5]);
+    let seven = quote_all(four, &[9, 9, 1, 1, 5, 5]);
     end_pair(seven);
 }

@@ -1,8 +1,8 @@
 -- `wish_at` meets its contract: what was read is judged by the head.
-use Rattle.tape.proofs.Plays.{wish-there}
+use Rattle.asking.proofs.Reading.{wish-there}
 use borrow.Author.Needs.{needs}
-use Rattle.tape.proofs.playing.wish_at.Statement.{statement}
-use Rattle.tape.proofs.playing.wish_at.Tie as tie
+use Rattle.asking.proofs.wish_at.Statement.{statement}
+use Rattle.asking.proofs.wish_at.Tie as tie
 
 read-at-requires : tie.Need-read-at-requires
 read-at-requires c κs = search needs

@@ -3,7 +3,7 @@ use head::Desk;
 use head::Head;
 use head::Watch;
 use judged_calls::Worked;
-use judged_calls::take;
+use judged_calls::quote;
 use judged_lines::print_answer;
 use judged_reads::look;
 use judged_reads::past;
@@ -93,8 +93,8 @@ pub fn limits() {
     let full = at_limits();
     let mut narrow = full;
     narrow.head.dimensions = 1;
-    take(narrow, [1, 2]);
+    quote(narrow, [1, 2]);
     watch(full, Desk::One, 8);
     watch(full, Desk::Two, 8);
-    take(full, [1, 2]);
+    quote(full, [1, 2]);
 }

@@ -2,8 +2,8 @@
 use native.Mathlib.Omega.{arith}
 use Prim.Native.Nat.{_-_, _≤_}
 use borrow.Author.Needs.{needs}
-use Rattle.worked_desks.proofs.watch_up_to.Statement.{statement}
-use Rattle.worked_desks.proofs.watch_up_to.Tie as tie
+use Rattle.worked_book.proofs.desks.watch_up_to.Statement.{statement}
+use Rattle.worked_book.proofs.desks.watch_up_to.Tie as tie
 
 abbrev Inv-loop : tie.InvT-loop
 Inv-loop desk most now₀ n₀ now n = n ≤ most

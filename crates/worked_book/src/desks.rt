@@ -2,7 +2,7 @@
 use head::Desk;
 use judged_calls::Worked;
 use judged_calls::open;
-use judged_calls::take;
+use judged_calls::quote;
 use judged_watches::end;
 use judged_watches::watch;
 
@@ -26,5 +26,5 @@ pub fn show_desks() {
     let seven = end(eight, Desk::One, 5);
     let again = watch(seven, Desk::Two, 4);
     watch(again, Desk::One, 5);
-    take(again, [5, 5]);
+    quote(again, [5, 5]);
 }

@@ -2,8 +2,8 @@
 use lib.ListN.{length-take}
 use native.Mathlib.Omega.{arith}
 use borrow.Author.Needs.{needs}
-use Rattle.judged_pair.proofs.print_rows.Statement.{statement}
-use Rattle.judged_pair.proofs.print_rows.Tie as tie
+use Rattle.judged_watches.proofs.print_rows.Statement.{statement}
+use Rattle.judged_watches.proofs.print_rows.Tie as tie
 
 add-end : tie.Need-add-end
 add-end c = search needs

@@ -1,10 +1,10 @@
--- `take_all` meets its contract: it goes through the quotes.
+-- `quote_all` meets its contract: it goes through the quotes.
 use Prim.Native.Nat.{_-_, _≤_}
 use native.Mathlib.Omega.{arith}
 use lib.ListN.{length}
 use borrow.Author.Needs.{needs}
-use Rattle.judged_calls.proofs.take_all.Statement.{statement}
-use Rattle.judged_calls.proofs.take_all.Tie as tie
+use Rattle.judged_calls.proofs.quote_all.Statement.{statement}
+use Rattle.judged_calls.proofs.quote_all.Tie as tie
 
 abbrev Inv-loop : tie.InvT-loop
 Inv-loop quotes now₀ i₀ now i = i ≤ length quotes
@@ -33,8 +33,8 @@ mul-t11 c = search needs
 shared-slice-read-t13 : tie.Need-shared-slice-read-t13 Inv-loop μ-loop
 shared-slice-read-t13 c = search needs
 
-take-requires : tie.Need-take-requires Inv-loop μ-loop
-take-requires c κs = search needs
+quote-requires : tie.Need-quote-requires Inv-loop μ-loop
+quote-requires c κs = search needs
 
 add-i : tie.Need-add-i Inv-loop μ-loop
 add-i c = search needs
@@ -48,8 +48,8 @@ loop-again c = search needs
 returns : tie.Need-returns Inv-loop μ-loop
 returns c = search needs
 
-pub take-all-spec : {M : Type 1} → statement M
-take-all-spec =
+pub quote-all-spec : {M : Type 1} → statement M
+quote-all-spec =
     tie.close
     (tie.spec
     Inv-loop
@@ -61,7 +61,7 @@ take-all-spec =
     add-t7
     mul-t11
     shared-slice-read-t13
-    take-requires
+    quote-requires
     add-i
     loop-less
     loop-again
