@@ -301,7 +301,7 @@ def shared_walk(name):
         context.remove(i)
     w.exits(["Tokens", f"‵ (flft κ{low(records)} q{low(records)})"], gather)
     w.add(f"  module _ {w.fits()}",
-          f"      (C : Calls 𝓤 H) (Λ : Loops 𝓤 H) (fm : FmC 𝓤 H (W .laws) C) (known-numbers : Triple 𝓤 (C #watches·numbers) (Numbers 𝓤 H A mem run)) (known-callee : Triple 𝓤 (C #lending·{name}-lent) (Callee 𝓤 H A mem run)) where")
+          f"      (C : Calls 𝓤 H) (Λ : Loops 𝓤 H) (fm : FmC 𝓤 H (W .laws) C) (known-numbers : Triple 𝓤 (C #watch-records·numbers) (Numbers 𝓤 H A mem run)) (known-callee : Triple 𝓤 (C #lending·{name}-lent) (Callee 𝓤 H A mem run)) where")
     w.enter()
     off = k + len(w.params) + 1
     here = w.place(w.local["records"], off)
@@ -322,7 +322,7 @@ def shared_walk(name):
     w.answered(order, "Tokens", "lasts callee.ended lives (asked r) zs", "Promised r j zs", "said", w.place(0, kept + 3))
     places = [w.place(i, kept + 3) for i in range(w.locals)]
     w.leave(places[::-1], [(p, p + 1) for p in places], [0, kept + 1] + list(range(kept, 0, -1)), order, f"({name}-records ys {w.of} e said)", 6)
-    w.close("shared-records", [("known-numbers", "#watches·numbers", "Numbers", "numbers"), ("known-callee", f"#lending·{name}-lent", "Callee", "callee")])
+    w.close("shared-records", [("known-numbers", "#watch-records·numbers", "Numbers", "numbers"), ("known-callee", f"#lending·{name}-lent", "Callee", "callee")])
     return w.lines
 
 

@@ -9,7 +9,7 @@ use Rattle.model.specs.Calls.{Lending, Lent, Seen, World, worldFirst}
 use Rattle.claims.specs.Claims.{AllMade, Refines}
 use Rattle.model.proofs.Desks.{desk-of-record, size-of-record}
 use Rattle.claims.proofs.Refining.{calls-refine}
-use Rattle.watches.specs.Records.{recordNumber, watched}
+use Rattle.watch_records.specs.Records.{recordNumber, watched}
 
 -- what the model is told of lent tables and records
 abbrev pub told : Tables → List Record.Watch → Lent

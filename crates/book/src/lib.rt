@@ -1,5 +1,5 @@
 // The public calls on a book, with the watches in a lent list of records: the opening here, the others handed on.
-ghost use Rattle.watches.specs.Records.{watched};
+ghost use Rattle.watch_records.specs.Records.{watched};
 ghost use Rattle.model.specs.Promises.{tables, Opened};
 pub use changed_records::end;
 pub use changed_records::watch;
@@ -13,9 +13,9 @@ pub use shared_records::pair;
 pub use shared_records::preview;
 pub use shared_records::quote;
 pub use shared_records::unpair;
-pub use watches::find_record;
-use watches::numbers;
-use watches::store;
+pub use watch_records::find_record;
+use watch_records::numbers;
+use watch_records::store;
 
 // Begins a new book: the head is fresh, the places of the tables are zeros, and the eight records are empty.
 pub fn open(

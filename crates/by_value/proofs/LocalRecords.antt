@@ -26,8 +26,8 @@ use denote.Struct.Laws as LL
 use Rattle.head.specs.declared.Watch.{Watch}
 use Rattle.head.proofs.Watch as T
 use Rattle.head.proofs.Watch.Laws as T′
-use Rattle.watches.proofs.Lending.{at-name}
-use Rattle.watches.proofs.LocalArray.{array-taken-apart, array-put-together}
+use Rattle.watch_records.proofs.Lending.{at-name}
+use Rattle.watch_records.proofs.LocalArray.{array-taken-apart, array-put-together}
 
 -- the machine values of eight records
 abbrev pub recorded : List Watch → List Val

@@ -4,7 +4,7 @@ ghost use Rattle.lists.specs.Lists.{contains};
 ghost use Rattle.head.specs.Desks.{watchOf};
 ghost use Rattle.model.specs.Book.{standing};
 ghost use Rattle.model.specs.Promises.{tables, Quoted, Previewed, Paired, Unpaired};
-ghost use Rattle.watches.specs.Records.{watched};
+ghost use Rattle.watch_records.specs.Records.{watched};
 use head::Desk;
 use head::Effect;
 use head::Head;
@@ -73,7 +73,7 @@ pub fn find_record(records: [Watch; 8], desk: Desk, n: u32) -> bool
     ensures { λ r. ⌜ r ≡ contains (watchOf desk n) (standing (watched records)) ⌝ }
 {
     let held = records;
-    watches::find_record(&held, desk, n)
+    watch_records::find_record(&held, desk, n)
 }
 
 // Sets the watch of a pair.

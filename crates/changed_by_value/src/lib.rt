@@ -1,7 +1,7 @@
 // The calls of a book that may change its records, for callers that hold plain values: the eight records go in and come
 // back by value.
 ghost use Rattle.model.specs.Promises.{tables, Opened, Watched, Ended};
-ghost use Rattle.watches.specs.Records.{watched};
+ghost use Rattle.watch_records.specs.Records.{watched};
 use head::Desk;
 use head::Head;
 use head::Reply;

@@ -37,15 +37,16 @@ use Rattle.head.proofs.Desk as D
 use Rattle.head.proofs.Desk.Laws as D′
 use Rattle.head.proofs.Watch as T
 use Rattle.model.specs.Book.{standing}
-use Rattle.watches.specs.Records.{watched, stored, Vacant}
-use Rattle.watches.proofs.DeskValues.{desk-value, desk-values, is-desk}
-use Rattle.watches.proofs.Lending.{at-name}
-use Rattle.watches.proofs.Calling.{Store, to-store}
-use Rattle.watches.proofs.insert_record as inserting
-use Rattle.watches.proofs.insert_record.Symbol.{name as #watches·insert-record}
-use Rattle.watches.proofs.remove_record as removing
-use Rattle.watches.proofs.remove_record.Symbol.{name as #watches·remove-record}
-use Rattle.watches.proofs.store.Symbol.{name as #watches·store}
+use Rattle.watch_records.specs.Records.{watched, stored}
+use Rattle.watches.specs.Vacancy.{Vacant}
+use Rattle.watch_records.proofs.DeskValues.{desk-value, desk-values, is-desk}
+use Rattle.watch_records.proofs.Lending.{at-name}
+use Rattle.watch_records.proofs.Calling.{Store, to-store}
+use Rattle.watch_records.proofs.insert_record as inserting
+use Rattle.watch_records.proofs.insert_record.Symbol.{name as #watch-records·insert-record}
+use Rattle.watch_records.proofs.remove_record as removing
+use Rattle.watch_records.proofs.remove_record.Symbol.{name as #watch-records·remove-record}
+use Rattle.watch_records.proofs.store.Symbol.{name as #watch-records·store}
 
 module _ {M : Type 1} (𝓤 : URA M) (H : Heap 𝓤) (A : Atoms 𝓤) (mem : Memory → SProp 𝓤) (run : Routine → Fun 𝓤) where
   -- the contracts of `insert_record` and `remove_record`
@@ -87,8 +88,8 @@ module _ {M : Type 1} (𝓤 : URA M) (H : Heap 𝓤) (A : Atoms 𝓤) (κ : Lft)
       (ex 𝓤 (λ (zs : List Watch × Else). sep 𝓤 (sem 𝓤 H A (Lasting none (zs .0))) (fact 𝓤 (φ (watched (zs .0))))))))
 
   module _ (W : Given 𝓤 H A) (mem : Memory → SProp 𝓤) (run : Routine → Fun 𝓤) (C : Calls 𝓤 H) where
-    pub stores : (ns : List ℕ) (u : Val) → Is (Array u64 8) ns (u ∷ []) → Triple 𝓤 (C #watches·store) (Store 𝓤 H A mem run)
-        → ent 𝓤 (sep 𝓤 (A .lft κ q) (sem 𝓤 H A Mutable)) (C #watches·store (slice ∷ u ∷ []) (Changed One one (λ l. l ≡ stored ns (watched ys))))
+    pub stores : (ns : List ℕ) (u : Val) → Is (Array u64 8) ns (u ∷ []) → Triple 𝓤 (C #watch-records·store) (Store 𝓤 H A mem run)
+        → ent 𝓤 (sep 𝓤 (A .lft κ q) (sem 𝓤 H A Mutable)) (C #watch-records·store (slice ∷ u ∷ []) (Changed One one (λ l. l ≡ stored ns (watched ys))))
     stores ns u is known =
         via 𝓤 (Store 𝓤 H A mem run .pre (to-store 𝓤 H A mem run κ q b o ys γ ns u))
         (qed W (‵ (flft κ q) ∷ ‵ Mutable ∷ []) ∵ nothing ! $ move ! (1 ∷ 0 ∷ []) $ join ! $ move ! (1 ∷ []) $ nothing ! $ owned ! (Array u64 8) (Is (Array u64 8)) (array-makes 𝓤 H A W u64 (uint-makes 𝓤 H A W w64) 8) ns (u ∷ []) is $
@@ -109,14 +110,14 @@ module _ {M : Type 1} (𝓤 : URA M) (H : Heap 𝓤) (A : Atoms 𝓤) (κ : Lft)
           fjoin ! $ owned ! D.the-row (Is D.the-row) (EL.makes D.the-type D′.the-plain 𝓤 H A) desk (desk-values desk) (is-desk desk) $
           fjoin ! $ move ! (1 ∷ 0 ∷ []) $ fjoin ! $ move ! (1 ∷ 0 ∷ []) $ join ! $ done !
 
-      pub inserts : (8 ≤ length ys) × Vacant (watched ys) → Triple 𝓤 (C #watches·insert-record) (Insert 𝓤 H A mem run)
-          → ent 𝓤 (sep 𝓤 (A .lft κ q) (sem 𝓤 H A Mutable)) (C #watches·insert-record (slice ∷ desk-value desk ∷ vint w32 n ∷ []) (Changed Two two (λ l. l ≡ padded 8 (insert (watchOf desk n) (standing (watched ys))) (watched ys))))
+      pub inserts : (8 ≤ length ys) × Vacant (watched ys) → Triple 𝓤 (C #watch-records·insert-record) (Insert 𝓤 H A mem run)
+          → ent 𝓤 (sep 𝓤 (A .lft κ q) (sem 𝓤 H A Mutable)) (C #watch-records·insert-record (slice ∷ desk-value desk ∷ vint w32 n ∷ []) (Changed Two two (λ l. l ≡ padded 8 (insert (watchOf desk n) (standing (watched ys))) (watched ys))))
       inserts asked known =
           let to : Insert 𝓤 H A mem run .Ghost = (((κ, tt), (q, tt), tt, x, at), tt) in
           via 𝓤 (Insert 𝓤 H A mem run .pre to) (qed W (‵ (flft κ q) ∷ ‵ Mutable ∷ []) ∵ says ! asked $ by ! handed) (known to)
 
-      pub removes : 8 ≤ length ys → Triple 𝓤 (C #watches·remove-record) (Remove 𝓤 H A mem run)
-          → ent 𝓤 (sep 𝓤 (A .lft κ q) (sem 𝓤 H A Mutable)) (C #watches·remove-record (slice ∷ desk-value desk ∷ vint w32 n ∷ []) (Changed Two two (λ l. l ≡ padded 8 (without (watchOf desk n) (standing (watched ys))) (watched ys))))
+      pub removes : 8 ≤ length ys → Triple 𝓤 (C #watch-records·remove-record) (Remove 𝓤 H A mem run)
+          → ent 𝓤 (sep 𝓤 (A .lft κ q) (sem 𝓤 H A Mutable)) (C #watch-records·remove-record (slice ∷ desk-value desk ∷ vint w32 n ∷ []) (Changed Two two (λ l. l ≡ padded 8 (without (watchOf desk n) (standing (watched ys))) (watched ys))))
       removes asked known =
           let to : Remove 𝓤 H A mem run .Ghost = (((κ, tt), (q, tt), tt, x, at), tt) in
           via 𝓤 (Remove 𝓤 H A mem run .pre to) (qed W (‵ (flft κ q) ∷ ‵ Mutable ∷ []) ∵ says ! asked $ by ! handed) (known to)

@@ -13,7 +13,7 @@ use types.Kit.{Goal, Given, Item, Post, ‵, post, anyQ, runs, lands, settles, S
 use types.Run.{Opd, first, branches, skips}
 use denote.RattleType.{RattleType}
 use denote.Slice.{slice-vals, MutSlice, codedHoleys, heres, finally, res-finally}
-use Rattle.watches.proofs.Lending.{at-name}
+use Rattle.watch_records.proofs.Lending.{at-name}
 
 module _ {M : Type 1} {𝓤 : URA M} {H : Heap 𝓤} {A : Atoms 𝓤} {K : Type 0} {W : Given 𝓤 H A} {Γ : List (Item 𝓤)} {E : Env 𝓤 H} {C : Calls 𝓤 H} {Λ : Loops 𝓤 H} {q : Post 𝓤 H} {rest : Body} where
   -- an arm is run where the test holds, and the rest follows when the call that ends it has its result laid down; where the test fails, the rest follows at once

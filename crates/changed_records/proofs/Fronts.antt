@@ -19,7 +19,8 @@ use Rattle.head.specs.Replies.{outcome}
 use Rattle.head.proofs.Numbers.{zero-passed}
 use Rattle.model.specs.Rows.{Tables}
 use Rattle.model.specs.Book.{shortTables, shortLoan, standing, watchfulAnswer, replyOf, openAnswer, openReply, openTables, openWatches, watchBytes, watchAnswer, watchReply, watchWatches, watchOut, endAnswer, endReply, endWatches}
-use Rattle.watches.specs.Records.{recordNumber, watched, firstEight, stored, Vacant}
+use Rattle.watch_records.specs.Records.{recordNumber, watched, firstEight, stored}
+use Rattle.watches.specs.Vacancy.{Vacant}
 use Rattle.model.specs.Promises.{Opened, Watched, Ended}
 use Rattle.watching.proofs.Watches.{watch-free}
 use Rattle.lending.specs.declared.Judgement.{Judgement}

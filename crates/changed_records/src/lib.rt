@@ -1,5 +1,5 @@
 // The calls that change the lent watch records and no table: a desk's watch and its end.
-ghost use Rattle.watches.specs.Records.{watched};
+ghost use Rattle.watch_records.specs.Records.{watched};
 ghost use Rattle.model.specs.Promises.{tables, Watched, Ended};
 use head::Desk;
 use head::Head;
@@ -7,9 +7,9 @@ use head::Reply;
 use head::Watch;
 use lending::end_lent;
 use lending::watch_lent;
-use watches::insert_record;
-use watches::numbers;
-use watches::remove_record;
+use watch_records::insert_record;
+use watch_records::numbers;
+use watch_records::remove_record;
 
 // Sets a desk's watch of n and writes a join for each position of its list; hands back how many bytes.
 pub fn watch(

@@ -13,7 +13,7 @@ use Rattle.head.specs.declared.Effect.{Effect}
 use Rattle.head.specs.declared.Watch.{Watch}
 use Rattle.model.specs.Rows.{Tables}
 use Rattle.model.specs.Book.{shortLoan, standing, tornWatches, watchfulAnswer, quoteRows, quoteHead, quoteBytes, quoteAnswer, quoteReply, quoteTables, quoteOut, previewReply, previewCounts, previewOut, pairBytes, pairAnswer, pairReply, pairOut, unpairAnswer, unpairReply}
-use Rattle.watches.specs.Records.{recordNumber, watched, firstEight}
+use Rattle.watch_records.specs.Records.{recordNumber, watched, firstEight}
 use Rattle.model.specs.Promises.{Quoted, Previewed, Paired, Unpaired}
 
 -- as many numbers as there are records, of eight that are read off them

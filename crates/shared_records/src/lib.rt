@@ -1,5 +1,5 @@
 // The calls that read the lent watch records and change none: the quote, its preview, the watch of the pair and its end.
-ghost use Rattle.watches.specs.Records.{watched};
+ghost use Rattle.watch_records.specs.Records.{watched};
 ghost use Rattle.model.specs.Promises.{tables, Quoted, Previewed, Paired, Unpaired};
 use head::Effect;
 use head::Head;
@@ -9,7 +9,7 @@ use lending::pair_lent;
 use lending::preview_lent;
 use lending::quote_lent;
 use lending::unpair_lent;
-use watches::numbers;
+use watch_records::numbers;
 
 // Takes a quote: writes the changes of every watch, puts the quote's row into the tables, and hands back the next head
 // and how many bytes were written.

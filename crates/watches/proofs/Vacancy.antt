@@ -11,7 +11,7 @@ use Rattle.model.specs.Shares.{countOf, aboveShares, deskFull}
 use Rattle.model.specs.Book.{standing, tornWatches}
 use Rattle.model.proofs.Records.{count-both, not-full}
 use Rattle.model.proofs.Sound.{untorn-records}
-use Rattle.watches.specs.Records.{Vacant}
+use Rattle.watches.specs.Vacancy.{Vacant}
 
 -- both desks together have fewer than eight where one is not full
 bounded : (desk : Desk) (ws : List ℕ) → (countOf desk ws < 3) ⊎ (aboveShares ws < 2) → aboveShares ws ≤ 2 → countOf One ws + countOf Two ws < 8

@@ -25,7 +25,7 @@ use Rattle.listing.specs.declared.Follower.the-variants.{Watch}
 use Rattle.listing.specs.Picked.{Window}
 use Rattle.listing.specs.Joins.{joinOf}
 use Rattle.listing.proofs.Joins.{watch-joins}
-use Rattle.watches.specs.Records.{Vacant}
+use Rattle.watches.specs.Vacancy.{Vacant}
 use Rattle.watches.proofs.Vacancy.{vacant}
 use Rattle.judging.proofs.Answering.{Passed, InRange, in-range, watchful-passed}
 use Rattle.looking.proofs.Listing.{first, cellsOf, window-in, list-cells, start-in}

@@ -51,14 +51,14 @@ use Rattle.head.proofs.Desk.Laws as D′
 use Rattle.head.proofs.Watch as T
 use Rattle.head.proofs.Watch.Laws as T′
 use Rattle.model.specs.Book.{standing}
-use Rattle.watches.specs.Records.{watched}
-use Rattle.watches.proofs.DeskValues.{desk-value, desk-values, is-desk}
-use Rattle.watches.proofs.Lending.{at-name}
+use Rattle.watch_records.specs.Records.{watched}
+use Rattle.watch_records.proofs.DeskValues.{desk-value, desk-values, is-desk}
+use Rattle.watch_records.proofs.Lending.{at-name}
 use Rattle.by_value.proofs.LocalRecords.{recorded, recorded-tells, shows-records, shown-back}
-use Rattle.watches.proofs.find_record as callee
-use Rattle.watches.proofs.find_record.Symbol as callee-def
-use Rattle.watches.proofs.find_record.Symbol.{name as #watches·find-record}
-use Rattle.watches.proofs.find_record.Met as callee-thm
+use Rattle.watch_records.proofs.find_record as callee
+use Rattle.watch_records.proofs.find_record.Symbol as callee-def
+use Rattle.watch_records.proofs.find_record.Symbol.{name as #watch-records·find-record}
+use Rattle.watch_records.proofs.find_record.Met as callee-thm
 use Rattle.by_value.proofs.find_record.Key.{name as #by-value·find-record}
 use Rattle.by_value.proofs.find_record as f
 use Rattle.by_value.proofs.find_record.Statement as stated
@@ -132,7 +132,7 @@ module _ {M : Type 1} (𝓤 : URA M) (H : Heap 𝓤) (A : Atoms 𝓤) (W : Given
       nothing ! $ frame ! $ nothing ! $ nothing ! $ fjoin ! $ nothing ! $ fjoin ! $ nothing ! $ fjoin ! $ frame ! $ owned ! bool (Is bool) (bool-makes 𝓤 H A W) j (c ∷ []) is $ done !
 
   module _ (is-records : Is (Array T.the-row 8) records (recorded records)) (n-fits : n < 2 ^ 32)
-      (C : Calls 𝓤 H) (Λ : Loops 𝓤 H) (fm : FmC 𝓤 H (W .laws) C) (known : Triple 𝓤 (C #watches·find-record) (Callee 𝓤 H A mem run)) where
+      (C : Calls 𝓤 H) (Λ : Loops 𝓤 H) (fm : FmC 𝓤 H (W .laws) C) (known : Triple 𝓤 (C #watch-records·find-record) (Callee 𝓤 H A mem run)) where
     eight : length records ≡ 8
     eight = is-records .1 .0 .1
 
@@ -161,7 +161,7 @@ module _ {M : Type 1} (𝓤 : URA M) (H : Heap 𝓤) (A : Atoms 𝓤) (W : Given
         move ! (15 ∷ 16 ∷ []) $ free1 ! $ move ! (13 ∷ 14 ∷ []) $ free1 ! $ move ! (11 ∷ 12 ∷ []) $ free1 ! $ move ! (9 ∷ 10 ∷ []) $ free1 ! $ move ! (0 ∷ 8 ∷ []) $ free1 ! $ move ! (5 ∷ 6 ∷ []) $ free1 ! $ move ! (3 ∷ 4 ∷ []) $ free1 ! $ free0 ! $
         keep ! [] $ by ! (exits j c has kept)))))))))))))))
 
-module _ {M : Type 1} (𝓤 : URA M) (H : Heap 𝓤) (A : Atoms 𝓤) (W : Given 𝓤 H A) (mem : Memory → SProp 𝓤) (run : Routine → Fun 𝓤) (𝓣 : Tables 𝓤 H) (known : Triple 𝓤 (𝓣 .C #watches·find-record) (Callee 𝓤 H A mem run)) where
+module _ {M : Type 1} (𝓤 : URA M) (H : Heap 𝓤) (A : Atoms 𝓤) (W : Given 𝓤 H A) (mem : Memory → SProp 𝓤) (run : Routine → Fun 𝓤) (𝓣 : Tables 𝓤 H) (known : Triple 𝓤 (𝓣 .C #watch-records·find-record) (Callee 𝓤 H A mem run)) where
   find-record-walks : Walks 𝓤 H A f.ended stayed (WpFn 𝓤 H (𝓣 .C) (𝓣 .Λ) code.function) (f.clauses 𝓤 H A mem run)
   find-record-walks =
       walked 𝓤 H A f.ended stayed (f.clauses 𝓤 H A mem run) (WpFn 𝓤 H (𝓣 .C) (𝓣 .Λ) code.function) (λ κs. (recorded, (desk-values, (uint-vals w32, tt))))
@@ -181,4 +181,4 @@ find-record-spec 𝓤 H 𝓜 𝓖 𝓡 =
     entered 𝓤 H (tripleOf 𝓤 H (𝓖 .A) f.signature (f.spec 𝓤 H (𝓖 .A) (𝓜 .mem) (𝓡 .run)))
     (tables 𝓤 H 𝓜 𝓡 code.env .C) (tables 𝓤 H 𝓜 𝓡 code.env .Λ) #by-value·find-record code.function (code.unfolded 𝓤 H 𝓜 𝓡)
     (find-record-meets 𝓤 H (𝓖 .A) (givenOf 𝓤 H 𝓜 𝓖) (𝓜 .mem) (𝓡 .run) (tablesOf 𝓤 H 𝓜 (tables 𝓤 H 𝓜 𝓡 code.env))
-    (cited 𝓤 H (Callee 𝓤 H (𝓖 .A) (𝓜 .mem) (𝓡 .run)) 𝓜 𝓡 code.env #watches·find-record callee-def.routine code.calls-watches·find-record (callee-thm.met 𝓤 H 𝓜 𝓖 𝓡)))
+    (cited 𝓤 H (Callee 𝓤 H (𝓖 .A) (𝓜 .mem) (𝓡 .run)) 𝓜 𝓡 code.env #watch-records·find-record callee-def.routine code.calls-watch-records·find-record (callee-thm.met 𝓤 H 𝓜 𝓖 𝓡)))

@@ -48,8 +48,8 @@ use Rattle.head.proofs.Watch as T
 use Rattle.head.proofs.Watch.Laws as T′
 use Rattle.model.specs.Rows.{Tables as Lent}
 use Rattle.model.specs.Promises.{tables as lent-tables, Opened}
-use Rattle.watches.specs.Records.{watched}
-use Rattle.watches.proofs.Lending.{at-name}
+use Rattle.watch_records.specs.Records.{watched}
+use Rattle.watch_records.proofs.Lending.{at-name}
 use Rattle.shared_records.proofs.Machines.{machines, spelled}
 use Rattle.by_value.proofs.LocalRecords.{recorded, recorded-tells, lends-records, records-back}
 use Rattle.changed_by_value.proofs.MadeValues.{made, made-value, is-made}

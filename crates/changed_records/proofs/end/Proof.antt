@@ -53,17 +53,17 @@ use Rattle.head.proofs.Reply.Laws as R′
 use Rattle.head.proofs.Watch as T
 use Rattle.model.specs.Rows.{Tables as Lent}
 use Rattle.model.specs.Book.{standing, endReply}
-use Rattle.watches.specs.Records.{watched}
-use Rattle.watches.proofs.LocalArray.{machine}
-use Rattle.watches.proofs.DeskValues.{desk-value, desk-values, is-desk}
-use Rattle.watches.proofs.Lending.{at-name}
-use Rattle.watches.proofs.Calling.{Numbers, reads-records}
-use Rattle.watches.proofs.numbers.Symbol as numbers-def
-use Rattle.watches.proofs.numbers.Symbol.{name as #watches·numbers}
-use Rattle.watches.proofs.numbers.Met as numbers-thm
-use Rattle.watches.proofs.remove_record.Symbol as change-def
-use Rattle.watches.proofs.remove_record.Symbol.{name as #watches·remove-record}
-use Rattle.watches.proofs.remove_record.Met as change-thm
+use Rattle.watch_records.specs.Records.{watched}
+use Rattle.watch_records.proofs.LocalArray.{machine}
+use Rattle.watch_records.proofs.DeskValues.{desk-value, desk-values, is-desk}
+use Rattle.watch_records.proofs.Lending.{at-name}
+use Rattle.watch_records.proofs.Calling.{Numbers, reads-records}
+use Rattle.watch_records.proofs.numbers.Symbol as numbers-def
+use Rattle.watch_records.proofs.numbers.Symbol.{name as #watch-records·numbers}
+use Rattle.watch_records.proofs.numbers.Met as numbers-thm
+use Rattle.watch_records.proofs.remove_record.Symbol as change-def
+use Rattle.watch_records.proofs.remove_record.Symbol.{name as #watch-records·remove-record}
+use Rattle.watch_records.proofs.remove_record.Met as change-thm
 use Rattle.model.specs.Promises.{tables as lent-tables, Ended}
 use Rattle.lending.specs.declared.Judgement.{Judgement}
 use Rattle.lending.specs.Lent.{Judged}
@@ -157,7 +157,7 @@ module _ {M : Type 1} (𝓤 : URA M) (H : Heap 𝓤) (A : Atoms 𝓤) (W : Given
       owned ! R.the-row (Is R.the-row) ((LL.makes R.the-type R′.the-plain) 𝓤 H A) j (machines j) is $ done !
 
   module _ (is-head : Is Hd.the-row head (headed head)) (n-fits : n < 2 ^ 32) (columns-fits : length (columns .now) < 2 ^ 64) (positions-fits : length (positions .now) < 2 ^ 64) (lowerEnds-fits : length (lowerEnds .now) < 2 ^ 64) (upperEnds-fits : length (upperEnds .now) < 2 ^ 64) (room : Room T.the-row (length ys))
-      (C : Calls 𝓤 H) (Λ : Loops 𝓤 H) (fm : FmC 𝓤 H (W .laws) C) (known-numbers : Triple 𝓤 (C #watches·numbers) (Numbers 𝓤 H A mem run)) (known-callee : Triple 𝓤 (C #lending·end-lent) (Callee 𝓤 H A mem run)) (known-change : Triple 𝓤 (C #watches·remove-record) (Remove 𝓤 H A mem run)) where
+      (C : Calls 𝓤 H) (Λ : Loops 𝓤 H) (fm : FmC 𝓤 H (W .laws) C) (known-numbers : Triple 𝓤 (C #watch-records·numbers) (Numbers 𝓤 H A mem run)) (known-callee : Triple 𝓤 (C #lending·end-lent) (Callee 𝓤 H A mem run)) (known-change : Triple 𝓤 (C #watch-records·remove-record) (Remove 𝓤 H A mem run)) where
     walk : ent 𝓤 (onEntry 𝓤 H A f.signature (κ₀, (κ₁, (κ₂, (κ₃, (κ₄, tt))))) (q₀, (q₁, (q₂, (q₃, (q₄, tt))))) x at) (WpFn 𝓤 H C Λ code.function given Post)
     walk =
         qed W Entry ∵ enter ! C Λ code.function given _ $
@@ -196,7 +196,7 @@ module _ {M : Type 1} (𝓤 : URA M) (H : Heap 𝓤) (A : Atoms 𝓤) (W : Given
         keep ! (1 ∷ 2 ∷ 0 ∷ []) $ by ! (exits ys (j .reply) (replied j c has) refl (end-left ys head desk n lent e j said off)))))))))))))))))))))))))))
 
 module _ {M : Type 1} (𝓤 : URA M) (H : Heap 𝓤) (A : Atoms 𝓤) (W : Given 𝓤 H A) (mem : Memory → SProp 𝓤) (run : Routine → Fun 𝓤) (𝓣 : Tables 𝓤 H)
-    (known-numbers : Triple 𝓤 (𝓣 .C #watches·numbers) (Numbers 𝓤 H A mem run)) (known-callee : Triple 𝓤 (𝓣 .C #lending·end-lent) (Callee 𝓤 H A mem run)) (known-change : Triple 𝓤 (𝓣 .C #watches·remove-record) (Remove 𝓤 H A mem run)) where
+    (known-numbers : Triple 𝓤 (𝓣 .C #watch-records·numbers) (Numbers 𝓤 H A mem run)) (known-callee : Triple 𝓤 (𝓣 .C #lending·end-lent) (Callee 𝓤 H A mem run)) (known-change : Triple 𝓤 (𝓣 .C #watch-records·remove-record) (Remove 𝓤 H A mem run)) where
   end-walks : Walks 𝓤 H A f.ended stayed (WpFn 𝓤 H (𝓣 .C) (𝓣 .Λ) code.function) (f.clauses 𝓤 H A mem run)
   end-walks =
       walked 𝓤 H A f.ended stayed (f.clauses 𝓤 H A mem run) (WpFn 𝓤 H (𝓣 .C) (𝓣 .Λ) code.function) (λ κs. (headed, (desk-values, (uint-vals w32, (slice-vals, (slice-vals, (slice-vals, (slice-vals, (slice-vals, tt)))))))))
@@ -217,6 +217,6 @@ end-spec 𝓤 H 𝓜 𝓖 𝓡 =
     entered 𝓤 H (tripleOf 𝓤 H (𝓖 .A) f.signature (f.spec 𝓤 H (𝓖 .A) (𝓜 .mem) (𝓡 .run)))
     (tables 𝓤 H 𝓜 𝓡 code.env .C) (tables 𝓤 H 𝓜 𝓡 code.env .Λ) #changed_records·end code.function (code.unfolded 𝓤 H 𝓜 𝓡)
     (end-meets 𝓤 H (𝓖 .A) (givenOf 𝓤 H 𝓜 𝓖) (𝓜 .mem) (𝓡 .run) (tablesOf 𝓤 H 𝓜 (tables 𝓤 H 𝓜 𝓡 code.env))
-    (cited 𝓤 H (Numbers 𝓤 H (𝓖 .A) (𝓜 .mem) (𝓡 .run)) 𝓜 𝓡 code.env #watches·numbers numbers-def.routine code.calls-watches·numbers (numbers-thm.met 𝓤 H 𝓜 𝓖 𝓡))
+    (cited 𝓤 H (Numbers 𝓤 H (𝓖 .A) (𝓜 .mem) (𝓡 .run)) 𝓜 𝓡 code.env #watch-records·numbers numbers-def.routine code.calls-watch-records·numbers (numbers-thm.met 𝓤 H 𝓜 𝓖 𝓡))
     (cited 𝓤 H (Callee 𝓤 H (𝓖 .A) (𝓜 .mem) (𝓡 .run)) 𝓜 𝓡 code.env #lending·end-lent callee-def.routine code.calls-lending·end-lent (callee-thm.met 𝓤 H 𝓜 𝓖 𝓡))
-    (cited 𝓤 H (Remove 𝓤 H (𝓖 .A) (𝓜 .mem) (𝓡 .run)) 𝓜 𝓡 code.env #watches·remove-record change-def.routine code.calls-watches·remove-record (change-thm.met 𝓤 H 𝓜 𝓖 𝓡)))
+    (cited 𝓤 H (Remove 𝓤 H (𝓖 .A) (𝓜 .mem) (𝓡 .run)) 𝓜 𝓡 code.env #watch-records·remove-record change-def.routine code.calls-watch-records·remove-record (change-thm.met 𝓤 H 𝓜 𝓖 𝓡)))

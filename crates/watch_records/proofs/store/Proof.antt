@@ -45,19 +45,19 @@ use denote.Triple.Walked.{says, Stays, stay-slice, stay-none, walkOf, Walks, end
 use Rattle.head.specs.declared.Watch.{Watch}
 use Rattle.head.proofs.Watch as T
 use Rattle.head.proofs.Watch.Laws as T′
-use Rattle.watches.specs.Records.{watched}
+use Rattle.watch_records.specs.Records.{watched}
 use Rattle.watches.proofs.RecordNumbers.{desk-fits, size-fits, wide}
-use Rattle.watches.proofs.Copying.{recordAt, putIn, length-putIn, all-put}
-use Rattle.watches.proofs.Turns.{goes-on, stops}
-use Rattle.watches.proofs.LocalArray.{machine, taken-apart, put-together}
-use Rattle.watches.proofs.Elements.{machines, is-record, record-out, record-put, number-out, number-back}
-use Rattle.watches.proofs.Whiles.{tests}
-use Rattle.watches.proofs.BigConstants.{big-lit}
-use Rattle.watches.proofs.store.Key.{name as #watches·store}
-use Rattle.watches.proofs.store as f
-use Rattle.watches.proofs.store.Statement as stated
-use Rattle.watches.proofs.store.Code as code
-use Rattle.watches.proofs.store.Code.Mir.{turn-1, t-4}
+use Rattle.watch_records.proofs.Copying.{recordAt, putIn, length-putIn, all-put}
+use Rattle.watch_records.proofs.Turns.{goes-on, stops}
+use Rattle.watch_records.proofs.LocalArray.{machine, taken-apart, put-together}
+use Rattle.watch_records.proofs.Elements.{machines, is-record, record-out, record-put, number-out, number-back}
+use Rattle.watch_records.proofs.Whiles.{tests}
+use Rattle.watch_records.proofs.BigConstants.{big-lit}
+use Rattle.watch_records.proofs.store.Key.{name as #watch-records·store}
+use Rattle.watch_records.proofs.store as f
+use Rattle.watch_records.proofs.store.Statement as stated
+use Rattle.watch_records.proofs.store.Code as code
+use Rattle.watch_records.proofs.store.Code.Mir.{turn-1, t-4}
 
 abbrev stayed : Stays (f.ended .signature .params) (f.ended .kept)
 stayed = (stay-slice (0 ∷ []) tt (plain (λ _. T.the-row)), (stay-none (λ _. Array u64 8) yes, tt))
@@ -207,5 +207,5 @@ pub store-spec : {M : Type 1} → stated.statement M
 unfolding code.routine tablesOf
 store-spec 𝓤 H 𝓜 𝓖 𝓡 =
     entered 𝓤 H (tripleOf 𝓤 H (𝓖 .A) f.signature (f.spec 𝓤 H (𝓖 .A) (𝓜 .mem) (𝓡 .run)))
-    (tables 𝓤 H 𝓜 𝓡 code.env .C) (tables 𝓤 H 𝓜 𝓡 code.env .Λ) #watches·store code.function (code.unfolded 𝓤 H 𝓜 𝓡)
+    (tables 𝓤 H 𝓜 𝓡 code.env .C) (tables 𝓤 H 𝓜 𝓡 code.env .Λ) #watch-records·store code.function (code.unfolded 𝓤 H 𝓜 𝓡)
     (store-meets 𝓤 H (𝓖 .A) (givenOf 𝓤 H 𝓜 𝓖) (𝓜 .mem) (𝓡 .run) (tablesOf 𝓤 H 𝓜 (tables 𝓤 H 𝓜 𝓡 code.env)))

@@ -36,13 +36,13 @@ use Rattle.head.specs.declared.Watch.{Watch}
 use Rattle.head.proofs.Desk as D
 use Rattle.head.proofs.Desk.Laws as D′
 use Rattle.head.proofs.Watch as T
-use Rattle.watches.specs.Records.{watched, firstEight, stored}
-use Rattle.watches.proofs.DeskValues.{desk-values, is-desk}
-use Rattle.watches.proofs.Lending.{at-name, Withheld, lends-shared, comes-back-shared}
-use Rattle.watches.proofs.numbers as numbers
-use Rattle.watches.proofs.numbers.Symbol.{name as #watches·numbers}
-use Rattle.watches.proofs.store as store
-use Rattle.watches.proofs.store.Symbol.{name as #watches·store}
+use Rattle.watch_records.specs.Records.{watched, firstEight, stored}
+use Rattle.watch_records.proofs.DeskValues.{desk-values, is-desk}
+use Rattle.watch_records.proofs.Lending.{at-name, Withheld, lends-shared, comes-back-shared}
+use Rattle.watch_records.proofs.numbers as numbers
+use Rattle.watch_records.proofs.numbers.Symbol.{name as #watch-records·numbers}
+use Rattle.watch_records.proofs.store as store
+use Rattle.watch_records.proofs.store.Symbol.{name as #watch-records·store}
 
 module _ {M : Type 1} (𝓤 : URA M) (H : Heap 𝓤) (A : Atoms 𝓤) (mem : Memory → SProp 𝓤) (run : Routine → Fun 𝓤) where
   -- the contracts of the two
@@ -88,10 +88,10 @@ handed 𝓤 H A W r u desk n is fits =
 
 module _ {M : Type 1} {𝓤 : URA M} {H : Heap 𝓤} {A : Atoms 𝓤} {K : Type 0} {W : Given 𝓤 H A} {Γ : List (Item 𝓤)} {E : Env 𝓤 H} {C : Calls 𝓤 H} {Λ : Loops 𝓤 H} {p : Post 𝓤 H} {xs : List Operand} {d : Place} {rest : Body} where
   -- `numbers` is called with a `&[Watch]`: its result, an array, is the first eight numbers
-  pub calls-numbers : K → FmC 𝓤 H (W .laws) C → (mem : Memory → SProp 𝓤) (run : Routine → Fun 𝓤) → Triple 𝓤 (C #watches·numbers) (Numbers 𝓤 H A mem run) → (κ : Lft) (q : Share) (b o : ℕ) (ys : List Watch) (γ : GName)
+  pub calls-numbers : K → FmC 𝓤 H (W .laws) C → (mem : Memory → SProp 𝓤) (run : Routine → Fun 𝓤) → Triple 𝓤 (C #watch-records·numbers) (Numbers 𝓤 H A mem run) → (κ : Lft) (q : Share) (b o : ℕ) (ys : List Watch) (γ : GName)
       → Opds K W (raw (Numbers 𝓤 H A mem run .pre (to-numbers 𝓤 H A mem run κ q b o ys γ)) ∷ Γ) E xs (slice-vals (at-name b o ys γ))
       → ((u : Val) (r : List ℕ) → Is (Array u64 8) r (u ∷ []) → r ≡ firstEight (watched ys) → Seq K W (‵ (flft κ q) ∷ Γ) (lands C Λ E d u rest p))
-      → Seq K W (‵ (flft κ q) ∷ ‵ (ShrSlice (named 0) κ T.the-row .own (at-name b o ys γ) (slice-vals (at-name b o ys γ))) ∷ Γ) (runs C Λ E (seq (call #watches·numbers xs d) rest) p)
+      → Seq K W (‵ (flft κ q) ∷ ‵ (ShrSlice (named 0) κ T.the-row .own (at-name b o ys γ) (slice-vals (at-name b o ys γ))) ∷ Γ) (runs C Λ E (seq (call #watch-records·numbers xs d) rest) p)
   calls-numbers t fm mem run known κ q b o ys γ os k =
       use2 W (raw (Numbers 𝓤 H A mem run .pre (to-numbers 𝓤 H A mem run κ q b o ys γ))) (goes-numbers 𝓤 H A W mem run κ q b o ys γ) $
       calls-at t fm (Numbers 𝓤 H A mem run) known (to-numbers 𝓤 H A mem run κ q b o ys γ) os (λ u.
@@ -101,20 +101,20 @@ module _ {M : Type 1} {𝓤 : URA M} {H : Heap 𝓤} {A : Atoms 𝓤} {K : Type 
 
 module _ {M : Type 1} {𝓤 : URA M} {H : Heap 𝓤} {A : Atoms 𝓤} {K : Type 0} {W : Given 𝓤 H A} {Γ : List (Item 𝓤)} {E : Env 𝓤 H} {C : Calls 𝓤 H} {Λ : Loops 𝓤 H} {p : Post 𝓤 H} {xs : List Operand} {d : Place} {rest : Body} where
   -- the same with a `&mut [Watch]` in hand, which is lent for the call alone
-  pub reads-records : K → FmC 𝓤 H (W .laws) C → (mem : Memory → SProp 𝓤) (run : Routine → Fun 𝓤) → Triple 𝓤 (C #watches·numbers) (Numbers 𝓤 H A mem run) → (κ : Lft) (q : Share) (b o : ℕ) (ys : List Watch) (γ : GName) → Room T.the-row (length ys)
+  pub reads-records : K → FmC 𝓤 H (W .laws) C → (mem : Memory → SProp 𝓤) (run : Routine → Fun 𝓤) → Triple 𝓤 (C #watch-records·numbers) (Numbers 𝓤 H A mem run) → (κ : Lft) (q : Share) (b o : ℕ) (ys : List Watch) (γ : GName) → Room T.the-row (length ys)
       → ((ν : ℕ) (δ : GName) → Opds K W (raw (Numbers 𝓤 H A mem run .pre (to-numbers 𝓤 H A mem run (ν ∷ []) fullShare b o ys δ)) ∷ ‵ (Withheld T.the-row κ q (ν ∷ []) b o ys γ) ∷ Γ) E xs (slice-vals (at-name b o ys δ)))
       → ((u : Val) (r : List ℕ) → Is (Array u64 8) r (u ∷ []) → r ≡ firstEight (watched ys)
       → Seq K W (‵ (MutSlice (named 0) κ T.the-row .own (at-name b o ys γ) (slice-vals (at-name b o ys γ))) ∷ ‵ (flft κ q) ∷ Γ) (lands C Λ E d u rest p))
-      → Seq K W (‵ (MutSlice (named 0) κ T.the-row .own (at-name b o ys γ) (slice-vals (at-name b o ys γ))) ∷ ‵ (flft κ q) ∷ Γ) (runs C Λ E (seq (call #watches·numbers xs d) rest) p)
+      → Seq K W (‵ (MutSlice (named 0) κ T.the-row .own (at-name b o ys γ) (slice-vals (at-name b o ys γ))) ∷ ‵ (flft κ q) ∷ Γ) (runs C Λ E (seq (call #watch-records·numbers xs d) rest) p)
   reads-records t fm mem run known κ q b o ys γ room os k =
       lft-new t tt (λ ν. move t (1 ∷ 2 ∷ []) $ lends-shared t tt T.the-row (named 0) (named 0) (ν ∷ []) b o ys (λ δ. move t (2 ∷ 0 ∷ []) $
       calls-numbers t fm mem run known (ν ∷ []) fullShare b o ys δ (os ν δ) (λ u r is e. lft-end t tt $ comes-back-shared t tt T.the-row (named 0) b o ys room $ k u r is e)))
 
   -- `store` is called with a `&mut [Watch]`, for good: what is known of the records is their last value
-  pub calls-store : K → FmC 𝓤 H (W .laws) C → (mem : Memory → SProp 𝓤) (run : Routine → Fun 𝓤) → Triple 𝓤 (C #watches·store) (Store 𝓤 H A mem run) → (κ : Lft) (q : Share) (b o : ℕ) (ys : List Watch) (γ : GName) (ns : List ℕ) (u : Val) → Is (Array u64 8) ns (u ∷ [])
+  pub calls-store : K → FmC 𝓤 H (W .laws) C → (mem : Memory → SProp 𝓤) (run : Routine → Fun 𝓤) → Triple 𝓤 (C #watch-records·store) (Store 𝓤 H A mem run) → (κ : Lft) (q : Share) (b o : ℕ) (ys : List Watch) (γ : GName) (ns : List ℕ) (u : Val) → Is (Array u64 8) ns (u ∷ [])
       → Opds K W (raw (Store 𝓤 H A mem run .pre (to-store 𝓤 H A mem run κ q b o ys γ ns u)) ∷ Γ) E xs (only (slice-vals (at-name b o ys γ)) ∷ u ∷ [])
       → ((w : Val) (zs : List Watch) → Is unit tt (w ∷ []) → watched zs ≡ stored ns (watched ys) → length zs ≡ length ys → Seq K W (‵ (flft κ q) ∷ ‵ (finally T.the-row γ zs) ∷ Γ) (lands C Λ E d w rest p))
-      → Seq K W (‵ (flft κ q) ∷ ‵ (MutSlice (named 0) κ T.the-row .own (at-name b o ys γ) (slice-vals (at-name b o ys γ))) ∷ Γ) (runs C Λ E (seq (call #watches·store xs d) rest) p)
+      → Seq K W (‵ (flft κ q) ∷ ‵ (MutSlice (named 0) κ T.the-row .own (at-name b o ys γ) (slice-vals (at-name b o ys γ))) ∷ Γ) (runs C Λ E (seq (call #watch-records·store xs d) rest) p)
   calls-store t fm mem run known κ q b o ys γ ns u is os k =
       use2 W (raw (Store 𝓤 H A mem run .pre (to-store 𝓤 H A mem run κ q b o ys γ ns u))) (goes-store 𝓤 H A W mem run κ q b o ys γ ns u is) $
       calls-at t fm (Store 𝓤 H A mem run) known (to-store 𝓤 H A mem run κ q b o ys γ ns u) os (λ w.

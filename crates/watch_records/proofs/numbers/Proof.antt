@@ -44,20 +44,20 @@ use denote.Triple.Walked.{says, Stays, stay-none-slice, walkOf, Walks, ends-at, 
 use Rattle.head.specs.declared.Watch.{Watch}
 use Rattle.head.proofs.Watch as T
 use Rattle.head.proofs.Watch.Laws as T′
-use Rattle.watches.specs.Records.{watched}
+use Rattle.watch_records.specs.Records.{watched}
 use Rattle.head.specs.Desks.{deskUnit}
 use Rattle.watches.proofs.RecordNumbers.{wide, unit-fits, record-fits}
-use Rattle.watches.proofs.Copying.{empty, copied, length-copied, read-on, all-read}
-use Rattle.watches.proofs.Turns.{goes-on, stops}
-use Rattle.watches.proofs.LocalArray.{machine, zeros, taken-apart, put-together}
-use Rattle.watches.proofs.Elements.{machines, n-small, desk-small, record-out, record-back, number-out, number-put}
-use Rattle.watches.proofs.Whiles.{tests}
-use Rattle.watches.proofs.BigConstants.{big-lit}
-use Rattle.watches.proofs.numbers.Key.{name as #watches·numbers}
-use Rattle.watches.proofs.numbers as f
-use Rattle.watches.proofs.numbers.Statement as stated
-use Rattle.watches.proofs.numbers.Code as code
-use Rattle.watches.proofs.numbers.Code.Mir.{turn-1, t-4}
+use Rattle.watch_records.proofs.Copying.{empty, copied, length-copied, read-on, all-read}
+use Rattle.watch_records.proofs.Turns.{goes-on, stops}
+use Rattle.watch_records.proofs.LocalArray.{machine, zeros, taken-apart, put-together}
+use Rattle.watch_records.proofs.Elements.{machines, n-small, desk-small, record-out, record-back, number-out, number-put}
+use Rattle.watch_records.proofs.Whiles.{tests}
+use Rattle.watch_records.proofs.BigConstants.{big-lit}
+use Rattle.watch_records.proofs.numbers.Key.{name as #watch-records·numbers}
+use Rattle.watch_records.proofs.numbers as f
+use Rattle.watch_records.proofs.numbers.Statement as stated
+use Rattle.watch_records.proofs.numbers.Code as code
+use Rattle.watch_records.proofs.numbers.Code.Mir.{turn-1, t-4}
 
 abbrev stayed : Stays (f.ended .signature .params) (f.ended .kept)
 stayed = (stay-none-slice (0 ∷ []) tt (plain (λ _. T.the-row)) yes, tt)
@@ -191,5 +191,5 @@ pub numbers-spec : {M : Type 1} → stated.statement M
 unfolding code.routine tablesOf
 numbers-spec 𝓤 H 𝓜 𝓖 𝓡 =
     entered 𝓤 H (tripleOf 𝓤 H (𝓖 .A) f.signature (f.spec 𝓤 H (𝓖 .A) (𝓜 .mem) (𝓡 .run)))
-    (tables 𝓤 H 𝓜 𝓡 code.env .C) (tables 𝓤 H 𝓜 𝓡 code.env .Λ) #watches·numbers code.function (code.unfolded 𝓤 H 𝓜 𝓡)
+    (tables 𝓤 H 𝓜 𝓡 code.env .C) (tables 𝓤 H 𝓜 𝓡 code.env .Λ) #watch-records·numbers code.function (code.unfolded 𝓤 H 𝓜 𝓡)
     (numbers-meets 𝓤 H (𝓖 .A) (givenOf 𝓤 H 𝓜 𝓖) (𝓜 .mem) (𝓡 .run) (tablesOf 𝓤 H 𝓜 (tables 𝓤 H 𝓜 𝓡 code.env)))

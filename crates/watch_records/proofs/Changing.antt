@@ -34,12 +34,12 @@ use Rattle.head.proofs.Desk as D
 use Rattle.head.proofs.Desk.Laws as D′
 use Rattle.head.proofs.Watch as T
 use Rattle.head.proofs.Watch.Laws as T′
-use Rattle.watches.specs.Records.{watched, firstEight, stored}
-use Rattle.watches.proofs.DeskValues.{desk-value, desk-values, is-desk}
-use Rattle.watches.proofs.Lending.{at-name}
-use Rattle.watches.proofs.Calling.{Numbers, Store, reads-records, calls-store}
-use Rattle.watches.proofs.numbers.Symbol.{name as #watches·numbers}
-use Rattle.watches.proofs.store.Symbol.{name as #watches·store}
+use Rattle.watch_records.specs.Records.{watched, firstEight, stored}
+use Rattle.watch_records.proofs.DeskValues.{desk-value, desk-values, is-desk}
+use Rattle.watch_records.proofs.Lending.{at-name}
+use Rattle.watch_records.proofs.Calling.{Numbers, Store, reads-records, calls-store}
+use Rattle.watch_records.proofs.numbers.Symbol.{name as #watch-records·numbers}
+use Rattle.watch_records.proofs.store.Symbol.{name as #watch-records·store}
 
 -- the type behind a reference to a record
 abbrev behind : Ty
@@ -57,9 +57,9 @@ changing g = record {
   locals = local tyUnit valueLocal ∷ local (sliceTy (tyRef (named 0) mut behind)) valueLocal ∷ local D′.mir valueLocal ∷ local (tyInt w32) valueLocal ∷ local array valueLocal ∷ local array valueLocal
       ∷ local (tyRef erased imm behind) valueLocal ∷ local (sliceTy (tyRef erased imm behind)) valueLocal ∷ local tyUnit valueLocal ∷ local (tyRef erased mut behind) valueLocal ∷ local (sliceTy (tyRef erased mut behind)) valueLocal ∷ [];
   body = seq (assign (place 6 []) (addrOf at-first)) (seq (assign (place 7 []) (aggregate (copy (place 6 []) ∷ copy how-many ∷ [])))
-      (seq (call #watches·numbers (copy (place 7 []) ∷ []) (place 4 [])) (seq (call g (copy (place 4 []) ∷ copy (place 2 []) ∷ copy (place 3 []) ∷ []) (place 5 []))
+      (seq (call #watch-records·numbers (copy (place 7 []) ∷ []) (place 4 [])) (seq (call g (copy (place 4 []) ∷ copy (place 2 []) ∷ copy (place 3 []) ∷ []) (place 5 []))
       (seq (assign (place 9 []) (addrOf at-first)) (seq (assign (place 10 []) (aggregate (copy (place 9 []) ∷ copy how-many ∷ [])))
-      (seq (call #watches·store (copy (place 10 []) ∷ copy (place 5 []) ∷ []) (place 8 [])) (seq (assign (place 0 []) (rvOpd opdUnit)) return)))))));
+      (seq (call #watch-records·store (copy (place 10 []) ∷ copy (place 5 []) ∷ []) (place 8 [])) (seq (assign (place 0 []) (rvOpd opdUnit)) return)))))));
 }
   where
     at-first : Place
@@ -85,7 +85,7 @@ Made 𝓤 H A ensures w = H .⇛ (ex 𝓤 (λ (k : List ℕ). sep 𝓤 (sep 𝓤
 -- the change is a function g that makes F r of the numbers r, and the walk ends in Post
 module _ {M : Type 1} (𝓤 : URA M) (H : Heap 𝓤) (A : Atoms 𝓤) (W : Given 𝓤 H A) (mem : Memory → SProp 𝓤) (run : Routine → Fun 𝓤) (κ : Lft) (q : Share) (b o : ℕ) (γ : GName) (ys : List Watch) (desk : Desk) (n : ℕ)
     (n-fits : n < 2 ^ 32) (room : Room T.the-row (length ys))
-    (C : Calls 𝓤 H) (Λ : Loops 𝓤 H) (fm : FmC 𝓤 H (W .laws) C) (known-numbers : Triple 𝓤 (C #watches·numbers) (Numbers 𝓤 H A mem run)) (known-store : Triple 𝓤 (C #watches·store) (Store 𝓤 H A mem run))
+    (C : Calls 𝓤 H) (Λ : Loops 𝓤 H) (fm : FmC 𝓤 H (W .laws) C) (known-numbers : Triple 𝓤 (C #watch-records·numbers) (Numbers 𝓤 H A mem run)) (known-store : Triple 𝓤 (C #watch-records·store) (Store 𝓤 H A mem run))
     (g : Name) (F : List ℕ → List ℕ) (ensures : List ℕ → List ℕ → SProp 𝓤)
     (change : (r : List ℕ) (u : Val) → Is (Array u64 8) r (u ∷ []) → r ≡ firstEight (watched ys) → ent 𝓤 (emp 𝓤) (C g (u ∷ desk-value desk ∷ vint w32 n ∷ []) (Made 𝓤 H A (ensures r))))
     (said : (r k : List ℕ) → ent 𝓤 (ensures r k) (fact 𝓤 (k ≡ F r)))

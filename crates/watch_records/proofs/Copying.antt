@@ -10,9 +10,9 @@ use Rattle.lists.specs.Lists.{laid, padded}
 use Rattle.lists.proofs.Growing.{padded-more, laid-more}
 use Rattle.head.specs.declared.Watch.{Watch}
 use Rattle.head.specs.Desks.{deskUnit, recordOf}
-use Rattle.watches.specs.Records.{recordNumber, watched, firstEight, stored}
+use Rattle.watch_records.specs.Records.{recordNumber, watched, firstEight, stored}
 use Rattle.watches.proofs.RecordNumbers.{made-up}
-use Rattle.watches.proofs.Records.{front-is}
+use Rattle.watch_records.proofs.Records.{front-is}
 
 -- the numbers after i steps of reading
 unfoldable pub copied : List ℕ → ℕ → List ℕ

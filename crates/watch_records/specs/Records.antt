@@ -1,13 +1,10 @@
 -- The watch records of a book as numbers: what is read off them, and what they hold once numbers are stored.
-use mathlib.Core.Path.{_≡_}
-use mathlib.Core.Bool.{false}
-use Prim.Native.Nat.{ℕ, _<_}
+use Prim.Native.Nat.{ℕ}
 use mathlib.Core.List.{List, _++_, map}
 use lib.ListN.{length, take, replicate}
 use Rattle.lists.specs.Lists.{laid}
 use Rattle.head.specs.declared.Watch.{Watch}
 use Rattle.head.specs.Desks.{recordOf}
-use Rattle.model.specs.Book.{standing, tornWatches}
 
 -- a record as one number
 abbrev pub recordNumber : Watch → ℕ
@@ -24,9 +21,3 @@ firstEight ws = take 8 (ws ++ replicate 8 0)
 -- the numbers laid over the first records, as far as there are records
 unfoldable pub stored : List ℕ → List ℕ → List ℕ
 stored watches before = take (length before) (laid watches before)
-
--- watches that are not torn, of which one is empty
-pub record Vacant (ws : List ℕ) : Type 0 where
-  pub capacity : ℕ
-  pub untorn : tornWatches capacity ws ≡ false
-  pub free : length (standing ws) < 8

@@ -21,7 +21,7 @@ use denote.Struct.Laws as LL
 use Rattle.head.specs.declared.Watch.{Watch}
 use Rattle.head.proofs.Watch as T
 use Rattle.head.proofs.Watch.Laws as T′
-use Rattle.watches.proofs.Copying.{empty}
+use Rattle.watch_records.proofs.Copying.{empty}
 
 -- the machine values of a record
 abbrev pub machines : Watch → List Val
