@@ -25,7 +25,8 @@ pub fn quote(
     ensures { λ r. ⌜ Quoted head (now (quoted .entry))
         (tables (now (columns .entry)) (now (positions .entry)) (now («lower_ends» .entry)) (now («upper_ends» .entry)))
         (watched records) (now (out .entry)) r
-        (tables (now (columns .exit)) (now (positions .exit)) (now («lower_ends» .exit)) (now («upper_ends» .exit))) (now (out .exit)) ⌝ }
+        (tables (now (columns .exit)) (now (positions .exit)) (now («lower_ends» .exit)) (now («upper_ends» .exit)))
+        (now (out .exit)) ⌝ }
 {
     let held = records;
     shared_records::quote(

@@ -27,7 +27,8 @@ pub fn open(
     ensures { λ r. ⌜ Opened dimensions capacity directions
         (tables (now (columns .entry)) (now (positions .entry)) (now («lower_ends» .entry)) (now («upper_ends» .entry)))
         (watched records) (r .reply)
-        (tables (now (columns .exit)) (now (positions .exit)) (now («lower_ends» .exit)) (now («upper_ends» .exit))) (watched (r .records)) ⌝ }
+        (tables (now (columns .exit)) (now (positions .exit)) (now («lower_ends» .exit)) (now («upper_ends» .exit)))
+        (watched (r .records)) ⌝ }
 {
     let mut held = records;
     let reply = book::open(
@@ -58,7 +59,8 @@ pub fn watch(
     records: [Watch; 8],
     out: &mut [u8],
 ) -> Made
-    ensures { λ r. ⌜ Watched head desk n (tables (now (columns .entry)) (now (positions .entry)) (now («lower_ends» .entry)) (now («upper_ends» .entry)))
+    ensures { λ r. ⌜ Watched head desk n
+        (tables (now (columns .entry)) (now (positions .entry)) (now («lower_ends» .entry)) (now («upper_ends» .entry)))
         (watched records) (now (out .entry)) (r .reply) (watched (r .records)) (now (out .exit)) ⌝ }
 {
     let mut held = records;
@@ -90,7 +92,8 @@ pub fn end(
     upper_ends: &[u32],
     records: [Watch; 8],
 ) -> Made
-    ensures { λ r. ⌜ Ended head desk n (tables (now (columns .entry)) (now (positions .entry)) (now («lower_ends» .entry)) (now («upper_ends» .entry)))
+    ensures { λ r. ⌜ Ended head desk n
+        (tables (now (columns .entry)) (now (positions .entry)) (now («lower_ends» .entry)) (now («upper_ends» .entry)))
         (watched records) (r .reply) (watched (r .records)) ⌝ }
 {
     let mut held = records;

@@ -23,7 +23,8 @@ pub fn watch(
     watches: &mut [Watch],
     out: &mut [u8],
 ) -> Reply
-    ensures { λ r. ⌜ Watched head desk n (tables (now (columns .entry)) (now (positions .entry)) (now («lower_ends» .entry)) (now («upper_ends» .entry)))
+    ensures { λ r. ⌜ Watched head desk n
+        (tables (now (columns .entry)) (now (positions .entry)) (now («lower_ends» .entry)) (now («upper_ends» .entry)))
         (watched (now (watches .entry))) (now (out .entry))
         r (watched (now (watches .exit))) (now (out .exit)) ⌝ }
 {
@@ -58,7 +59,8 @@ pub fn end(
     upper_ends: &[u32],
     watches: &mut [Watch],
 ) -> Reply
-    ensures { λ r. ⌜ Ended head desk n (tables (now (columns .entry)) (now (positions .entry)) (now («lower_ends» .entry)) (now («upper_ends» .entry)))
+    ensures { λ r. ⌜ Ended head desk n
+        (tables (now (columns .entry)) (now (positions .entry)) (now («lower_ends» .entry)) (now («upper_ends» .entry)))
         (watched (now (watches .entry))) r (watched (now (watches .exit))) ⌝ }
 {
     let before = numbers(&*watches);

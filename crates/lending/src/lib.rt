@@ -75,7 +75,8 @@ pub fn open_lent(
     lent: usize,
 ) -> Judgement
     ensures { λ r. ⌜ OpenJudged dimensions capacity directions
-        (tables (now (columns .entry)) (now (positions .entry)) (now («lower_ends» .entry)) (now («upper_ends» .entry))) (take lent watches) r
+        (tables (now (columns .entry)) (now (positions .entry)) (now («lower_ends» .entry))
+        (now («upper_ends» .entry))) (take lent watches) r
         (tables (now (columns .exit)) (now (positions .exit)) (now («lower_ends» .exit)) (now («upper_ends» .exit))) ⌝ }
 {
     if lent < 8 {
@@ -110,7 +111,8 @@ pub fn quote_lent(
     ensures { λ r. ⌜ Quoted head (now (quoted .entry))
         (tables (now (columns .entry)) (now (positions .entry)) (now («lower_ends» .entry)) (now («upper_ends» .entry)))
         (take lent watches) (now (out .entry)) r
-        (tables (now (columns .exit)) (now (positions .exit)) (now («lower_ends» .exit)) (now («upper_ends» .exit))) (now (out .exit)) ⌝ }
+        (tables (now (columns .exit)) (now (positions .exit)) (now («lower_ends» .exit)) (now («upper_ends» .exit)))
+        (now (out .exit)) ⌝ }
 {
     if lent < 8 {
         return short_loan(head, head);
@@ -205,7 +207,8 @@ pub fn end_lent(
     lent: usize,
 ) -> Judgement
     ensures { λ r. ⌜ Judged (endReply head desk n
-        (tables (now (columns .entry)) (now (positions .entry)) (now («lower_ends» .entry)) (now («upper_ends» .entry))) (take lent watches)) r ⌝ }
+        (tables (now (columns .entry)) (now (positions .entry)) (now («lower_ends» .entry))
+        (now («upper_ends» .entry))) (take lent watches)) r ⌝ }
 {
     if lent < 8 {
         return judge(short_loan(head, head));
@@ -267,7 +270,8 @@ pub fn unpair_lent(
     lent: usize,
 ) -> Reply
     ensures { λ r. ⌜ Unpaired head
-        (tables (now (columns .entry)) (now (positions .entry)) (now («lower_ends» .entry)) (now («upper_ends» .entry))) (take lent watches) r ⌝ }
+        (tables (now (columns .entry)) (now (positions .entry)) (now («lower_ends» .entry))
+        (now («upper_ends» .entry))) (take lent watches) r ⌝ }
 {
     if lent < 8 {
         return short_loan(head, head);
