@@ -24,8 +24,8 @@ mul-watch c = omega arith
 array-read-watch : tie.Need-array-read-watch Inv-loop μ-loop
 array-read-watch c = omega arith
 
-choose-requires : tie.Need-choose-requires Inv-loop μ-loop
-choose-requires c κs = search needs
+chosen-requires : tie.Need-chosen-requires Inv-loop μ-loop
+chosen-requires c κs = search needs
 
 mul-after : tie.Need-mul-after Inv-loop μ-loop
 mul-after c = omega arith
@@ -33,8 +33,8 @@ mul-after c = omega arith
 array-write-after : tie.Need-array-write-after Inv-loop μ-loop
 array-write-after c = omega arith
 
-choose-requires-2 : tie.Need-choose-requires-2 Inv-loop μ-loop
-choose-requires-2 c κs = search needs
+chosen-requires-2 : tie.Need-chosen-requires-2 Inv-loop μ-loop
+chosen-requires-2 c κs = search needs
 
 add-i : tie.Need-add-i Inv-loop μ-loop
 add-i c = omega arith
@@ -44,7 +44,7 @@ loop-less c = omega arith
 
 loop-again : tie.Need-loop-again Inv-loop μ-loop
 unfolding goesHere
-loop-again c = rw (c .before .choose .ensures, c .choose2 .ensures) (more _ _ _ _ _ (c .before .before .before .loop .inv) (c .before .before .loop-test .taken))
+loop-again c = rw (c .before .chosen .ensures, c .chosen2 .ensures) (more _ _ _ _ _ (c .before .before .before .loop .inv) (c .before .before .loop-test .taken))
 
 returns : tie.Need-returns Inv-loop μ-loop
 returns c =
@@ -61,10 +61,10 @@ insert-spec =
     loop-holds
     mul-watch
     array-read-watch
-    choose-requires
+    chosen-requires
     mul-after
     array-write-after
-    choose-requires-2
+    chosen-requires-2
     add-i
     loop-less
     loop-again
