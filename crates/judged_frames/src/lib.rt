@@ -53,7 +53,7 @@ pub fn play_opening() {
     let mut upper_ends = [0u32; 2];
     let mut bytes = [0u8; tape::CHANGE_BYTES];
     let mut text = [0u8; tape::TEXT_BYTES];
-    if tape::ready(&frame, 0) {
+    if waiting::ready(&frame, 0) {
         let step = tape::play(
             &frame,
             0,

@@ -1,13 +1,11 @@
 // Playing a tape: one frame on a book with lent tables, its lines laid at the start of a lent text.
 mod playing;
-mod waiting;
 
 pub use playing::play;
 pub use sizes::CHANGE_BYTES;
 use sizes::CHANGE_FRAME;
 use sizes::PLACES;
 pub use turn_lines::Step;
-pub use waiting::ready;
 
 // How many bytes the line of a change has at most: its letter, desk two's 2 and newline, and a space and ten digits for n and the position.
 pub const CHANGE_LINE: usize = 3 + 11 * 2;

@@ -26,7 +26,7 @@ fn plays(playback: Playback, tape: &[u8], room: usize) -> bool
     if playback.ended {
         return true;
     }
-    tape::ready(tape, playback.place)
+    waiting::ready(tape, playback.place)
 }
 
 // Plays the frames of this piece of the tape, until one has not come whole or its lines may find no room.

@@ -28,7 +28,7 @@ pub fn refill(playback: Playback, tape: &mut [u8]) -> Playback
 {
     let mut now = playback;
     let end = now.end;
-    if now.over | now.ended | tape::ready(&tape[..end], now.place) {
+    if now.over | now.ended | waiting::ready(&tape[..end], now.place) {
         return now;
     }
     let rest = end - now.place;

@@ -1,9 +1,9 @@
 -- `ready` meets its contract, by the tests it makes.
 use denote.Ref.{now}
-use Rattle.tape.proofs.Waits.{not-ready, ready-inside}
+use Rattle.waiting.proofs.Waits.{not-ready, ready-inside}
 use borrow.Author.Needs.{needs}
-use Rattle.tape.proofs.waiting.ready.Statement.{statement}
-use Rattle.tape.proofs.waiting.ready.Tie as tie
+use Rattle.waiting.proofs.ready.Statement.{statement}
+use Rattle.waiting.proofs.ready.Tie as tie
 
 returns : tie.Need-returns
 returns c = not-ready (now (c .before .before .args .tape)) (c .before .before .args .place) (c .if1 .taken)
