@@ -21,18 +21,10 @@ pub struct Worked {
 impl Worked {
     // The book with another head and other records.
     pub fn holding(self, head: Head, records: [Watch; 8]) -> Worked {
-        let columns = self.columns;
-        let positions = self.positions;
-        let lower_ends = self.lower_ends;
-        let upper_ends = self.upper_ends;
-        Worked {
-            head,
-            columns,
-            positions,
-            lower_ends,
-            upper_ends,
-            records,
-        }
+        let mut now = self;
+        now.head = head;
+        now.records = records;
+        now
     }
 }
 

@@ -1,7 +1,9 @@
 // What is printed of each line of the book player.
 use head::Answer;
 use head::Head;
+use head::Reply;
 use head::Verdict;
+use head::Watch;
 use player_output::Print;
 use player_output::flush;
 use player_output::put_bytes;
@@ -27,9 +29,8 @@ fn narrow(count: usize) -> u32 {
     count as u32
 }
 
-// Prints the reply of the last call.
-fn put_reply(print: Print, state: State, gathered: &mut [u8]) -> Print {
-    let reply = state.reply;
+// Prints the reply of a call.
+fn put_reply(print: Print, reply: Reply, gathered: &mut [u8]) -> Print {
     let answer = reply.answer;
     let head = reply.head;
     let numbers = [
@@ -47,9 +48,8 @@ fn put_reply(print: Print, state: State, gathered: &mut [u8]) -> Print {
     put_short(print, b'A', &numbers, gathered)
 }
 
-// Prints the verdict of the last audit.
-fn put_verdict(print: Print, state: State, gathered: &mut [u8]) -> Print {
-    let verdict = state.verdict;
+// Prints the verdict of an audit.
+fn put_verdict(print: Print, verdict: Verdict, gathered: &mut [u8]) -> Print {
     match verdict {
         Verdict::Yes => put_word(print, b"V yes\n", gathered),
         Verdict::No => put_word(print, b"V no\n", gathered),
@@ -82,8 +82,7 @@ fn column_cells(head: Head) -> usize {
 }
 
 // Prints the n of the records.
-fn put_sizes(print: Print, state: State, gathered: &mut [u8]) -> Print {
-    let records = state.records;
+fn put_sizes(print: Print, records: [Watch; 8], gathered: &mut [u8]) -> Print {
     let a = records[0];
     let b = records[1];
     let c = records[2];
@@ -97,8 +96,7 @@ fn put_sizes(print: Print, state: State, gathered: &mut [u8]) -> Print {
 }
 
 // Prints the desks of the records.
-fn put_desks(print: Print, state: State, gathered: &mut [u8]) -> Print {
-    let records = state.records;
+fn put_desks(print: Print, records: [Watch; 8], gathered: &mut [u8]) -> Print {
     let a = records[0];
     let b = records[1];
     let c = records[2];
@@ -121,34 +119,33 @@ fn put_desks(print: Print, state: State, gathered: &mut [u8]) -> Print {
 }
 
 // Prints the records: every n, then every desk.
-fn put_records(print: Print, state: State, gathered: &mut [u8]) -> Print {
-    let now = put_sizes(print, state, gathered);
-    put_desks(now, state, gathered)
+fn put_records(print: Print, records: [Watch; 8], gathered: &mut [u8]) -> Print {
+    let now = put_sizes(print, records, gathered);
+    put_desks(now, records, gathered)
 }
 
 // Prints the tables and the records.
 fn put_tables(
     print: Print,
-    state: State,
+    head: Head,
+    records: [Watch; 8],
     columns: &[u32],
     positions: &[u32],
     lower_ends: &[u32],
     upper_ends: &[u32],
     gathered: &mut [u8],
 ) -> Print {
-    let head = state.head;
     let n = places(head);
     let mut now = put_cells(print, b'C', columns, column_cells(head), gathered);
     now = put_cells(now, b'P', positions, n, gathered);
     now = put_cells(now, b'E', lower_ends, n, gathered);
     now = put_cells(now, b'U', upper_ends, n, gathered);
-    put_records(now, state, gathered)
+    put_records(now, records, gathered)
 }
 
 // Prints a reply with the bytes that were written.
-fn put_bytes_reply(print: Print, state: State, out: &[u8], gathered: &mut [u8]) -> Print {
-    let reply = state.reply;
-    let now = put_reply(print, state, gathered);
+fn put_bytes_reply(print: Print, reply: Reply, out: &[u8], gathered: &mut [u8]) -> Print {
+    let now = put_reply(print, reply, gathered);
     if reply.count == 0 {
         return now;
     }
@@ -158,13 +155,13 @@ fn put_bytes_reply(print: Print, state: State, out: &[u8], gathered: &mut [u8]) 
 // Prints a reply with the bytes that a preview wrote, and behind them the counts of live and held rows.
 fn put_preview(
     print: Print,
-    state: State,
+    reply: Reply,
     live: u32,
     held: u32,
     out: &[u8],
     gathered: &mut [u8],
 ) -> Print {
-    let now = put_bytes_reply(print, state, out, gathered);
+    let now = put_bytes_reply(print, reply, out, gathered);
     let numbers = [live, held];
     put_short(now, b'N', &numbers, gathered)
 }
@@ -172,12 +169,12 @@ fn put_preview(
 // Prints a reply with the first cells that were written, so many.
 fn put_cells_reply(
     print: Print,
-    state: State,
+    reply: Reply,
     cells: &[u32],
     count: usize,
     gathered: &mut [u8],
 ) -> Print {
-    let now = put_reply(print, state, gathered);
+    let now = put_reply(print, reply, gathered);
     if count == 0 {
         return now;
     }
@@ -215,17 +212,21 @@ pub fn print_line(
     now.lines = std::num::wrapping_add_u32(print.lines, 1);
     let seen = state.seen;
     let reply = state.reply;
+    let verdict = state.verdict;
+    let head = state.head;
+    let records = state.records;
     match seen {
         Seen::Nothing => now,
         Seen::Unread => put_unread(now, gathered),
-        Seen::Bytes => put_bytes_reply(now, state, out, gathered),
-        Seen::Preview(live, held) => put_preview(now, state, live, held, out, gathered),
-        Seen::Cells => put_cells_reply(now, state, cells, reply.count, gathered),
-        Seen::Rows => put_cells_reply(now, state, cells, row_cells(reply.count), gathered),
-        Seen::Verdict => put_verdict(now, state, gathered),
+        Seen::Bytes => put_bytes_reply(now, reply, out, gathered),
+        Seen::Preview(live, held) => put_preview(now, reply, live, held, out, gathered),
+        Seen::Cells => put_cells_reply(now, reply, cells, reply.count, gathered),
+        Seen::Rows => put_cells_reply(now, reply, cells, row_cells(reply.count), gathered),
+        Seen::Verdict => put_verdict(now, verdict, gathered),
         Seen::Tables => put_tables(
             now,
-            state,
+            head,
+            records,
             columns,
             positions,
             lower_ends,

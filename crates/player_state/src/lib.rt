@@ -88,35 +88,17 @@ impl State {
 
     // The state with another head and other records.
     pub fn holding(self, head: Head, records: [Watch; 8]) -> State {
-        let loan = self.loan;
-        let seen = self.seen;
-        let reply = self.reply;
-        let verdict = self.verdict;
-        State {
-            head,
-            records,
-            loan,
-            seen,
-            reply,
-            verdict,
-        }
+        let mut now = self;
+        now.head = head;
+        now.records = records;
+        now
     }
 
     // The state with another loan.
     pub fn lending(self, loan: Loan) -> State {
-        let head = self.head;
-        let records = self.records;
-        let seen = self.seen;
-        let reply = self.reply;
-        let verdict = self.verdict;
-        State {
-            head,
-            records,
-            loan,
-            seen,
-            reply,
-            verdict,
-        }
+        let mut now = self;
+        now.loan = loan;
+        now
     }
 
     // The state after a reply that is to be printed so, with the head that it hands back.
