@@ -24,7 +24,7 @@ RUSTC := rustc --edition 2021 -O -D warnings
 
 test: citations
 	@rt ci 2>&1 | tools/progress.sh build/ci.txt
-	@$(MAKE) --no-print-directory host random random-calls rules plants notation
+	@$(MAKE) --no-print-directory -j2 host random random-calls rules plants notation
 	@tools/dearest.sh build/ci.txt
 	@tail -n 1 build/ci.txt | grep -Ex '[0-9]+ passed, 0 failed'
 
@@ -52,16 +52,16 @@ rules: build/random_calls
 	@build/random_calls --rules
 
 # a model with a bug planted must not agree with the printer, the player or the tapes
-plants: build/plain_model build/random_calls $(PRINTER) $(PLAYER)
-	@for plant in $(PLANTS); do \
-	  tests/planted.sh tapes-$$plant 'the prints differ' build/plain_model --plant $$plant $(PRINTER) $(SEED) 1000; \
-	done
-	@for plant in $(CALL_PLANTS); do \
-	  tests/planted.sh calls-$$plant 'the answers differ' build/random_calls --plant $$plant $(PLAYER) $(SEED) 1000; \
-	done
-	@for plant in $(RULE_PLANTS); do \
-	  tests/planted.sh rules-$$plant 'the rules differ' build/random_calls --plant $$plant --rules; \
-	done
+plants: $(PLANTS:%=plant-in-tapes-%) $(CALL_PLANTS:%=plant-in-calls-%) $(RULE_PLANTS:%=plant-in-rules-%)
+
+plant-in-tapes-%: build/plain_model $(PRINTER)
+	@tests/planted.sh tapes-$* 'the prints differ' build/plain_model --plant $* $(PRINTER) $(SEED) 1000
+
+plant-in-calls-%: build/random_calls $(PLAYER)
+	@tests/planted.sh calls-$* 'the answers differ' build/random_calls --plant $* $(PLAYER) $(SEED) 1000
+
+plant-in-rules-%: build/random_calls
+	@tests/planted.sh rules-$* 'the rules differ' build/random_calls --plant $* --rules
 
 # the yardstick of make bench against the plain model, without the judgement and with it
 yardstick: build/plain_model build/yardstick
