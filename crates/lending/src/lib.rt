@@ -13,12 +13,12 @@ use head::Head;
 use head::Refusal;
 use head::Reply;
 use opening::open;
+use pairing::pair;
+use pairing::unpair;
 use previewing::effect_of;
 use previewing::preview;
 use quoting::quote;
 use watching::end;
-use watching::pair;
-use watching::unpair;
 use watching::watch;
 
 // What a call that may change the records answers: its reply, and whether they change.

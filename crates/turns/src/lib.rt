@@ -122,7 +122,7 @@ fn pair(
         (tables (now (columns .entry)) (now (positions .entry)) (now («lower_ends» .entry)) (now («upper_ends» .entry)))
         (now (bytes .exit)) (now (text .exit)) ⌝ }
 {
-    let reply = watching::pair(
+    let reply = pairing::pair(
         head,
         n1,
         n2,
@@ -161,7 +161,7 @@ fn unpair(
         (tables (now (columns .entry)) (now (positions .entry)) (now («lower_ends» .entry)) (now («upper_ends» .entry)))
         bytes (now (text .exit))) ⌝ }
 {
-    let reply = watching::unpair(head, columns, positions, lower_ends, upper_ends, watches);
+    let reply = pairing::unpair(head, columns, positions, lower_ends, upper_ends, watches);
     let answer = reply.answer;
     let next = reply.head;
     let numbers: [u32; 0] = [];

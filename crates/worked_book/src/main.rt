@@ -1,6 +1,5 @@
 // A worked book: opens, quotes, previews, looks, looks back, watches, ends and audits on real buffers, and judges and prints
-// each answer; then it draws the refusals that the calls give, works a pair and two desks, writes and reads a frame, and
-// plays one.
+// each answer; then it draws the refusals that the calls give, works a pair and two desks, and writes and reads a frame.
 mod desks;
 mod pair;
 mod refusals;
@@ -11,7 +10,6 @@ use judged_calls::Worked;
 use judged_calls::open;
 use judged_calls::quote;
 use judged_calls::quote_all;
-use judged_frames::play_opening;
 use judged_frames::there_and_back;
 use judged_reads::audit;
 use judged_reads::look;
@@ -23,8 +21,6 @@ use pair::show_pair;
 use refusals::limits;
 use refusals::refusals;
 use refusals::refuse_opening;
-use short_loans::short_lists;
-use short_loans::short_outputs;
 
 // Plays 01's worked example with desk two's watch of 3 beside desk one's of 2, and hands back the book that it leaves.
 fn play_example() -> Worked {
@@ -48,10 +44,7 @@ fn main() {
     refusals(eight);
     refuse_opening();
     limits();
-    short_lists();
-    short_outputs();
     show_pair();
     show_desks();
     there_and_back(2);
-    play_opening();
 }

@@ -1,8 +1,8 @@
 -- `pair` meets its contract: refused, it leaves everything as it was; accepted, it writes the joins and sets the pair.
-use Rattle.watching.proofs.Pairs.{pair-free, pair-window, joins-room, pair-refused, pair-set}
+use Rattle.pairing.proofs.Pairs.{pair-free, pair-window, joins-room, pair-refused, pair-set}
 use borrow.Author.Needs.{needs}
-use Rattle.watching.proofs.pair.Statement.{statement}
-use Rattle.watching.proofs.pair.Tie as tie
+use Rattle.pairing.proofs.pair.Statement.{statement}
+use Rattle.pairing.proofs.pair.Tie as tie
 
 judge-pair-requires : tie.Need-judge-pair-requires
 judge-pair-requires c κs = search needs

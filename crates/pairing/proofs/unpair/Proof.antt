@@ -3,8 +3,8 @@ use mathlib.Core.Path.{refl}
 use Rattle.model.specs.Book.{unpairReply}
 use Rattle.model.proofs.Replying.{refused-reply, accepted-reply}
 use borrow.Author.Needs.{needs}
-use Rattle.watching.proofs.unpair.Statement.{statement}
-use Rattle.watching.proofs.unpair.Tie as tie
+use Rattle.pairing.proofs.unpair.Statement.{statement}
+use Rattle.pairing.proofs.unpair.Tie as tie
 
 judge-unpair-requires : tie.Need-judge-unpair-requires
 judge-unpair-requires c κs = search needs

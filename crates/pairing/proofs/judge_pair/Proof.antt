@@ -3,8 +3,8 @@ use mathlib.Core.Path.{refl}
 use Rattle.model.specs.Book.{watchfulAnswer, pairStands, pairAnswer}
 use Rattle.judging.proofs.Answering.{tested}
 use borrow.Author.Needs.{needs}
-use Rattle.watching.proofs.judge_pair.Statement.{statement}
-use Rattle.watching.proofs.judge_pair.Tie as tie
+use Rattle.pairing.proofs.judge_pair.Statement.{statement}
+use Rattle.pairing.proofs.judge_pair.Tie as tie
 
 judge-watchful-requires : tie.Need-judge-watchful-requires
 judge-watchful-requires c κs = search needs
