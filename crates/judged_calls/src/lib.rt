@@ -1,11 +1,17 @@
-// Calls on a book that write its tables, as a host makes them: each is made, its answer is judged, and what it says is
-// printed.
+// Calls on a book, as a host makes them: each is made, its answer is judged, and what it says is printed. The preview and
+// the calls on watches are in `judged_watches`.
+mod reads;
+
 use head::Answer;
 use head::Head;
 use head::Watch;
 use judged_lines::print;
 use judged_lines::print_changes;
 use judged_lines::print_refusal;
+pub use reads::audit;
+pub use reads::look;
+pub use reads::past;
+pub use reads::tell;
 use sizes::CHANGE_BYTES;
 
 // A worked book with a memory of at most eight: its head, its tables and its records.

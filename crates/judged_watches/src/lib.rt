@@ -1,5 +1,5 @@
-// Calls on the watches and the pair of a book, as a host makes them: each is made, its answer is judged, and what it says is
-// printed.
+// The preview of a quote, and the calls on the watches and the pair, as a host makes them: each is made, its answer is judged,
+// and what it says is printed.
 use head::Answer;
 use head::Desk;
 use judged_calls::Worked;
@@ -8,6 +8,38 @@ use judged_lines::print_by;
 use judged_lines::print_changes;
 use judged_lines::print_refusal;
 use sizes::CHANGE_BYTES;
+
+// Previews a quote of two columns, and prints how many rows it would leave live and held and its changes, or the refusal.
+pub fn preview(worked: Worked, quote: [u32; 2]) {
+    let columns = worked.columns;
+    let positions = worked.positions;
+    let lower_ends = worked.lower_ends;
+    let upper_ends = worked.upper_ends;
+    let records = worked.records;
+    let mut out = [0u8; CHANGE_BYTES];
+    let effect = by_value::preview(
+        worked.head,
+        &quote,
+        &columns,
+        &positions,
+        &lower_ends,
+        &upper_ends,
+        records,
+        &mut out,
+    );
+    let reply = effect.reply;
+    let answer = reply.answer;
+    match answer {
+        Answer::Accepted => {
+            let numbers = [effect.live, effect.held];
+            print(b'N', &numbers);
+            print_changes(&out, reply.count);
+        }
+        Answer::Refused(_) => {
+            print_refusal(answer);
+        }
+    }
+}
 
 // Sets a desk's watch of n, and prints what joins, or the refusal.
 pub fn watch(worked: Worked, desk: Desk, n: u32) -> Worked {

@@ -1,5 +1,5 @@
--- The fields of a line, read byte by byte: what they are before the first, and after one more byte.
-use Prim.Native.Nat.{ℕ, _+_, _-_, _*_}
+-- The length of a line; and its fields, read byte by byte: what they are before the first, and after one more byte.
+use Prim.Native.Nat.{ℕ, suc, _+_, _-_, _*_}
 use mathlib.Core.Bool.{Bool, true, false, _&&_, not, cond}
 use mathlib.Core.List.{List, [], _∷_}
 use lib.Dec.{ltb, leb, eqb}
@@ -45,3 +45,8 @@ after f byte =
 unfoldable pub fieldsFrom : Fields → List ℕ → Fields
 fieldsFrom f [] = f
 fieldsFrom f (byte ∷ bytes) = fieldsFrom (after f byte) bytes
+
+-- how many bytes a line has before its newline
+unfoldable pub lineLength : List ℕ → ℕ
+lineLength [] = 0
+lineLength (byte ∷ bytes) = cond (eqb byte 10) 0 (suc (lineLength bytes))

@@ -1,8 +1,8 @@
-// The fields of a line: a space and a number each, read byte by byte.
+// The lines of a text: where one ends, and its fields, a space and a number each, read byte by byte.
 ghost use mathlib.Core.Path.{_≡_};
 ghost use Prim.Native.Nat.{_+_, _*_};
 ghost use lib.ListN.{drop};
-ghost use Rattle.line_fields.specs.Fields.{noField, invalid, begun, grown, after, fieldsFrom};
+ghost use Rattle.line_fields.specs.Fields.{noField, invalid, begun, grown, after, fieldsFrom, lineLength};
 
 // The fields read so far: whether they are valid, whether the last has no digit yet, how many are begun, and their numbers.
 pub struct Fields {
@@ -127,4 +127,15 @@ pub fn fields_from(line: &[u8], place: usize) -> Fields
         at += 1;
     }
     fields
+}
+
+// The end of the line that begins at a place: where its newline stands, or the end of the text. A place beyond the end is its own.
+pub fn line_end(text: &[u8], place: usize) -> usize
+    ensures { λ r. ⌜ r ≡ place + lineLength (drop place (now (text .entry))) ⌝ }
+{
+    let mut end = place;
+    while end < text.len() && text[end] != 10 {
+        end += 1;
+    }
+    end
 }

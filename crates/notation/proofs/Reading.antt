@@ -1,4 +1,4 @@
--- What a line says, case by case; and the turns of the loop that seeks its end.
+-- What a line says, case by case.
 use mathlib.Core.Path.{_≡_, refl, sym, ap, _∙_}
 use Prim.Native.Nat.{ℕ, suc, _+_, _≤_, _<_}
 use native.Mathlib.Omega.{arith}
@@ -19,7 +19,7 @@ use Rattle.frames.specs.declared.Message.{Message}
 use Rattle.frames.specs.declared.Message.the-variants.{Quote, Sized, Pair, Bare, Open}
 use Rattle.line_fields.specs.declared.Fields.{Fields}
 use Rattle.line_fields.specs.Fields.{noField, after, fieldsFrom}
-use Rattle.notation.specs.Lines.{nothing, opens, opening, quoteOf, pairs, pairOf, bareOf, fits, ofNumber, sizedOf, said, marked, signOf, saidBy, lineLength}
+use Rattle.notation.specs.Lines.{nothing, opens, opening, quoteOf, pairs, pairOf, bareOf, fits, ofNumber, sizedOf, said, marked, signOf, saidBy}
 
 -- ---- messages
 
@@ -153,30 +153,6 @@ module _ (sign n : ℕ) where
   unfolding ofNumber
   of-other l w u v e = rw (ne-eqb sign 76 l, ne-eqb sign 87 w, ne-eqb sign 85 u, ne-eqb sign 343 v, ne-eqb sign 341 e)
 
--- ---- the end of a line
-
-module _ (line : List ℕ) where
-  -- one more byte is no newline
-  pub end-more : {end at : ℕ} → at < length line → not (eqb (getD line at 0) 10) ≡ true → end ≡ at + lineLength (drop at line) → end ≡ (at + 1) + lineLength (drop (at + 1) line)
-  unfolding lineLength
-  end-more {at = at} h n e =
-      let one : lineLength (drop at line) ≡ suc (lineLength (drop (suc at) line)) = ap lineLength (drop-cons line at 0 h) ∙ rw (not-true (eqb (getD line at 0) 10) n) in
-      rw (add-one at) (omega (arith, e, one))
-
-  -- a newline
-  pub end-newline : {end at : ℕ} → at < length line → not (eqb (getD line at 0) 10) ≡ false → end ≡ at + lineLength (drop at line) → at ≡ end
-  unfolding lineLength
-  end-newline {at = at} h n e =
-      let none : lineLength (drop at line) ≡ 0 = ap lineLength (drop-cons line at 0 h) ∙ rw (not-false (eqb (getD line at 0) 10) n) in
-      omega (arith, e, none)
-
-  -- the end of the text
-  pub end-last : {end at : ℕ} → length line ≤ at → end ≡ at + lineLength (drop at line) → at ≡ end
-  unfolding lineLength
-  end-last {at = at} h e =
-      let none : lineLength (drop at line) ≡ 0 = ap lineLength (drop-of-length-le line h) in
-      omega (arith, e, none)
-
 -- ---- a whole line
 
 -- a line without a second byte is not marked
@@ -205,19 +181,6 @@ read-some [] h t p g e s = absurd (omega arith)
 read-some (letter ∷ bytes) h t p g e s = rw (s, g, e, p, behind-sign, t)
 
 -- ---- what callers need
-
--- a line ends within the text
-line-inside : (text : List ℕ) → lineLength text ≤ length text
-unfolding lineLength
-line-inside [] = omega arith
-line-inside (byte ∷ bytes) = go (eqb byte 10) (line-inside bytes)
-  where
-    go : (b : Bool) → lineLength bytes ≤ length bytes → cond b 0 (suc (lineLength bytes)) ≤ suc (length bytes)
-    go true h = omega arith
-    go false h = omega arith
-
-pub end-inside : (text : List ℕ) (place : ℕ) → place ≤ length text → place + lineLength (drop place text) ≤ length text
-end-inside text place h = omega (arith, line-inside (drop place text), length-drop place text)
 
 -- the frame that was written fits the output
 pub wrote-fits : {m : Message} {numbers before after : List ℕ} {r : Written} → Wrote m numbers before r after → r .count ≤ length before

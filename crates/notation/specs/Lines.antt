@@ -83,8 +83,3 @@ saidBy (letter ∷ bytes) =
     let two = marked (letter ∷ bytes) in
     let f = fieldsFrom noField (cond two (drop 1 bytes) bytes) in
     record { message = said (signOf two letter) f; numbers = f .numbers }
-
--- how many bytes a line has before its newline
-unfoldable pub lineLength : List ℕ → ℕ
-lineLength [] = 0
-lineLength (byte ∷ bytes) = cond (eqb byte 10) 0 (suc (lineLength bytes))

@@ -3,7 +3,7 @@
 mod lines;
 
 use frames::Message;
-pub use lines::line_end;
+pub use line_fields::line_end;
 pub use lines::read_line;
 pub use lines::write_line;
 

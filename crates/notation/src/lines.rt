@@ -4,7 +4,7 @@ ghost use mathlib.Core.Bool.{cond};
 ghost use Prim.Native.Nat.{_+_};
 ghost use lib.ListN.{drop};
 ghost use Rattle.frame_writer.specs.Writing.{Wrote};
-ghost use Rattle.notation.specs.Lines.{opens, opening, quoteOf, pairs, pairOf, bareOf, fits, sizedOf, said, marked, signOf, saidBy, lineLength};
+ghost use Rattle.notation.specs.Lines.{opens, opening, quoteOf, pairs, pairOf, bareOf, fits, sizedOf, said, marked, signOf, saidBy};
 use crate::Parsed;
 use frame_writer::Written;
 use frames::LOOK;
@@ -171,17 +171,6 @@ pub fn read_line(line: &[u8]) -> Parsed
         message: message_of(sign_of(two, line[0]), fields),
         numbers,
     }
-}
-
-// The end of the line that begins at a place: where its newline stands, or the end of the text. A place beyond the end is its own.
-pub fn line_end(text: &[u8], place: usize) -> usize
-    ensures { λ r. ⌜ r ≡ place + lineLength (drop place (now (text .entry))) ⌝ }
-{
-    let mut at = place;
-    while at < text.len() && text[at] != 10 {
-        at += 1;
-    }
-    at
 }
 
 // Writes the frame of a line over the front of the output: 1 for a line that says no message, then 13.

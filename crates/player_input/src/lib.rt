@@ -1,6 +1,6 @@
 // The input of the book player: its lines found one by one in large pieces of standard input, and read.
 ghost use Prim.Native.Nat.{_≤_};
-use notation::line_end;
+use line_fields::line_end;
 use player_lines::Command;
 use player_lines::Line;
 use player_lines::Name;

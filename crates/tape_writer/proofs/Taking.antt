@@ -4,8 +4,8 @@ use Prim.Native.Nat.{ℕ, _+_, _≤_, _<_}
 use native.Mathlib.Omega.{arith}
 use mathlib.Core.List.{List}
 use lib.ListN.{length, drop}
-use Rattle.notation.specs.Lines.{lineLength}
-use Rattle.notation.proofs.Reading.{end-inside}
+use Rattle.line_fields.specs.Fields.{lineLength}
+use Rattle.line_fields.proofs.Scanning.{end-inside}
 
 -- the gathered bytes stand within the output, and the next line within the text
 pub record Taking (text before out : List ℕ) (used place stop : ℕ) : Type 0 where

@@ -5,7 +5,7 @@ ghost use Prim.Native.Nat.{_+_, _≤_};
 ghost use lib.ListN.{length};
 use head::Answer;
 use libc::STDERR_FILENO;
-use notation::line_end;
+use line_fields::line_end;
 
 // How many bytes the longest frame has.
 const LONGEST_FRAME: usize = 25;

@@ -2,10 +2,10 @@
 // and it is ended; with the refusals of these calls.
 use head::Desk;
 use judged_calls::Worked;
+use judged_calls::audit;
+use judged_calls::look;
 use judged_calls::open;
 use judged_calls::quote_all;
-use judged_reads::audit;
-use judged_reads::look;
 use judged_watches::due;
 use judged_watches::pair;
 use judged_watches::unpair;

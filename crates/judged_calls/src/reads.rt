@@ -1,13 +1,11 @@
 // Calls on a book that only read its tables, as a host makes them: each is made, its answer is judged, and what it says
 // is printed.
+use crate::Worked;
 use head::Answer;
 use head::Head;
 use head::Verdict;
-use judged_calls::Worked;
 use judged_lines::print;
-use judged_lines::print_changes;
 use judged_lines::print_refusal;
-use sizes::CHANGE_BYTES;
 
 // Looks at the list of n, and prints it, or the refusal.
 pub fn look(worked: Worked, n: u32) {
@@ -88,38 +86,6 @@ pub fn audit(worked: Worked) {
         Verdict::Refused(refusal) => {
             let number = [refusal.number()];
             print(b'R', &number);
-        }
-    }
-}
-
-// Previews a quote of two columns, and prints how many rows it would leave live and held and its changes, or the refusal.
-pub fn preview(worked: Worked, quote: [u32; 2]) {
-    let columns = worked.columns;
-    let positions = worked.positions;
-    let lower_ends = worked.lower_ends;
-    let upper_ends = worked.upper_ends;
-    let records = worked.records;
-    let mut out = [0u8; CHANGE_BYTES];
-    let effect = by_value::preview(
-        worked.head,
-        &quote,
-        &columns,
-        &positions,
-        &lower_ends,
-        &upper_ends,
-        records,
-        &mut out,
-    );
-    let reply = effect.reply;
-    let answer = reply.answer;
-    match answer {
-        Answer::Accepted => {
-            let numbers = [effect.live, effect.held];
-            print(b'N', &numbers);
-            print_changes(&out, reply.count);
-        }
-        Answer::Refused(_) => {
-            print_refusal(answer);
         }
     }
 }

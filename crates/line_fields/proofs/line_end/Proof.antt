@@ -5,16 +5,16 @@ use native.Mathlib.Omega.{arith}
 use denote.Ref.{now}
 use lib.ListN.{length, drop}
 use borrow.Author.Needs.{needs}
-use Rattle.notation.proofs.Reading.{end-more, end-newline, end-last}
-use Rattle.notation.specs.Lines.{lineLength}
-use Rattle.notation.proofs.lines.line_end.Statement.{statement}
-use Rattle.notation.proofs.lines.line_end.Tie as tie
+use Rattle.line_fields.proofs.Scanning.{end-more, end-newline, end-last}
+use Rattle.line_fields.specs.Fields.{lineLength}
+use Rattle.line_fields.proofs.line_end.Statement.{statement}
+use Rattle.line_fields.proofs.line_end.Tie as tie
 
 abbrev Inv-loop : tie.InvT-loop
-Inv-loop text place at₀ at = place + lineLength (drop place text) ≡ at + lineLength (drop at text)
+Inv-loop text place end₀ end = place + lineLength (drop place text) ≡ end + lineLength (drop end text)
 
 abbrev μ-loop : tie.MeasureT-loop
-μ-loop text place at₀ at = length text - at
+μ-loop text place end₀ end = length text - end
 
 loop-holds : tie.Need-loop-holds Inv-loop μ-loop
 loop-holds c = refl
@@ -22,8 +22,8 @@ loop-holds c = refl
 shared-slice-read-if1 : tie.Need-shared-slice-read-if1 Inv-loop μ-loop
 shared-slice-read-if1 c = search needs
 
-add-at : tie.Need-add-at Inv-loop μ-loop
-add-at c = search needs
+add-end : tie.Need-add-end Inv-loop μ-loop
+add-end c = search needs
 
 loop-less : tie.Need-loop-less Inv-loop μ-loop
 loop-less c = search needs
@@ -45,7 +45,7 @@ line-end-spec =
     μ-loop
     loop-holds
     shared-slice-read-if1
-    add-at
+    add-end
     loop-less
     loop-again
     returns

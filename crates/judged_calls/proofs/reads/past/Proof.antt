@@ -3,9 +3,9 @@ use mathlib.Core.List.{append-nil}
 use lib.ListN.{length-take}
 use native.Mathlib.Omega.{arith}
 use borrow.Author.Needs.{needs}
-use Rattle.judged_reads.proofs.Cells.{fits}
-use Rattle.judged_reads.proofs.past.Statement.{statement}
-use Rattle.judged_reads.proofs.past.Tie as tie
+use Rattle.judged_calls.proofs.Cells.{fits}
+use Rattle.judged_calls.proofs.reads.past.Statement.{statement}
+use Rattle.judged_calls.proofs.reads.past.Tie as tie
 
 slice-aggregate-past : tie.Need-slice-aggregate-past
 slice-aggregate-past c = search needs

@@ -3,9 +3,9 @@ use mathlib.Core.List.{append-nil}
 use lib.ListN.{length-take}
 use native.Mathlib.Omega.{arith}
 use borrow.Author.Needs.{needs}
-use Rattle.judged_reads.proofs.Cells.{fits}
-use Rattle.judged_reads.proofs.look.Statement.{statement}
-use Rattle.judged_reads.proofs.look.Tie as tie
+use Rattle.judged_calls.proofs.Cells.{fits}
+use Rattle.judged_calls.proofs.reads.look.Statement.{statement}
+use Rattle.judged_calls.proofs.reads.look.Tie as tie
 
 slice-aggregate-look : tie.Need-slice-aggregate-look
 slice-aggregate-look c = search needs
