@@ -1,12 +1,11 @@
--- The parts of a look: the answer but for the output, the positions that are due, and cells written if there is room, else 13.
+-- The parts of a look: the answer but for the output, and cells written if there is room, else 13.
 use mathlib.Core.Path.{_≡_}
-use Prim.Native.Nat.{ℕ, _-_}
-use mathlib.Core.List.{List, [], _∷_, map}
+use Prim.Native.Nat.{ℕ}
+use mathlib.Core.List.{List, [], _∷_}
 use lib.Dec.{ltb, eqb}
 use mathlib.Core.Bool.{_||_}
 use lib.ListN.{length}
-use Rattle.lists.specs.Lists.{flat, laid}
-use Rattle.skyline.specs.Skyline.{windowStart}
+use Rattle.lists.specs.Lists.{laid}
 use Rattle.head.specs.declared.Head.{Head}
 use Rattle.head.specs.declared.Reply.{Reply}
 use Rattle.head.specs.declared.Refusal.the-variants.{ShortOutput, WindowSize, WindowOrder}
@@ -14,7 +13,6 @@ use Rattle.head.specs.Refusals.{number, firstOf, granted}
 use Rattle.head.specs.Replies.{outcome}
 use Rattle.model.specs.Rows.{Tables}
 use Rattle.model.specs.Book.{answerOf, outOfRange, replyOf}
-use Rattle.listing.specs.Due.{duePositions, dueOf}
 
 -- 13, if the positions do not fit this room
 unfoldable pub roomAnswer : ℕ → List ℕ → ℕ
@@ -36,13 +34,3 @@ sizeAnswer h n t = answerOf h t ((outOfRange h n, number WindowSize) ∷ [])
 -- the answer of a look at the past list of n1 and n2 but for the output: 3, 11, 12, 5, 14
 unfoldable pub sizesAnswer : Head → ℕ → ℕ → Tables → ℕ
 sizesAnswer h n1 n2 t = answerOf h t ((eqb n1 0 || ltb (h .capacity) n2, number WindowSize) ∷ (ltb n2 n1, number WindowOrder) ∷ [])
-
--- the positions that are due for the head's pair, by the lower ends of rows that fill the window of N
-unfoldable pub dueOn : Head → List ℕ → List ℕ
-dueOn h lowers =
-    let M = h .newest in
-    duePositions (windowStart M (h .n1 - 1)) M (windowStart M (h .n2)) (windowStart M (h .capacity)) lowers
-
--- what is written of them
-unfoldable pub dueCellsOn : Head → List ℕ → List ℕ
-dueCellsOn h lowers = flat (map (dueOf (h .newest) (h .n1)) (dueOn h lowers))

@@ -1,4 +1,4 @@
-// The looks: the list of n, the past list of n1 and n2, and what is due, written into lent cells.
+// The looks: the list of n, and the past list of n1 and n2, written into lent cells.
 ghost use mathlib.Core.Path.{_≡_};
 ghost use Prim.Native.Nat.{_+_, _-_, _≤_};
 ghost use mathlib.Core.Bool.{_||_};
@@ -7,9 +7,9 @@ ghost use lib.ListN.{length};
 ghost use Rattle.skyline.specs.Skyline.{windowStart};
 ghost use Rattle.head.specs.Heads.{lastPosition};
 ghost use Rattle.head.specs.Refusals.{numberOf};
-ghost use Rattle.model.specs.Promises.{tables, Looked, PastLooked, DueLooked};
+ghost use Rattle.model.specs.Promises.{tables, Looked, PastLooked};
 ghost use Rattle.listing.specs.Picked.{listedIn, Window};
-ghost use Rattle.looking.specs.Shown.{Written, Shown, sizeAnswer, sizesAnswer, dueOn, dueCellsOn};
+ghost use Rattle.looking.specs.Shown.{Shown, sizeAnswer, sizesAnswer};
 use head::Answer;
 use head::Head;
 use head::Refusal;
@@ -17,10 +17,8 @@ use head::Reply;
 use judging::judge;
 use judging::out_of_range;
 use judging::with_test;
-use listing::count_due;
 use listing::count_listed;
 use listing::start_of;
-use listing::write_due;
 use listing::write_listed;
 
 // The answer of a look at the list of n but for the output: 3, 11, 12, 5.
@@ -112,37 +110,6 @@ fn write_list(
     }
 }
 
-// Writes of each row that is due for the head's pair its position and after how many more quotes it joins, oldest first, if there is
-// room, and hands back how many rows.
-fn write_rows(head: Head, lower_ends: &[u32], out: &mut [u32]) -> Reply
-    requires { ⌜ head .newest ≤ lastPosition ⌝ }
-    requires { ⌜ 1 ≤ head .n1 ⌝ }
-    requires { ⌜ head .n1 ≤ 1024 ⌝ }
-    requires { ⌜ Window (windowStart (head .newest) (head .capacity)) (windowStart (head .newest) (head .n1 - 1))
-        (head .newest) (now «lower_ends») (now «lower_ends») ⌝ }
-    ensures { λ r. ⌜ Written head (dueCellsOn head (now («lower_ends» .entry)))
-        (length (dueOn head (now («lower_ends» .entry)))) (now (out .entry)) r (now (out .exit)) ⌝ }
-{
-    let first = start_of(head, head.capacity);
-    let a = start_of(head, head.n1 - 1);
-    let c = start_of(head, head.n2);
-    let count = count_due(lower_ends, first, a, head.newest, c);
-    let cells = 2 * count;
-    if out.len() < cells {
-        return Reply {
-            answer: Answer::Refused(Refusal::ShortOutput),
-            head,
-            count: 0,
-        };
-    }
-    write_due(lower_ends, first, a, head.newest, c, head.n1, out);
-    Reply {
-        answer: Answer::Accepted,
-        head,
-        count,
-    }
-}
-
 // Writes the positions of the list of n into out, oldest first, and hands back how many.
 pub fn look(
     head: Head,
@@ -199,38 +166,4 @@ pub fn past(
     let a = start_of(head, n2);
     let b = end_of(head, n1);
     write_list(head, a, b, lower_ends, upper_ends, out)
-}
-
-// Writes of each row that is due its position and after how many more quotes it joins the past list of the pair, oldest first, and hands
-// back how many rows; nothing where no pair is watched.
-pub fn due(
-    head: Head,
-    columns: &[u32],
-    positions: &[u32],
-    lower_ends: &[u32],
-    upper_ends: &[u32],
-    out: &mut [u32],
-) -> Reply
-    ensures { λ r. ⌜ DueLooked head (tables (now (columns .entry)) (now (positions .entry)) (now («lower_ends» .entry))
-        (now («upper_ends» .entry))) (now (out .entry)) r (now (out .exit)) ⌝ }
-{
-    let answer = judge(head, columns, positions, lower_ends, upper_ends);
-    match answer {
-        Answer::Accepted => {}
-        Answer::Refused(_) => {
-            return Reply {
-                answer,
-                head,
-                count: 0,
-            };
-        }
-    }
-    if head.n1 == 0 {
-        return Reply {
-            answer,
-            head,
-            count: 0,
-        };
-    }
-    write_rows(head, lower_ends, out)
 }

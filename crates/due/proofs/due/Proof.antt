@@ -1,9 +1,9 @@
 -- `due` meets its contract: refused, or with no pair, it leaves everything as it was; else it writes the rows that are due if there is room.
 use native.Mathlib.Omega.{arith}
-use Rattle.looking.proofs.DueLooks.{due-passed, due-window, due-refused, due-none, due-done}
+use Rattle.due.proofs.DueLooks.{due-passed, due-window, due-refused, due-none, due-done}
 use borrow.Author.Needs.{needs}
-use Rattle.looking.proofs.due.Statement.{statement}
-use Rattle.looking.proofs.due.Tie as tie
+use Rattle.due.proofs.due.Statement.{statement}
+use Rattle.due.proofs.due.Tie as tie
 
 judge-requires : tie.Need-judge-requires
 judge-requires c κs = search needs

@@ -27,8 +27,9 @@ use Rattle.listing.specs.Due.{duePositions, dueOf}
 use Rattle.listing.proofs.Listing.{whole-consecutive}
 use Rattle.listing.proofs.DueRows.{due-count, due-written, due-length}
 use Rattle.judging.proofs.Answering.{Passed, rows-stand, answer-passed, stays}
-use Rattle.looking.specs.Shown.{roomAnswer, Written, dueOn, dueCellsOn}
+use Rattle.looking.specs.Shown.{roomAnswer, Written}
+use Rattle.due.specs.Due.{dueOn, dueCellsOn}
 use Rattle.looking.proofs.Listing.{first, filled, behind, shown-reply, shown-none, shown-all}
 
 -- two cells for each position
 pub due-cells : (h : Head) (lowers : List ℕ) → length (dueCellsOn h lowers) ≡ 2 * length (dueOn h lowers)

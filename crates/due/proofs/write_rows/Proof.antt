@@ -2,10 +2,10 @@
 use native.Mathlib.Omega.{arith}
 use Rattle.skyline.specs.Skyline.{windowStart}
 use Rattle.listing.proofs.DueRows.{due-bounded}
-use Rattle.looking.proofs.DueLooks.{rows-none, rows-all}
+use Rattle.due.proofs.DueLooks.{rows-none, rows-all}
 use borrow.Author.Needs.{needs}
-use Rattle.looking.proofs.write_rows.Statement.{statement}
-use Rattle.looking.proofs.write_rows.Tie as tie
+use Rattle.due.proofs.write_rows.Statement.{statement}
+use Rattle.due.proofs.write_rows.Tie as tie
 
 start-of-requires : tie.Need-start-of-requires
 start-of-requires c κs = search needs
