@@ -11,6 +11,9 @@ use sizes::CHANGE_BYTES;
 use sizes::COLUMN_CELLS;
 use sizes::PLACES;
 
+// How many bytes of lines are kept at a time, and how many are gathered before they are written out.
+const PIECE: usize = 65536;
+
 fn main() {
     let mut columns = [0u32; COLUMN_CELLS];
     let mut positions = [0u32; PLACES];
@@ -18,8 +21,8 @@ fn main() {
     let mut upper_ends = [0u32; PLACES];
     let mut out = [0u8; CHANGE_BYTES];
     let mut cells = [0u32; CHANGE_BYTES];
-    let mut text = [0u8; 65536];
-    let mut lines = [0u8; 65536];
+    let mut text = [0u8; PIECE];
+    let mut lines = [0u8; PIECE];
     let mut state = State::first();
     let mut print = Print {
         lines: 0,

@@ -98,7 +98,7 @@ pub fn tell(head: Head, n: u32) {
     if paired.torn_pair() {
         return;
     }
-    if head.window_start(n) <= 16777215 {
+    if head.window_start(n) <= Head::MAX_POSITION as u64 {
         let numbers = [
             n,
             head.window_start(n) as u32,

@@ -9,6 +9,7 @@ use head::Head;
 use head::Reply;
 use quoting::judge_row;
 use settling::find;
+use sizes::PLACES;
 use writing::accept;
 use writing::write;
 
@@ -69,7 +70,7 @@ pub fn preview(
             );
         }
     }
-    let mut places = [0u16; 1024];
+    let mut places = [0u16; PLACES];
     let found = find(head, quote, columns, upper_ends, &mut places);
     let at = found.at;
     let count = write(

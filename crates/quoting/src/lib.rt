@@ -18,6 +18,7 @@ use settling::find;
 use settling::settle;
 use settling::settle_lower_ends;
 use settling::settle_upper_ends;
+use sizes::PLACES;
 use writing::accept;
 use writing::write;
 
@@ -102,7 +103,7 @@ pub fn quote(
             };
         }
     }
-    let mut places = [0u16; 1024];
+    let mut places = [0u16; PLACES];
     let found = find(head, quote, columns, upper_ends, &mut places);
     enter(
         head,

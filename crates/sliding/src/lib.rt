@@ -21,6 +21,7 @@ use quoting::judge_reached;
 use settling::Finding;
 use settling::find_reached;
 use settling::named_before;
+use sizes::PLACES;
 use writing::accept;
 use writing::write;
 
@@ -143,7 +144,7 @@ pub fn quote_sliding(
             };
         }
     }
-    let mut places = [0u16; 1024];
+    let mut places = [0u16; PLACES];
     let found = find_reached(head, quote, columns, upper_ends, &mut places);
     enter(
         head,

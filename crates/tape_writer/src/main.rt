@@ -126,9 +126,12 @@ fn read_on(cursor: Cursor, text: &mut [u8], out: &mut [u8]) -> Cursor
     now
 }
 
+// How many bytes of lines are kept at a time, and how many of a tape are gathered before they are written out.
+const PIECE: usize = 65536;
+
 fn main() {
-    let mut text = [0u8; 65536];
-    let mut out = [0u8; 65536];
+    let mut text = [0u8; PIECE];
+    let mut out = [0u8; PIECE];
     let mut cursor = Cursor {
         lines: 0,
         rest: 0,
