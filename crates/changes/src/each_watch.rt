@@ -13,9 +13,9 @@ ghost use Rattle.changes.specs.Watches.{shiftOf, heldIn, Full, Outdone, 
 use crate::Shift;
 use crate::kinds::kinds_of;
 use crate::moves::write_changes;
+use desk_shares::size_of;
 use head::Head;
 use listing::start_of;
-use watches::size_of;
 
 // How the window of n moves at a quote.
 pub fn shift_of(head: Head, n: u32) -> Shift

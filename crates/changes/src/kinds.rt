@@ -1,11 +1,11 @@
 // The kinds of a watch's changes, by its desk.
 ghost use mathlib.Core.Path.{_≡_};
 ghost use Rattle.changes.specs.Kinds.{kindsOf};
+use desk_shares::desk_of;
 use frames::JOIN;
 use frames::JOIN_TWO;
 use frames::LEAVE;
 use frames::LEAVE_TWO;
-use watches::desk_of;
 
 // The kinds of a watch's leaves and joins.
 pub struct Kinds {

@@ -1,6 +1,4 @@
--- The laws of the crate: records as numbers, and the invariants of its passes over the eight watches.
-pub mod RecordNumbers
-pub mod Counting
+-- The laws of the crate: the invariants of its passes over the eight watches.
 pub mod Judging
 pub mod Inserting
 pub mod Removing

@@ -1,7 +1,4 @@
 // The watches of a book: eight records, each as one number, that are counted, sought, judged, inserted and removed.
-mod desks;
-mod shares;
-
 ghost use mathlib.Core.Path.{_≡_};
 ghost use mathlib.Core.Bool.{not, cond};
 ghost use Prim.Native.Nat.{_≤_};
@@ -10,14 +7,12 @@ ghost use Rattle.lists.specs.Lists.{contains, insert, without, padded};
 ghost use Rattle.head.specs.Desks.{watchOf};
 ghost use Rattle.watches.specs.Vacancy.{Vacant};
 ghost use Rattle.model.specs.Book.{isWatch, ordered, standing, tornWatches};
-pub use desks::DESK_UNIT;
-pub use desks::desk_of;
-pub use desks::size_of;
-pub use desks::watch_of;
+use desk_shares::above_shares;
+use desk_shares::desk_of;
+use desk_shares::size_of;
+use desk_shares::watch_of;
 use head::Desk;
 use head::Reply;
-use shares::above_shares;
-pub use shares::full;
 
 // What a call that may change the watches hands back: its reply, and the watches after it.
 pub struct WatchReply {

@@ -5,6 +5,7 @@ ghost use Rattle.head.specs.declared.Refusal.the-variants.{WindowSize};
 ghost use Rattle.head.specs.Refusals.{number, numberOf};
 ghost use Rattle.model.specs.Book.{watchfulAnswer, outOfRange, watchAnswer, endAnswer};
 ghost use Rattle.model.specs.Promises.{tables, Watched, Ended};
+use desk_shares::full;
 use head::Answer;
 use head::Desk;
 use head::Head;
@@ -19,7 +20,6 @@ use listing::start_of;
 use listing::write_joins;
 use watches::WatchReply;
 use watches::find;
-use watches::full;
 use watches::insert;
 use watches::remove;
 

@@ -2,7 +2,7 @@
 use Prim.Native.Nat.{_-_}
 use native.Mathlib.Omega.{arith}
 use borrow.Author.Needs.{needs}
-use Rattle.watches.proofs.Counting.{Finding, start-find, more-find, finish-find}
+use Rattle.desk_shares.proofs.Counting.{Finding, start-find, more-find, finish-find}
 use Rattle.watches.proofs.find.Statement.{statement}
 use Rattle.watches.proofs.find.Tie as tie
 

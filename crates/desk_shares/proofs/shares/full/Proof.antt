@@ -1,8 +1,8 @@
 -- `full` meets its contract.
 use borrow.Author.Needs.{needs}
 use Rattle.model.specs.Shares.{deskFull}
-use Rattle.watches.proofs.shares.full.Statement.{statement}
-use Rattle.watches.proofs.shares.full.Tie as tie
+use Rattle.desk_shares.proofs.shares.full.Statement.{statement}
+use Rattle.desk_shares.proofs.shares.full.Tie as tie
 
 count-of-requires : tie.Need-count-of-requires
 count-of-requires c κs = search needs

@@ -3,9 +3,9 @@ use native.Mathlib.Omega.{arith}
 use borrow.Author.Needs.{needs}
 use Rattle.head.specs.declared.Desk.the-variants.{One, Two}
 use Rattle.model.specs.Shares.{aboveShares}
-use Rattle.watches.proofs.Counting.{bounded-of-desk}
-use Rattle.watches.proofs.shares.above_shares.Statement.{statement}
-use Rattle.watches.proofs.shares.above_shares.Tie as tie
+use Rattle.desk_shares.proofs.Counting.{bounded-of-desk}
+use Rattle.desk_shares.proofs.shares.above_shares.Statement.{statement}
+use Rattle.desk_shares.proofs.shares.above_shares.Tie as tie
 
 count-of-requires : tie.Need-count-of-requires
 count-of-requires c κs = search needs

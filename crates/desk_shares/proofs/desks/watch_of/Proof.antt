@@ -3,8 +3,8 @@ use Prim.Native.Nat.{ℕ, _+_, _*_}
 use mathlib.Core.Path.{ap}
 use borrow.Author.Needs.{needs}
 use Rattle.head.specs.Desks.{deskUnit, recordOf, watchOf}
-use Rattle.watches.proofs.desks.watch_of.Statement.{statement}
-use Rattle.watches.proofs.desks.watch_of.Tie as tie
+use Rattle.desk_shares.proofs.desks.watch_of.Statement.{statement}
+use Rattle.desk_shares.proofs.desks.watch_of.Tie as tie
 
 desk-number-requires : tie.Need-desk-number-requires
 desk-number-requires c κs = search needs

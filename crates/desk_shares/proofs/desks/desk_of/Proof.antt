@@ -2,8 +2,8 @@
 use mathlib.Core.Path.{refl}
 use borrow.Author.Needs.{needs}
 use Rattle.head.specs.Desks.{deskIn}
-use Rattle.watches.proofs.desks.desk_of.Statement.{statement}
-use Rattle.watches.proofs.desks.desk_of.Tie as tie
+use Rattle.desk_shares.proofs.desks.desk_of.Statement.{statement}
+use Rattle.desk_shares.proofs.desks.desk_of.Tie as tie
 
 cast-result : tie.Need-cast-result
 cast-result c = search needs

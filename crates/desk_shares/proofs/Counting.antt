@@ -18,7 +18,7 @@ use Rattle.head.specs.declared.Desk.{Desk}
 use Rattle.head.specs.Desks.{deskNumber, deskIn, watchOf}
 use Rattle.model.specs.Shares.{ofDesk, countOf}
 use Rattle.model.specs.Book.{standing}
-use Rattle.watches.proofs.RecordNumbers.{watch-stands, desk-stands}
+use Rattle.desk_shares.proofs.RecordNumbers.{watch-stands, desk-stands}
 
 -- a watch is that of the desk with this number
 unfoldable pub ofNumber : ℕ → ℕ → Bool

@@ -3,9 +3,9 @@ use Prim.Native.Nat.{_-_}
 use mathlib.Core.Path.{sym, _∙_}
 use native.Mathlib.Omega.{arith}
 use borrow.Author.Needs.{needs}
-use Rattle.watches.proofs.Counting.{Counting, start-count, bounded-counted, more-owned, more-other, finish-count}
-use Rattle.watches.proofs.shares.count_of.Statement.{statement}
-use Rattle.watches.proofs.shares.count_of.Tie as tie
+use Rattle.desk_shares.proofs.Counting.{Counting, start-count, bounded-counted, more-owned, more-other, finish-count}
+use Rattle.desk_shares.proofs.shares.count_of.Statement.{statement}
+use Rattle.desk_shares.proofs.shares.count_of.Tie as tie
 
 abbrev Inv-loop : tie.InvT-loop
 Inv-loop watches number count₀ seen₀ count seen = Counting watches number count seen
