@@ -70,7 +70,7 @@ fn follow(plant: Plant, list: &[String]) -> Result<usize, String> {
 /// Tries every small list and some random ones; yes if nothing differs.
 pub fn hold(plant: Plant) -> bool {
     let mut quotes = 0;
-    for list in small_lists().into_iter().chain((0..LISTS).map(|i| random_list(1, i))) {
+    for list in small_lists().into_iter().map(|list| list()).chain((0..LISTS).map(|i| random_list(1, i))) {
         match follow(plant, &list) {
             Ok(more) => quotes += more,
             Err(message) => {

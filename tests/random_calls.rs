@@ -229,7 +229,7 @@ fn show_difference(name: &str, list: &[String], at: usize, want: &str, got: &str
 /// Compares player and model on all sorts of lists; yes if nothing differs and every answer came.
 fn compare_all(comparison: &Comparison, seed: u64, lists: usize) -> bool {
     let small = small_lists::small_lists();
-    let mut total = comparison.run("small", small.len(), |i| small[i].clone());
+    let mut total = comparison.run("small", small.len(), |i| small[i]());
     if total.unlike == 0 {
         total.add(comparison.run("random", lists, |i| call_lists::random_list(seed, i as u64)));
     }

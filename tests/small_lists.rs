@@ -5,6 +5,14 @@ use crate::call_lists::{List, Values, BAD_LINES};
 use crate::call_model::OUTPUT;
 use crate::random::Random;
 
+/// What makes a list, when it is played.
+pub type Maker = Box<dyn Fn() -> Vec<String> + Send + Sync>;
+
+/// What makes a list, from a function.
+fn maker(list: impl Fn() -> Vec<String> + Send + Sync + 'static) -> Maker {
+    Box::new(list)
+}
+
 /// What `show` says of eight empty records.
 const EMPTIES: &str = "W 0 0 0 0 0 0 0 0\nD 0 0 0 0 0 0 0 0\n";
 
@@ -149,11 +157,11 @@ fn watched_pair(d: u32, memory: u32, n1: u32, n2: u32) -> Vec<String> {
 }
 
 /// Every pair of a small N so watched.
-fn watched_pairs() -> Vec<Vec<String>> {
+fn watched_pairs() -> Vec<Maker> {
     let mut lists = Vec::new();
     for (d, memory) in [1, 2, 3].into_iter().flat_map(|d| (2..=6).map(move |memory| (d, memory))) {
         let pairs = (2..=memory).flat_map(|n1| (n1..=memory).map(move |n2| (n1, n2)));
-        lists.extend(pairs.map(|(n1, n2)| watched_pair(d, memory, n1, n2)));
+        lists.extend(pairs.map(|(n1, n2)| maker(move || watched_pair(d, memory, n1, n2))));
     }
     lists
 }
@@ -278,13 +286,16 @@ fn untorn_book(newest: u32, ends: &[(u32, u32)], values: u32, pair: (u32, u32)) 
 }
 
 /// Every untorn book of one column with N 3 and M from 2 to 4, the pairs of N in turn.
-fn untorn_books() -> Vec<Vec<String>> {
+fn untorn_books() -> Vec<Maker> {
     let mut lists = Vec::new();
     let mut pairs = [(2, 3), (2, 2), (3, 3), (2, 3), (0, 0)].into_iter().cycle();
     for (start, newest) in [(1, 2), (1, 3), (2, 4)] {
         for ends in every_ends(start, newest) {
             let books = (0..3u32.pow(ends.len() as u32)).zip(pairs.by_ref());
-            lists.extend(books.map(|(values, pair)| untorn_book(newest, &ends, values, pair)));
+            lists.extend(books.map(|(values, pair)| {
+                let ends = ends.clone();
+                maker(move || untorn_book(newest, &ends, values, pair))
+            }));
         }
     }
     lists
@@ -318,13 +329,13 @@ fn retired_over(memory: u32, newest: u32, place: u32, live_one: Option<u32>) -> 
 }
 
 /// Books of that sort for small N, before and after the first row ages out.
-fn retired_overs() -> Vec<Vec<String>> {
+fn retired_overs() -> Vec<Maker> {
     let mut lists = Vec::new();
     for memory in 2..=6 {
         for newest in [memory - 1, memory, memory + 3] {
             for place in 0..memory.min(newest) - 1 {
                 let live_ones = std::iter::once(None).chain((0..place).map(Some));
-                lists.extend(live_ones.map(|live_one| retired_over(memory, newest, place, live_one)));
+                lists.extend(live_ones.map(|live_one| maker(move || retired_over(memory, newest, place, live_one))));
             }
         }
     }
@@ -473,22 +484,22 @@ pub fn examples() -> Vec<(Vec<String>, String)> {
 }
 
 /// All small lists, and one of every sort of line that cannot be taken.
-pub fn small_lists() -> Vec<Vec<String>> {
+pub fn small_lists() -> Vec<Maker> {
     let mut lists = Vec::new();
     for d in 1..=6 {
         for memory in 1..=5 {
-            lists.extend((0..1 << d).map(|directions| every_window(d, memory, directions)));
-            lists.push(every_loan(d, memory));
+            lists.extend((0..1 << d).map(|directions| maker(move || every_window(d, memory, directions))));
+            lists.push(maker(move || every_loan(d, memory)));
         }
     }
-    lists.push(every_loan(6, 1_024));
-    lists.extend((0..=6).flat_map(|one| (0..=6).map(move |two| every_share(one, two))));
-    lists.extend((0..=8).flat_map(|one| (0..=8 - one).map(move |two| any_shares(one, two))));
-    lists.push(BAD_LINES.iter().map(|line| line.to_string()).collect());
-    lists.push(longest_answers());
-    lists.push(marked_audits());
-    lists.extend(examples().into_iter().map(|(lines, _)| lines));
-    lists.extend((1..=4).map(any_pairs));
+    lists.push(maker(|| every_loan(6, 1_024)));
+    lists.extend((0..=6).flat_map(|one| (0..=6).map(move |two| maker(move || every_share(one, two)))));
+    lists.extend((0..=8).flat_map(|one| (0..=8 - one).map(move |two| maker(move || any_shares(one, two)))));
+    lists.push(maker(|| BAD_LINES.iter().map(|line| line.to_string()).collect()));
+    lists.push(maker(longest_answers));
+    lists.push(maker(marked_audits));
+    lists.extend((0..examples().len()).map(|i| maker(move || examples().swap_remove(i).0)));
+    lists.extend((1..=4).map(|memory| maker(move || any_pairs(memory))));
     lists.extend(watched_pairs());
     lists.extend(untorn_books());
     lists.extend(retired_overs());
