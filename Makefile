@@ -2,7 +2,7 @@
 # What rt prints goes to a log under build/; standard error gets a line for each crate.
 SHELL := /bin/bash
 .SHELLFLAGS := -euo pipefail -c
-.PHONY: test run host random random-calls rules plants yardstick notation citations tapes test-slow bench
+.PHONY: test proofs models programs run host random random-calls rules plants rule-plants yardstick notation citations tapes test-slow bench
 
 PRINTER ?= target/bin/tape_printer
 WRITER ?= target/bin/tape_writer
@@ -20,13 +20,28 @@ CALL_PLANTS := renamed torn-first past-memory early live-lower overwritten retir
 RULE_PLANTS := upper-free pair-end due-equal preview-settles preview-held preview-head equals-stay earlier-stands \
   watch2-by-one
 SAMPLES := $(basename $(wildcard tapes/*.txt))
-RUSTC := rustc --edition 2021 -O -D warnings
+# a test leaves its core to a check that wants it
+IDLE := nice -n 19
+RUSTC := env -u MAKEFLAGS $(IDLE) rustc --edition 2021 -O -D warnings
 
 test: citations
-	@rt ci 2>&1 | tools/progress.sh build/ci.txt
-	@$(MAKE) --no-print-directory -j2 host random random-calls rules plants notation
+	@rm -f build/ci.txt.proved
+	@$(MAKE) --no-print-directory -j3 proofs models programs
+	@$(MAKE) --no-print-directory host
 	@tools/dearest.sh build/ci.txt
 	@tail -n 1 build/ci.txt | grep -Ex '[0-9]+ passed, 0 failed'
+
+# every crate from nothing, every must-fail edit, every program
+proofs:
+	@rt ci 2>&1 | tools/progress.sh build/ci.txt
+
+# beside the proofs, on what they leave idle: the tests built, and the models by themselves
+models: build/plain_model build/random_calls build/notation rules rule-plants
+
+# beside the must-fail edits, once every crate is proved: the programs against the models
+programs: build/plain_model build/random_calls build/notation
+	@until [ -e build/ci.txt.proved ]; do sleep 1; done
+	@$(MAKE) --no-print-directory random random-calls plants notation
 
 run: $(PRINTER)
 	@$(PRINTER) < $(TAPE)
@@ -40,28 +55,30 @@ host:
 
 # the printer against the plain model on random and damaged tapes
 random: build/plain_model $(PRINTER)
-	@build/plain_model $(PRINTER) $(SEED) $(TAPES)
+	@$(IDLE) build/plain_model $(PRINTER) $(SEED) $(TAPES)
 
 # the book player against the plain model of the calls, on random lists of calls and any tables
 random-calls: build/random_calls $(PLAYER)
-	@build/random_calls $(PLAYER) $(SEED) $(LISTS)
+	@$(IDLE) build/random_calls $(PLAYER) $(SEED) $(LISTS)
 
 # the audit's plain rules, lists and what is due, as that model has them, against every tape of small settings; its
 # previews against its quotes; what a desk sees of a list against what it sees of one that differs in all else
 rules: build/random_calls
-	@build/random_calls --rules
+	@$(IDLE) build/random_calls --rules
 
 # a model with a bug planted must not agree with the printer, the player or the tapes
-plants: $(PLANTS:%=plant-in-tapes-%) $(CALL_PLANTS:%=plant-in-calls-%) $(RULE_PLANTS:%=plant-in-rules-%)
+plants: $(PLANTS:%=plant-in-tapes-%) $(CALL_PLANTS:%=plant-in-calls-%)
+
+rule-plants: $(RULE_PLANTS:%=plant-in-rules-%)
 
 plant-in-tapes-%: build/plain_model $(PRINTER)
-	@tests/planted.sh tapes-$* 'the prints differ' build/plain_model --plant $* $(PRINTER) $(SEED) 1000
+	@$(IDLE) tests/planted.sh tapes-$* 'the prints differ' build/plain_model --plant $* $(PRINTER) $(SEED) 1000
 
 plant-in-calls-%: build/random_calls $(PLAYER)
-	@tests/planted.sh calls-$* 'the answers differ' build/random_calls --plant $* $(PLAYER) $(SEED) 1000
+	@$(IDLE) tests/planted.sh calls-$* 'the answers differ' build/random_calls --plant $* $(PLAYER) $(SEED) 1000
 
 plant-in-rules-%: build/random_calls
-	@tests/planted.sh rules-$* 'the rules differ' build/random_calls --plant $* --rules
+	@$(IDLE) tests/planted.sh rules-$* 'the rules differ' build/random_calls --plant $* --rules
 
 # the yardstick of make bench against the plain model, without the judgement and with it
 yardstick: build/plain_model build/yardstick
