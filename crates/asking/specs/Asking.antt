@@ -5,7 +5,7 @@ use mathlib.Core.List.{List}
 use lib.Dec.{eqb}
 use lib.ListN.{take}
 use Rattle.head.specs.declared.Desk.the-variants.{One, Two}
-use Rattle.head.specs.Refusals.{number}
+use Rattle.refusals.specs.Refusals.{number}
 use Rattle.frames.specs.declared.Message.{Message}
 use Rattle.frames.specs.declared.Message.the-variants as Message
 use Rattle.frame_kinds.specs.Kinds.{lookKind, watchKind, unwatchKind, watchTwoKind, unwatchTwoKind, pairKind, unpairKind, pastKind}

@@ -18,7 +18,7 @@ use frames::WATCH_TWO;
 use frames::read_at;
 use head::Desk;
 use head::Head;
-use head::Refusal;
+use refusals::Refusal;
 
 // What a frame wants of the player: a call, nothing at the end of the tape, or a refusal: of what cannot be read, or of a frame out of
 // place.

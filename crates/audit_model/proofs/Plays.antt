@@ -9,11 +9,11 @@ use lib.Dec.{ltb, leb, eqb}
 use lib.ListN.{length, getD, length-append}
 use borrow.Author.Tests.{eqb-true, leb-false, eq-eqb, lt-leb, le-ltb, not-false}
 use Rattle.head.specs.declared.Head.{Head}
-use Rattle.head.specs.declared.Refusal.the-variants.{ColumnCount, TapeFull, ShortOutput}
-use Rattle.head.specs.Refusals.{number, firstOf, granted}
+use Rattle.refusals.specs.declared.Refusal.the-variants.{ColumnCount, TapeFull, ShortOutput}
+use Rattle.refusals.specs.Refusals.{number, firstOf, granted}
 use Rattle.head.specs.Heads.{settingsHold, lastPosition}
 use Rattle.head.proofs.Settings.{settings-within}
-use Rattle.head.proofs.Numbers.{zero-passed}
+use Rattle.refusals.proofs.Numbers.{zero-passed}
 use Rattle.model.specs.Changes.{changeRoom}
 use Rattle.model.specs.Reference.{Reference, Quote, ample, newest, opening, isOpen, withQuote, withQuotes, tooShort, tells, referenceStep}
 use Rattle.audit_model.specs.Audit.{tapeOpening, plays}

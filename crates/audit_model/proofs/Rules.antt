@@ -11,9 +11,9 @@ use borrow.Author.Tests.{ltb-false, le-ltb, not-true}
 use Rattle.lists.specs.Lists.{any}
 use Rattle.lists.proofs.Booleans.{and-left, and-right, none-left, none-right}
 use Rattle.head.specs.declared.Head.{Head}
-use Rattle.head.specs.declared.Refusal.the-variants.{Settings, ShortLoan}
-use Rattle.head.specs.Refusals.{number, firstOf}
-use Rattle.head.specs.Replies.{yes}
+use Rattle.refusals.specs.declared.Refusal.the-variants.{Settings, ShortLoan}
+use Rattle.refusals.specs.Refusals.{number, firstOf}
+use Rattle.replies.specs.Replies.{yes}
 use Rattle.head.specs.Heads.{settingsHold}
 use Rattle.model.specs.Rows.{Row, Tables}
 use Rattle.model.specs.Book.{shortTables, tornRows, bookRows}

@@ -7,9 +7,9 @@ use lib.Dec.{ltb, eqb}
 use lib.ListN.{length, getD, take, drop}
 use Rattle.lists.specs.Lists.{filter, any, headOr, lastOr}
 use Rattle.head.specs.declared.Head.{Head}
-use Rattle.head.specs.declared.Refusal.the-variants.{Settings, ShortLoan}
-use Rattle.head.specs.Refusals.{number, firstOf}
-use Rattle.head.specs.Replies.{Finding, yes, no, refused}
+use Rattle.refusals.specs.declared.Refusal.the-variants.{Settings, ShortLoan}
+use Rattle.refusals.specs.Refusals.{number, firstOf}
+use Rattle.replies.specs.Replies.{Finding, yes, no, refused}
 use Rattle.head.specs.Heads.{settingsHold}
 use Rattle.model.specs.Rows.{Row, Tables, filled, overOlder, overYounger}
 use Rattle.model.specs.Reference.{Reference, unopened, ample, Told, headOf, rowsOf, referenceStep}

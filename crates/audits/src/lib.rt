@@ -1,9 +1,9 @@
 // The audit of a saved book: whether some tape leaves exactly these tables, this newest position and these counts.
 use dominance::compare;
 use head::Head;
-use head::Refusal;
-use head::Verdict;
 use judging::short_tables;
+use refusals::Refusal;
+use replies::Verdict;
 use rows::torn_rows;
 ghost use mathlib.Core.Path.{_≡_};
 ghost use Prim.Native.Nat.{_+_, _*_, _≤_, _<_};
@@ -11,7 +11,7 @@ ghost use mathlib.Core.Bool.{not};
 ghost use mathlib.Core.List.{[]};
 ghost use lib.ListN.{length};
 ghost use Rattle.lists.specs.Lists.{any, run};
-ghost use Rattle.head.specs.Replies.{finding};
+ghost use Rattle.replies.specs.Replies.{finding};
 ghost use Rattle.audit_model.specs.Audit.{zeroFrom, passes, auditFinding};
 ghost use Rattle.model.specs.Promises.{tables};
 ghost use Rattle.audits.specs.Ends.{overYoungerAt, overOlderAt, lowerFound, upperFound, wrongAt};

@@ -6,10 +6,10 @@ ghost use Rattle.model.specs.Book.{standing};
 ghost use Rattle.model.specs.Promises.{tables, Quoted, Previewed, Paired, Unpaired};
 ghost use Rattle.watch_records.specs.Records.{watched};
 use head::Desk;
-use head::Effect;
 use head::Head;
-use head::Reply;
 use head::Watch;
+use replies::Effect;
+use replies::Reply;
 
 // Takes a quote.
 pub fn quote(

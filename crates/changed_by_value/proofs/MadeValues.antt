@@ -7,9 +7,9 @@ use denote.Array.{Array, each}
 use denote.Laws.{Is}
 use denote.Shadow.{shadow}
 use denote.Steps.{only}
-use Rattle.head.specs.declared.Reply.{Reply}
+use Rattle.replies.specs.declared.Reply.{Reply}
 use Rattle.head.specs.declared.Watch.{Watch}
-use Rattle.head.proofs.Reply as R
+use Rattle.replies.proofs.Reply as R
 use Rattle.head.proofs.Watch as T
 use Rattle.shared_records.proofs.Machines.{machines}
 use Rattle.changed_by_value.specs.declared.Made.{Made}

@@ -4,8 +4,8 @@ ghost use Rattle.model.specs.Promises.{tables, Opened, Watched, Ended};
 ghost use Rattle.watch_records.specs.Records.{watched};
 use head::Desk;
 use head::Head;
-use head::Reply;
 use head::Watch;
+use replies::Reply;
 
 // What a call that may change the records hands back: its reply, and the records.
 pub struct Made {

@@ -14,9 +14,9 @@ use Rattle.head.specs.declared.Head.{Head}
 use Rattle.head.specs.declared.Desk.{Desk}
 use Rattle.head.specs.declared.Watch.{Watch}
 use Rattle.head.specs.Desks.{watchOf}
-use Rattle.head.specs.Refusals.{granted}
-use Rattle.head.specs.Replies.{outcome}
-use Rattle.head.proofs.Numbers.{zero-passed}
+use Rattle.refusals.specs.Refusals.{granted}
+use Rattle.replies.specs.Replies.{outcome}
+use Rattle.refusals.proofs.Numbers.{zero-passed}
 use Rattle.model.specs.Rows.{Tables}
 use Rattle.model.specs.Book.{shortTables, shortLoan, standing, watchfulAnswer, replyOf, openAnswer, openReply, openTables, openWatches, watchBytes, watchAnswer, watchReply, watchWatches, watchOut, endAnswer, endReply, endWatches}
 use Rattle.watch_records.specs.Records.{recordNumber, watched, firstEight, stored}

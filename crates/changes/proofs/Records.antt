@@ -1,14 +1,13 @@
 -- Laws of watch records that are not torn: each is empty or its n is from 1 to N, and those past the eighth do not matter.
 use mathlib.Core.Path.{_≡_, refl}
 use Prim.Native.Nat.{ℕ, zero, suc, _<_}
-use native.Mathlib.Nat.{le-refl}
 use native.Mathlib.Omega.{arith}
 use mathlib.Core.Bool.{Bool, true, false, _&&_, not, cond}
 use mathlib.Core.List.{List, [], _∷_}
 use lib.Dec.{ltb, leb, eqb}
 use lib.ListN.{getD, take}
-use lib.Seq.{take-take, getD-take}
-use borrow.Author.Tests.{ltb-false, leb-true, eqb-true, not-true, not-false}
+use lib.Seq.{getD-take}
+use borrow.Author.Tests.{ltb-false, eqb-true, not-true, not-false}
 use Rattle.lists.specs.Lists.{any}
 use Rattle.lists.proofs.Booleans.{and-left, and-right, none-left, none-right}
 use Rattle.head.specs.Desks.{sizeIn}
@@ -43,11 +42,6 @@ ordered-sized lo N (w ∷ ws) i e = go (eqb w 0) refl e i (λ f j. ordered-sized
     go true q f (suc j) r = empty-sized N (getD ws j 0) (none-above ws j (not-true (any (ltb 0) ws) f))
     go false q f zero r = watch-sized N w (and-right (leb lo w) (isWatch N w) (and-left (leb lo w && isWatch N w) (ordered (suc w) N ws) f))
     go false q f (suc j) r = r (and-right (leb lo w && isWatch N w) (ordered (suc w) N ws) f) j
-
--- records past the eighth are not judged
-pub torn-eight : (N : ℕ) (ws : List ℕ) → tornWatches N (take 8 ws) ≡ tornWatches N ws
-unfolding tornWatches standing
-torn-eight N ws = rw (take-take 8 8 ws (le-refl 8))
 
 -- each record is empty, or its n is from 1 to N
 pub watches-sized : (N : ℕ) (ws : List ℕ) → tornWatches N ws ≡ false → (i : ℕ) → Sized N (getD (take 8 ws) i 0)

@@ -15,7 +15,7 @@ use Rattle.skyline.specs.Skyline.{windowStart}
 use Rattle.skyline.specs.Past.{lowerEnd}
 use Rattle.skyline.proofs.Ends.{lower-cong}
 use Rattle.skyline.proofs.Due as Joining
-use Rattle.head.specs.Refusals.{granted}
+use Rattle.refusals.specs.Refusals.{granted}
 use Rattle.head.specs.Heads.{lastPosition, tornPair}
 use Rattle.head.specs.Desks.{watchOf}
 use Rattle.model.specs.Rows.{Row, dueRows}

@@ -12,9 +12,9 @@ use Rattle.lists.specs.Lists.{flat, padded}
 use Rattle.lists.proofs.Booleans.{clash}
 use Rattle.lists.proofs.Writing.{length-padded, padded-again, take-padded}
 use Rattle.head.specs.declared.Head.{Head}
-use Rattle.head.specs.Refusals.{firstOf, granted}
+use Rattle.refusals.specs.Refusals.{firstOf, granted}
 use Rattle.head.specs.Heads.{settingsHold}
-use Rattle.head.proofs.Numbers.{zero-passed}
+use Rattle.refusals.proofs.Numbers.{zero-passed}
 use Rattle.model.specs.Rows.{Row, Tables, filled}
 use Rattle.claims.specs.Places.{SameFront, SamePlaces}
 use Rattle.model.specs.Reference.{Reference, unopened, Lengths, rowsOf, headOf, isOpen, withQuote, withWatched, withPairOf, opening, tooShort, tells, foretells, referenceStep}

@@ -14,8 +14,8 @@ use Rattle.lists.proofs.Booleans.{clash, none-left, none-right}
 use Rattle.head.specs.declared.Head.{Head}
 use Rattle.head.specs.declared.Desk.{Desk}
 use Rattle.head.specs.declared.Desk.the-variants.{One, Two}
-use Rattle.head.specs.declared.Refusal.the-variants.{NoFreeRecord}
-use Rattle.head.specs.Refusals.{number, firstOf}
+use Rattle.refusals.specs.declared.Refusal.the-variants.{NoFreeRecord}
+use Rattle.refusals.specs.Refusals.{number, firstOf}
 use Rattle.head.specs.Heads.{settingsHold}
 use Rattle.model.specs.Rows.{Tables}
 use Rattle.model.specs.Shares.{countOf, aboveShares, deskFull}

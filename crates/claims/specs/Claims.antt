@@ -8,10 +8,10 @@ use lib.Dec.{eqb}
 use lib.ListN.{length, getD, take, drop}
 use Rattle.head.specs.declared.Head.{Head}
 use Rattle.head.specs.declared.Desk.{Desk}
-use Rattle.head.specs.declared.Reply.{Reply}
-use Rattle.head.specs.declared.Effect.{Effect}
+use Rattle.replies.specs.declared.Reply.{Reply}
+use Rattle.replies.specs.declared.Effect.{Effect}
 use Rattle.head.specs.Heads.{freshHead, lastPosition}
-use Rattle.head.specs.Replies.{outcome, yes}
+use Rattle.replies.specs.Replies.{outcome, yes}
 use Rattle.model.specs.Rows.{Row, Tables, joinsAfter}
 use Rattle.model.specs.Reference.{Reference, newest, skylineOf, pastOf, dueOf, headOf, isOpen, withQuotes}
 use Rattle.model.specs.Calls.{Call, Open, Quote, Look, Watch, End, Past, Pair, Unpair, Due, Preview, Outputs, Lending, Lent, Seen, World, headAfter, worldAfter, shown, expectedStep, runs, expectedFirst, expectedAtEnd, referenceAtEnd, positionsIn, livePositionsIn}

@@ -1,9 +1,9 @@
 // Dominance of one quote over another (01: beats).
 ghost use mathlib.Core.Path.{_≡_};
 ghost use mathlib.Core.Bool.{_&&_, not};
-ghost use Prim.Native.Nat.{_+_, _≤_, min};
+ghost use Prim.Native.Nat.{_+_, _≤_};
 ghost use lib.ListN.{length, drop};
-ghost use Rattle.dominance.specs.Dominance.{better, higher, dominates};
+ghost use Rattle.dominance.specs.Dominance.{better, higher};
 ghost use Rattle.dominance.specs.Compared.{compared};
 ghost use Rattle.dominance.specs.Turned.{mask};
 
@@ -42,13 +42,6 @@ fn is_better(bits: u32, x: u32, y: u32) -> bool
 {
     let turned = mask(bits);
     (x ^ turned) < (y ^ turned)
-}
-
-// The smaller of two numbers.
-fn smaller(x: usize, y: usize) -> usize
-    ensures { λ r. ⌜ r ≡ min x y ⌝ }
-{
-    if x < y { x } else { y }
 }
 
 // Compares the first d columns of a quote with the d cells from start on.
@@ -103,14 +96,4 @@ pub fn compare_unrolled(
         return compare(directions, 6, quote, cells, start);
     }
     compare(directions, d, quote, cells, start)
-}
-
-// Whether the first quote dominates the second, over the columns that both have.
-pub fn dominates(directions: u32, first: &[u32], second: &[u32]) -> bool
-    ensures { λ r. ⌜ r ≡ dominates (min (length (now (first .entry))) (length (now (second .entry)))) directions
-        (now (first .entry)) (now (second .entry)) ⌝ }
-{
-    let d = smaller(first.len(), second.len());
-    let c = compare(directions, d, first, second, 0);
-    c.better & !c.worse
 }

@@ -10,13 +10,13 @@ use borrow.Author.Tests.{ne-eqb}
 use Rattle.lists.specs.Lists.{flat, laid}
 use Rattle.skyline.specs.Skyline.{windowStart}
 use Rattle.head.specs.declared.Head.{Head}
-use Rattle.head.specs.declared.Reply.{Reply}
-use Rattle.head.specs.declared.Answer.{Answer}
-use Rattle.head.specs.declared.Answer.the-variants.{Accepted, Refused}
-use Rattle.head.specs.declared.Refusal.{Refusal}
-use Rattle.head.specs.declared.Refusal.the-variants.{ShortOutput}
-use Rattle.head.specs.Refusals.{number, numberOf}
-use Rattle.head.proofs.Numbers.{accepted-number}
+use Rattle.replies.specs.declared.Reply.{Reply}
+use Rattle.refusals.specs.declared.Answer.{Answer}
+use Rattle.refusals.specs.declared.Answer.the-variants.{Accepted, Refused}
+use Rattle.refusals.specs.declared.Refusal.{Refusal}
+use Rattle.refusals.specs.declared.Refusal.the-variants.{ShortOutput}
+use Rattle.refusals.specs.Refusals.{number, numberOf}
+use Rattle.refusals.proofs.Numbers.{accepted-number}
 use Rattle.model.specs.Rows.{Tables, dueRows, dueCells}
 use Rattle.model.specs.Book.{answerOf, bookRows, pairStands, dueIn, dueWritten, dueAnswer, dueReply, dueOut}
 use Rattle.model.specs.Promises.{DueLooked}

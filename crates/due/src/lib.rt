@@ -2,26 +2,26 @@
 ghost use Prim.Native.Nat.{_-_, _≤_};
 ghost use lib.ListN.{length};
 ghost use Rattle.skyline.specs.Skyline.{windowStart};
-ghost use Rattle.head.specs.Heads.{lastPosition};
+ghost use Rattle.head.specs.Heads.{lastPosition, maxCapacity};
 ghost use Rattle.model.specs.Promises.{tables, DueLooked};
 ghost use Rattle.listing.specs.Picked.{Window};
 ghost use Rattle.looking.specs.Shown.{Written};
 ghost use Rattle.due.specs.Due.{dueOn, dueCellsOn};
-use head::Answer;
 use head::Head;
-use head::Refusal;
-use head::Reply;
 use judging::judge;
 use listing::count_due;
 use listing::start_of;
 use listing::write_due;
+use refusals::Answer;
+use refusals::Refusal;
+use replies::Reply;
 
 // Writes of each row that is due for the head's pair its position and after how many more quotes it joins, oldest first, if there is
 // room, and hands back how many rows.
 fn write_rows(head: Head, lower_ends: &[u32], out: &mut [u32]) -> Reply
     requires { ⌜ head .newest ≤ lastPosition ⌝ }
     requires { ⌜ 1 ≤ head .n1 ⌝ }
-    requires { ⌜ head .n1 ≤ 1024 ⌝ }
+    requires { ⌜ head .n1 ≤ maxCapacity ⌝ }
     requires { ⌜ Window (windowStart (head .newest) (head .capacity)) (windowStart (head .newest) (head .n1 - 1))
         (head .newest) (now «lower_ends») (now «lower_ends») ⌝ }
     ensures { λ r. ⌜ Written head (dueCellsOn head (now («lower_ends» .entry)))

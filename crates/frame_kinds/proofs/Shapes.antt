@@ -110,10 +110,6 @@ pub shape-told : (shape : Shape) (kind : ℕ) → hasShape shape kind ≡ true �
 unfolding hasShape
 shape-told shape kind e = sym (code-back (shapeOf kind)) ∙ ap shapeCoded (eqb-true (codeOf (shapeOf kind)) (codeOf shape) e) ∙ code-back shape
 
-pub shape-tells : (shape : Shape) (kind : ℕ) → shapeOf kind ≡ shape → hasShape shape kind ≡ true
-unfolding hasShape
-shape-tells shape kind e = eq-eqb (codeOf (shapeOf kind)) (codeOf shape) (ap codeOf e)
-
 -- ---- body lengths
 
 -- a kind that has frames

@@ -8,9 +8,9 @@ use lib.ListN.{length}
 use borrow.Author.Tests.{lt-ltb, le-ltb, not-true, not-false}
 use Rattle.lists.specs.Lists.{laid}
 use Rattle.lists.proofs.Booleans.{refute}
-use Rattle.head.specs.declared.Answer.the-variants.{Accepted, Refused}
-use Rattle.head.specs.declared.Refusal.the-variants.{UnknownKind, ShortOutput}
-use Rattle.head.specs.Refusals.{firstOf, granted}
+use Rattle.refusals.specs.declared.Answer.the-variants.{Accepted, Refused}
+use Rattle.refusals.specs.declared.Refusal.the-variants.{UnknownKind, ShortOutput}
+use Rattle.refusals.specs.Refusals.{firstOf, granted}
 use Rattle.frame_kinds.specs.declared.Shape.the-variants as Shape
 use Rattle.frame_kinds.specs.Kinds.{kinds, shapeIn, shapeOf, hasShape, lengthOf, bodyLength}
 use Rattle.frame_kinds.proofs.Shapes.{quote-kinds, shape-told}

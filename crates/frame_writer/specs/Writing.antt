@@ -6,8 +6,8 @@ use mathlib.Core.List.{List, [], _∷_}
 use lib.Dec.{ltb}
 use lib.ListN.{length}
 use Rattle.lists.specs.Lists.{laid}
-use Rattle.head.specs.declared.Refusal.the-variants.{UnknownKind, ShortOutput}
-use Rattle.head.specs.Refusals.{number, numberOf, firstOf, granted}
+use Rattle.refusals.specs.declared.Refusal.the-variants.{UnknownKind, ShortOutput}
+use Rattle.refusals.specs.Refusals.{number, numberOf, firstOf, granted}
 use Rattle.frame_kinds.specs.Kinds.{bodyLength}
 use Rattle.frames.specs.Frames.{framed, kindOf, frame}
 use Rattle.frames.specs.declared.Message.{Message}

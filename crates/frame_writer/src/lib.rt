@@ -12,13 +12,13 @@ use frame_kinds::Shape;
 use frame_kinds::body_length;
 use frame_kinds::has_shape;
 use frames::Message;
-use head::Answer;
-use head::Refusal;
 use octets::lay_change;
 use octets::lay_number;
 use octets::lay_position;
 use octets::put_four;
 use octets::put_two;
+use refusals::Answer;
+use refusals::Refusal;
 
 // What was written: the answer, and how many bytes.
 pub struct Written {

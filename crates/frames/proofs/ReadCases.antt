@@ -5,7 +5,7 @@ use native.Mathlib.Omega.{arith}
 use mathlib.Core.List.{List}
 use lib.ListN.{length, getD}
 use borrow.Author.Tests.{lt-ltb, le-ltb, eq-eqb, ne-eqb}
-use Rattle.head.specs.declared.Refusal.the-variants.{UnknownKind, CutFrame}
+use Rattle.refusals.specs.declared.Refusal.the-variants.{UnknownKind, CutFrame}
 use Rattle.octets.specs.Bytes.{number2, number4}
 use Rattle.frame_kinds.specs.declared.Shape.{Shape}
 use Rattle.frame_kinds.specs.declared.Shape.the-variants as Shape

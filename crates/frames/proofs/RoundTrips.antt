@@ -22,14 +22,9 @@ use Rattle.frames.specs.declared.Message.{Message}
 use Rattle.frames.specs.declared.Message.the-variants.{Quote, Sized, Change, Pair, Bare, Position, Open, EndOfTape, Refused}
 use Rattle.frame_kinds.specs.Kinds.{leaveKind, joinKind, pairLeaveKind, pairJoinKind, openKind, kinds, shapeIn, shapeOf, codeOf, hasShape, lengthOf, bodyLength}
 use Rattle.frames.specs.Frames.{framed, frame, messageBy, messageAt, columnsAt, Saying, told, ended, refused, Reading, stays, readAt}
-use Rattle.frames.specs.Messages.{columnCount, columnsOf, Typed, Writable, Exact}
-use Rattle.frame_kinds.proofs.Shapes.{KnownShape, Known, quote-kinds, open-kind, open-shape, no-quote, shape-told, shape-tells, body-by, quote-body, known-body}
+use Rattle.frames.specs.Messages.{columnCount, columnsOf, Writable, Exact}
+use Rattle.frame_kinds.proofs.Shapes.{KnownShape, Known, quote-kinds, open-kind, open-shape, no-quote, shape-told, body-by, quote-body, known-body}
 use Rattle.frames.proofs.Reading.{message-drop, columns-drop, quote-columns, Found, beyond, at-end, unknown, cut, whole, found}
-use Rattle.frames.proofs.FrameSizes.{column-range}
-
--- a message that has a frame can be written with any six cells
-pub six-writable : (m : Message) (cs : List ℕ) → framed m ≡ true → Typed m → length cs ≡ 6 → ((i : ℕ) → getD cs i 0 < 4294967296) → Writable m cs
-six-writable m cs h t l f = record { has-frame = h; typed = t; enough = omega (arith, column-range m h); fits = λ i u. f i }
 
 -- the frame of a change has seven bytes
 pub change-length : (k n p : ℕ) → length (frame (Change k n p) []) ≡ 7
@@ -208,21 +203,6 @@ one-frame m m' cs cs' w w' x x' e =
     same = sym (read-after-write [] [] m cs w) ∙ ap (λ (f : List ℕ). readAt (f ++ []) 0) e ∙ read-after-write [] [] m' cs' w'
 
 -- ---- a frame that is read is written as the same bytes
-
--- a message of a kind that has frames has one
-pub kind-framed : (tape : List ℕ) (body kind : ℕ) → Known kind → framed (messageAt tape body kind) ≡ true
-unfolding messageAt messageBy framed
-kind-framed tape body kind known = go (shapeOf kind) refl known
-  where
-    go : (shape : Shape) → shapeOf kind ≡ shape → KnownShape shape → framed (messageBy shape tape body kind) ≡ true
-    go Shape.Columns e l = shape-tells Shape.Columns kind e
-    go Shape.Size e l = shape-tells Shape.Size kind e
-    go Shape.SizePosition e l = shape-tells Shape.SizePosition kind e
-    go Shape.SizePair e l = shape-tells Shape.SizePair kind e
-    go Shape.Bare e l = shape-tells Shape.Bare kind e
-    go Shape.Position e l = shape-tells Shape.Position kind e
-    go Shape.Settings e l = refl
-    go Shape.Unknown e l = absurd (omega arith)
 
 -- the bodies of a kind, written again
 module _ (l : List ℕ) (bytes : (i : ℕ) → getD l i 0 < 256) where

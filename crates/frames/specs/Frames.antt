@@ -5,8 +5,8 @@ use mathlib.Core.List.{List, [], _∷_, _++_, map}
 use lib.Dec.{ltb, eqb}
 use lib.ListN.{length, getD, take}
 use Rattle.lists.specs.Lists.{flat, run}
-use Rattle.head.specs.declared.Refusal.the-variants.{UnknownKind, CutFrame}
-use Rattle.head.specs.Refusals.{number}
+use Rattle.refusals.specs.declared.Refusal.the-variants.{UnknownKind, CutFrame}
+use Rattle.refusals.specs.Refusals.{number}
 use Rattle.octets.specs.Bytes.{bytes2, bytes4, number2, number4}
 use Rattle.frame_kinds.specs.declared.Shape.{Shape}
 use Rattle.frame_kinds.specs.declared.Shape.the-variants as Shape

@@ -18,9 +18,9 @@ pub use frame_kinds::UNWATCH_TWO;
 pub use frame_kinds::WATCH;
 pub use frame_kinds::WATCH_TWO;
 pub use frame_kinds::body_length;
-use head::Refusal;
 pub use places::read_next;
 pub use reader::read_at;
+use refusals::Refusal;
 
 // A message: what a frame says, or that there is none to read. A quote's columns stand beside it.
 pub enum Message {

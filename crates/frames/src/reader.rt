@@ -10,9 +10,9 @@ use frame_kinds::MAX_COLUMNS;
 use frame_kinds::Shape;
 use frame_kinds::body_length;
 use frame_kinds::shape_of;
-use head::Refusal;
 use octets::four_at;
 use octets::two_at;
+use refusals::Refusal;
 
 // The message of a kind, its whole body from a place on.
 fn message_at(tape: &[u8], body: usize, kind: u8) -> Message

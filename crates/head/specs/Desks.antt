@@ -3,6 +3,10 @@ use Prim.Native.Nat.{ℕ, _+_, _*_, _/_, _%_}
 use Rattle.head.specs.declared.Desk.{Desk}
 use Rattle.head.specs.declared.Desk.the-variants.{One, Two}
 
+-- how many records of the watch list are a book's; those past them are neither judged nor touched
+abbrev pub recordCount : ℕ
+recordCount = 8
+
 -- the number of a desk, as a record has it
 abbrev pub deskNumber : Desk → ℕ
 deskNumber One = 1

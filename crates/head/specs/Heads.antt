@@ -4,6 +4,14 @@ use mathlib.Core.Bool.{Bool, _&&_, _||_, not, cond}
 use lib.Dec.{leb, ltb, eqb}
 use Rattle.head.specs.declared.Head.{Head}
 
+-- the most columns of a quote (01: the largest d)
+abbrev pub maxDimensions : ℕ
+maxDimensions = 6
+
+-- the most quotes that a book remembers (01: the largest N)
+abbrev pub maxCapacity : ℕ
+maxCapacity = 1024
+
 -- the largest position a book takes
 abbrev pub lastPosition : ℕ
 lastPosition = 16777215
@@ -14,7 +22,7 @@ freshHead d N directions = record { dimensions = d; capacity = N; directions = d
 
 -- d from 1 to 6, N from 1 to 1,024, and no bit of the directions at d or above
 unfoldable pub settingsHold : ℕ → ℕ → ℕ → Bool
-settingsHold d N directions = (leb 1 d && leb d 6) && (leb 1 N && leb N 1024) && eqb (directions / 2 ^ d) 0
+settingsHold d N directions = (leb 1 d && leb d maxDimensions) && (leb 1 N && leb N maxCapacity) && eqb (directions / 2 ^ d) 0
 
 -- the head after an accepted quote that leaves this many live rows and rows held; a head at the last position stays
 unfoldable pub afterQuote : Head → ℕ → ℕ → Head

@@ -1,5 +1,3 @@
 -- The definitions of the crate.
-pub mod Refusals
 pub mod Heads
-pub mod Replies
 pub mod Desks

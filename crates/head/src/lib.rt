@@ -1,78 +1,7 @@
-// The head of a book with its limits, the refusals with their numbers, and the replies of the calls.
+// The head of a book with its limits, and the records of its watches.
 ghost use mathlib.Core.Path.{_≡_};
 ghost use Rattle.skyline.specs.Skyline.{windowStart};
-ghost use Rattle.head.specs.Refusals.{number};
 ghost use Rattle.head.specs.Heads.{freshHead, settingsHold, afterQuote, withPair, tornPair};
-
-// Why a call is refused (01: a no). The numbers are 01's.
-pub enum Refusal {
-    UnknownKind,
-    CutFrame,
-    Settings,
-    ColumnCount,
-    WindowSize,
-    TapeFull,
-    OutOfPlace,
-    AlreadyWatched,
-    NoFreeRecord,
-    NotWatched,
-    ShortLoan,
-    Torn,
-    ShortOutput,
-    WindowOrder,
-}
-
-impl Refusal {
-    // The number of the refusal.
-    pub fn number(self) -> u32
-        ensures { λ r. ⌜ r ≡ number self ⌝ }
-    {
-        match self {
-            Refusal::UnknownKind => 1,
-            Refusal::CutFrame => 2,
-            Refusal::Settings => 3,
-            Refusal::ColumnCount => 4,
-            Refusal::WindowSize => 5,
-            Refusal::TapeFull => 6,
-            Refusal::OutOfPlace => 7,
-            Refusal::AlreadyWatched => 8,
-            Refusal::NoFreeRecord => 9,
-            Refusal::NotWatched => 10,
-            Refusal::ShortLoan => 11,
-            Refusal::Torn => 12,
-            Refusal::ShortOutput => 13,
-            Refusal::WindowOrder => 14,
-        }
-    }
-}
-
-// Whether a call did what it was asked, or why not.
-pub enum Answer {
-    Accepted,
-    Refused(Refusal),
-}
-
-// What the audit says of a saved book.
-pub enum Verdict {
-    Yes,
-    No,
-    Refused(Refusal),
-}
-
-// What a call hands back: its answer, the head for the next call, and how many bytes or positions it wrote.
-pub struct Reply {
-    pub answer: Answer,
-    pub head: Head,
-    pub count: usize,
-}
-
-// What a preview of a quote hands back: the quote's answer and count with the head as it came, and how many rows the quote would leave
-// live and held.
-pub struct Effect {
-    pub reply: Reply,
-    pub live: u32,
-    pub held: u32,
-}
 
 // The head of a book: its settings (01: d, N, directions), the newest position (01: M), the numbers of live rows
 // and of all rows held, and the pair whose past list is watched, 0 and 0 when unset.

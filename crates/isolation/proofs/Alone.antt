@@ -16,8 +16,8 @@ use Rattle.lists.proofs.Members.{filter-same-mem, contains-filter}
 use Rattle.lists.proofs.Rising.{rising-filter, rising-ext, contains-insert, rising-insert}
 use Rattle.head.specs.declared.Desk.{Desk}
 use Rattle.head.specs.declared.Desk.the-variants.{One, Two}
-use Rattle.head.specs.declared.Refusal.the-variants.{Settings, ColumnCount, WindowSize, TapeFull, AlreadyWatched, NoFreeRecord, NotWatched, ShortLoan, ShortOutput, WindowOrder}
-use Rattle.head.specs.Refusals.{number, granted}
+use Rattle.refusals.specs.declared.Refusal.the-variants.{Settings, ColumnCount, WindowSize, TapeFull, AlreadyWatched, NoFreeRecord, NotWatched, ShortLoan, ShortOutput, WindowOrder}
+use Rattle.refusals.specs.Refusals.{number, granted}
 use Rattle.head.specs.Heads.{settingsHold, lastPosition}
 use Rattle.head.specs.Desks.{deskIn, sizeIn, watchOf}
 use Rattle.frames.specs.declared.Message.{Message}

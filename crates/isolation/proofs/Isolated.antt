@@ -14,11 +14,11 @@ use Rattle.lists.proofs.Booleans.{clash}
 use Rattle.lists.proofs.Members.{contains-filter}
 use Rattle.head.specs.declared.Desk.{Desk}
 use Rattle.head.specs.declared.Desk.the-variants.{One, Two}
-use Rattle.head.specs.declared.Refusal.the-variants.{Settings, WindowSize, AlreadyWatched, NoFreeRecord, NotWatched, ShortOutput}
-use Rattle.head.specs.Refusals.{number, firstOf, granted}
+use Rattle.refusals.specs.declared.Refusal.the-variants.{Settings, WindowSize, AlreadyWatched, NoFreeRecord, NotWatched, ShortOutput}
+use Rattle.refusals.specs.Refusals.{number, firstOf, granted}
 use Rattle.head.specs.Heads.{lastPosition}
 use Rattle.head.specs.Desks.{watchOf}
-use Rattle.head.proofs.Numbers.{zero-passed, firstOf-alike}
+use Rattle.refusals.proofs.Numbers.{zero-passed, firstOf-alike}
 use Rattle.model.specs.Changes.{frames, changeRoom}
 use Rattle.model.specs.Shares.{ofDesk, deskFull}
 use Rattle.model.specs.Reference.{Reference, Lengths, newest, skylineOf, pastOf, paired, isOpen, outside, outsidePair, withQuote, withWatched, withPairOf, opening, tells, foretells, referenceStep}

@@ -8,8 +8,8 @@ use lib.ListN.{length, take}
 use Rattle.lists.specs.Lists.{filter}
 use Rattle.head.specs.declared.Desk.{Desk}
 use Rattle.head.specs.declared.Desk.the-variants.{One, Two}
-use Rattle.head.specs.declared.Refusal.the-variants.{NoFreeRecord}
-use Rattle.head.specs.Refusals.{number}
+use Rattle.refusals.specs.declared.Refusal.the-variants.{NoFreeRecord}
+use Rattle.refusals.specs.Refusals.{number}
 use Rattle.head.specs.Desks.{deskNumber}
 use Rattle.frames.specs.declared.Message.{Message}
 use Rattle.frames.specs.declared.Message.the-variants as Message

@@ -2,7 +2,6 @@
 // the calls on watches are in `judged_watches`.
 mod reads;
 
-use head::Answer;
 use head::Head;
 use head::Watch;
 use judged_lines::print;
@@ -12,6 +11,7 @@ pub use reads::audit;
 pub use reads::look;
 pub use reads::past;
 pub use reads::tell;
+use refusals::Answer;
 use sizes::CHANGE_BYTES;
 
 // A worked book with a memory of at most eight: its head, its tables and its records.

@@ -1,11 +1,11 @@
 // Calls on a book that only read its tables, as a host makes them: each is made, its answer is judged, and what it says
 // is printed.
 use crate::Worked;
-use head::Answer;
 use head::Head;
-use head::Verdict;
 use judged_lines::print;
 use judged_lines::print_refusal;
+use refusals::Answer;
+use replies::Verdict;
 
 // Looks at the list of n, and prints it, or the refusal.
 pub fn look(worked: Worked, n: u32) {

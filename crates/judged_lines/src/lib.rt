@@ -1,10 +1,10 @@
 // Lines of print that say what a call answered: numbers behind a letter, changes, a refusal's number.
 ghost use Prim.Native.Nat.{_+_, _*_, _≤_};
 ghost use lib.ListN.{length};
-use head::Answer;
 use head::Desk;
-use head::Reply;
 use libc::STDOUT_FILENO;
+use refusals::Answer;
+use replies::Reply;
 
 // Lays a desk's line at the start of the text: desk two's has a 2 behind its letter. Returns how many bytes.
 fn put_desk_line(desk: Desk, letter: u8, numbers: &[u32], text: &mut [u8]) -> usize

@@ -1,12 +1,12 @@
 // The preview of a quote, and the calls on the watches and the pair, as a host makes them: each is made, its answer is judged,
 // and what it says is printed.
-use head::Answer;
 use head::Desk;
 use judged_calls::Worked;
 use judged_lines::print;
 use judged_lines::print_by;
 use judged_lines::print_changes;
 use judged_lines::print_refusal;
+use refusals::Answer;
 use sizes::CHANGE_BYTES;
 
 // Previews a quote of two columns, and prints how many rows it would leave live and held and its changes, or the refusal.

@@ -9,13 +9,13 @@ use native.Mathlib.Omega.{arith}
 use borrow.Author.Tests.{ltb-false, leb-true, not-false}
 use Rattle.lists.proofs.Booleans.{and-left, and-right, none-left, none-right}
 use Rattle.head.specs.declared.Head.{Head}
-use Rattle.head.specs.declared.Answer.{Answer}
-use Rattle.head.specs.declared.Answer.the-variants.{Refused}
-use Rattle.head.specs.declared.Refusal.{Refusal}
-use Rattle.head.specs.declared.Refusal.the-variants.{Settings, ShortLoan, Torn}
-use Rattle.head.specs.Refusals.{number, numberOf, firstOf, granted}
+use Rattle.refusals.specs.declared.Answer.{Answer}
+use Rattle.refusals.specs.declared.Answer.the-variants.{Refused}
+use Rattle.refusals.specs.declared.Refusal.{Refusal}
+use Rattle.refusals.specs.declared.Refusal.the-variants.{Settings, ShortLoan, Torn}
+use Rattle.refusals.specs.Refusals.{number, numberOf, firstOf, granted}
 use Rattle.head.specs.Heads.{settingsHold, tornPair}
-use Rattle.head.proofs.Numbers.{zero-passed, firstOf-append, number-above, refused-number, granted-refused, positive}
+use Rattle.refusals.proofs.Numbers.{zero-passed, firstOf-append, number-above, refused-number, granted-refused, positive}
 use Rattle.head.proofs.Settings.{Within, settings-within}
 use Rattle.model.specs.Rows.{Row, Tables}
 use Rattle.model.specs.Book.{shortTables, shortLoan, tornRows, tornWatches, bookRows, answerOf, watchfulAnswer, outOfRange}

@@ -3,9 +3,9 @@ use Prim.Native.Nat.{ℕ}
 use mathlib.Core.Bool.{not}
 use mathlib.Core.List.{[], _∷_}
 use Rattle.head.specs.declared.Head.{Head}
-use Rattle.head.specs.declared.Refusal.the-variants.{Settings, ShortLoan}
+use Rattle.refusals.specs.declared.Refusal.the-variants.{Settings, ShortLoan}
 use Rattle.head.specs.Heads.{settingsHold}
-use Rattle.head.specs.Refusals.{number, firstOf}
+use Rattle.refusals.specs.Refusals.{number, firstOf}
 use Rattle.model.specs.Rows.{Tables}
 use Rattle.model.specs.Book
 

@@ -10,13 +10,13 @@ use lib.Seq.{take-all}
 use borrow.Author.Tests.{lt-ltb}
 use Rattle.head.specs.declared.Head.{Head}
 use Rattle.head.specs.declared.Desk.{Desk}
-use Rattle.head.specs.declared.Refusal.the-variants.{Settings, ShortLoan}
-use Rattle.head.specs.declared.Reply.{Reply}
-use Rattle.head.specs.declared.Effect.{Effect}
+use Rattle.refusals.specs.declared.Refusal.the-variants.{Settings, ShortLoan}
+use Rattle.replies.specs.declared.Reply.{Reply}
+use Rattle.replies.specs.declared.Effect.{Effect}
 use Rattle.head.specs.Heads.{freshHead, settingsHold, withPair}
-use Rattle.head.specs.Refusals.{number, firstOf, granted}
-use Rattle.head.specs.Replies.{Outcome, outcome}
-use Rattle.head.proofs.Numbers.{granted-refused}
+use Rattle.refusals.specs.Refusals.{number, firstOf, granted}
+use Rattle.replies.specs.Replies.{Outcome, outcome}
+use Rattle.refusals.proofs.Numbers.{granted-refused}
 use Rattle.model.specs.Rows.{Tables}
 use Rattle.model.specs.Book.{shortTables, shortLoan, watchfulAnswer, replyOf, openAnswer, openReply, openTables, quoteHead, quoteBytes, quoteAnswer, quoteReply, quoteTables, quoteOut, watchBytes, watchAnswer, watchReply, watchOut, endAnswer, endReply, pairBytes, pairAnswer, pairReply, pairOut, unpairAnswer, unpairReply}
 use Rattle.model.specs.Promises.{Opened, Quoted, Previewed, Watched, Ended, Paired, Unpaired}

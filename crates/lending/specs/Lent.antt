@@ -6,11 +6,11 @@ use mathlib.Core.List.{List, [], _∷_}
 use lib.ListN.{length}
 use Rattle.head.specs.declared.Head.{Head}
 use Rattle.head.specs.declared.Desk.{Desk}
-use Rattle.head.specs.declared.Reply.{Reply}
-use Rattle.head.specs.declared.Refusal.the-variants.{Settings, ShortLoan}
+use Rattle.replies.specs.declared.Reply.{Reply}
+use Rattle.refusals.specs.declared.Refusal.the-variants.{Settings, ShortLoan}
 use Rattle.head.specs.Heads.{settingsHold}
-use Rattle.head.specs.Refusals.{number, numberOf, firstOf, granted}
-use Rattle.head.specs.Replies.{Outcome, outcome}
+use Rattle.refusals.specs.Refusals.{number, numberOf, firstOf, granted}
+use Rattle.replies.specs.Replies.{Outcome, outcome}
 use Rattle.model.specs.Rows.{Tables}
 use Rattle.model.specs.Book.{replyOf, openReply, openTables, watchReply, watchOut}
 use Rattle.lending.specs.declared.Judgement.{Judgement}

@@ -2,22 +2,22 @@
 // makes of lent records.
 ghost use mathlib.Core.Path.{_≡_};
 ghost use lib.ListN.{take};
-ghost use Rattle.head.specs.Replies.{outcome};
+ghost use Rattle.replies.specs.Replies.{outcome};
 ghost use Rattle.model.specs.Book.{endReply};
 ghost use Rattle.model.specs.Promises.{tables, Quoted, Previewed, Paired, Unpaired};
 ghost use Rattle.lending.specs.Lent.{judgement, Judged, shortLoanReply, OpenJudged, WatchJudged};
-use head::Answer;
 use head::Desk;
-use head::Effect;
 use head::Head;
-use head::Refusal;
-use head::Reply;
 use opening::open;
 use pairing::pair;
 use pairing::unpair;
 use previewing::effect_of;
 use previewing::preview;
 use quoting::quote;
+use refusals::Answer;
+use refusals::Refusal;
+use replies::Effect;
+use replies::Reply;
 use watching::end;
 use watching::watch;
 

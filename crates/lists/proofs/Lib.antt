@@ -11,4 +11,3 @@ pub mod Growing
 pub mod Storing
 pub mod Apart
 pub mod Places
-pub mod Few

@@ -6,13 +6,12 @@ use native.Mathlib.Nat.{add-suc, suc-add, add-zero, zero-add, le-refl}
 use native.Mathlib.Omega.{arith}
 use native.Mathlib.Numerals.{add-one}
 use native.Mathlib.Decide.{decLe, decLt}
-use mathlib.Core.Bool.{Bool, true, false, _&&_, _||_, not}
+use mathlib.Core.Bool.{Bool, true, false}
 use mathlib.Core.List.{List, [], _∷_, _++_, map, List·Memᴰ, List·Memᴰ·head, List·Memᴰ·tail, List·Memᴰ·not-nil, List·Memᴰ·cases-cons, append-nil}
 use lib.ListN.{length, getD}
-use borrow.Author.Tests.{not-true, not-false}
 use Rattle.lists.specs.Lists.{keep, filter, any, headOr, lastOr, run, between}
-use Rattle.lists.proofs.Booleans.{either, clash, refute, none-left, none-right}
-use Rattle.lists.proofs.Filters.{filter-append, filter-filter, filter-map}
+use Rattle.lists.proofs.Booleans.{clash, none-left, none-right}
+use Rattle.lists.proofs.Filters.{filter-append, filter-map}
 
 pub length-run : (a k : ℕ) → length (run a k) ≡ k
 unfolding run
@@ -162,18 +161,6 @@ first-spec f z a (suc k) = go (f a) refl (first-spec f z (suc a) k)
     go false e (inl t) = inl (t .0, λ q u v. from e q u (λ w. t .1 q w (omega arith)) (decLe (suc a) q))
     go false e (inr t) = inr (record { low = omega arith; high = omega arith; passes = t .passes; before = λ q u v. from e q u (λ w. t .before q w v) (decLe (suc a) q) })
 
-pub any-true : (f : ℕ → Bool) (a k : ℕ) → any f (run a k) ≡ true → (q : ℕ) × (a ≤ q) × (q < a + k) × (f q ≡ true)
-any-true f a k e = go (last-spec f 0 a k)
-  where
-    go : ((lastOr 0 (filter f (run a k)) ≡ 0) × ((q : ℕ) → a ≤ q → q < a + k → f q ≡ false)) ⊎ Last f a k (lastOr 0 (filter f (run a k)))
-        → (q : ℕ) × (a ≤ q) × (q < a + k) × (f q ≡ true)
-    go (inl t) = absurd (clash (any f (run a k)) e (any-none f a k (t .1)))
-    go (inr l) = (lastOr 0 (filter f (run a k)), l .low, l .high, l .passes)
-
-pub any-at : (f : ℕ → Bool) (a k q : ℕ) → a ≤ q → q < a + k → f q ≡ true → any f (run a k) ≡ true
-any-at f a k q u v e =
-    not-false (any f (run a k)) (refute (not (any f (run a k))) (λ t. clash (f q) e (none-any f a k (not-true (any f (run a k)) t) q u v)))
-
 -- ---- parts of a run that pass no test
 
 -- where the older part passes no test, the filter is that of the younger part
@@ -183,17 +170,6 @@ filter-from f a k j h = rw (run-append, filter-append, filter-none f a k h)
 -- where the younger part passes no test, the filter is that of the older part
 pub filter-upto : (f : ℕ → Bool) (a k j : ℕ) → ((q : ℕ) → a + k ≤ q → q < a + k + j → f q ≡ false) → filter f (run a (k + j)) ≡ filter f (run a k)
 filter-upto f a k j h = rw (run-append, filter-append, filter-none f (a + k) j h) (append-nil (filter f (run a k)))
-
--- two tests that agree wherever a first test passes
-pub filter-same-on : (g f h : ℕ → Bool) (a k : ℕ) → ((q : ℕ) → a ≤ q → q < a + k → g q ≡ true → f q ≡ h q) → filter f (filter g (run a k)) ≡ filter h (filter g (run a k))
-filter-same-on g f h a k e =
-    filter-filter f g (run a k)
-    ∙ filter-same (λ q. g q && f q) (λ q. g q && h q) a k (λ q u v. go q (g q) (e q u v))
-    ∙ sym (filter-filter h g (run a k))
-  where
-    go : (q : ℕ) (b : Bool) → (b ≡ true → f q ≡ h q) → b && f q ≡ b && h q
-    go q true x = x refl
-    go q false x = refl
 
 -- two functions that agree wherever the test passes
 pub map-same : {B : Type 0} (f : ℕ → Bool) (g h : ℕ → B) (a k : ℕ) → ((q : ℕ) → a ≤ q → q < a + k → f q ≡ true → g q ≡ h q)
@@ -208,17 +184,6 @@ map-same {B} f g h a (suc k) e =
 
     go : (b : Bool) → (b ≡ true → g a ≡ h a) → map g R ≡ map h R → map g (keep b a R) ≡ map h (keep b a R)
     go true x r = rw (x refl, r)
-    go false x r = r
-
--- no element of a mapped filter passes where none of the run's would
-pub any-run : {B : Type 0} (f : B → Bool) (g : ℕ → B) (t : ℕ → Bool) (a k : ℕ) → ((q : ℕ) → a ≤ q → q < a + k → t q ≡ true → f (g q) ≡ false)
-    → any f (map g (filter t (run a k))) ≡ false
-unfolding any filter run
-any-run f g t a zero h = refl
-any-run f g t a (suc k) h = go (t a) (λ e. h a (le-refl a) (omega arith) e) (any-run f g t (suc a) k (λ q u v e. h q (omega arith) (omega arith) e))
-  where
-    go : (b : Bool) → (b ≡ true → f (g a) ≡ false) → any f (map g (filter t (run (suc a) k))) ≡ false → any f (map g (keep b a (filter t (run (suc a) k)))) ≡ false
-    go true x r = rw (x refl) r
     go false x r = r
 
 -- ---- membership in a run

@@ -11,20 +11,19 @@ use Rattle.lists.specs.Lists.{laid}
 use Rattle.lists.proofs.Booleans.{agree, none-left, none-right}
 use Rattle.skyline.specs.Skyline.{windowStart}
 use Rattle.head.specs.declared.Head.{Head}
-use Rattle.head.specs.declared.Reply.{Reply}
-use Rattle.head.specs.declared.Answer.{Answer}
-use Rattle.head.specs.declared.Answer.the-variants.{Accepted, Refused}
-use Rattle.head.specs.declared.Refusal.{Refusal}
-use Rattle.head.specs.declared.Refusal.the-variants.{ShortOutput}
-use Rattle.head.specs.Refusals.{number, numberOf, firstOf, granted}
-use Rattle.head.specs.Replies.{outcome}
-use Rattle.head.proofs.Numbers.{zero-passed, accepted-number, firstOf-append, accepted-granted, positive}
+use Rattle.replies.specs.declared.Reply.{Reply}
+use Rattle.refusals.specs.declared.Answer.{Answer}
+use Rattle.refusals.specs.declared.Answer.the-variants.{Accepted, Refused}
+use Rattle.refusals.specs.declared.Refusal.{Refusal}
+use Rattle.refusals.specs.declared.Refusal.the-variants.{ShortOutput}
+use Rattle.refusals.specs.Refusals.{number, numberOf, firstOf, granted}
+use Rattle.replies.specs.Replies.{outcome}
+use Rattle.refusals.proofs.Numbers.{zero-passed, accepted-number, firstOf-append, accepted-granted, positive}
 use Rattle.model.specs.Rows.{Tables, listed}
 use Rattle.model.specs.Book.{answerOf, bookRows, listOf, pastListOf, replyOf, lookCells, lookAnswer, lookReply, lookOut, pastCells, pastAnswer, pastReply, pastOut}
 use Rattle.model.specs.Promises.{Looked, PastLooked}
 use Rattle.model.proofs.Replying.{refused-reply, refused-left}
-use Rattle.listing.specs.Picked.{listedAt, listedIn, Window}
-use Rattle.listing.proofs.Picking.{picked-bounded}
+use Rattle.listing.specs.Picked.{listedIn, Window}
 use Rattle.listing.proofs.Listing.{whole-consecutive, listed-rows}
 use Rattle.judging.proofs.Answering.{Passed, InRange, in-range, rows-stand, answer-passed, stays}
 use Rattle.looking.specs.Shown.{roomAnswer, Written, Shown, sizeAnswer, sizesAnswer}
@@ -58,11 +57,6 @@ module _ (h : Head) (t : Tables) where
     unfolding bookRows
     list-cells a b u v w =
         listed-rows first (h .dimensions) (h .held) t (whole-consecutive h t (p .whole) .0) a b (omega arith) (omega (arith, filled))
-
-    -- at most 1,024 rows are listed
-    pub bounded-listed : (a b : ℕ) {count : ℕ} → b ≤ h .newest → count ≡ length (cellsOf a b) → count ≤ 1024
-    unfolding listedIn
-    bounded-listed a b w c = omega (arith, filled, p .bounded-held, p .settings, picked-bounded (listedAt a b first (t .lowerEnds) (t .upperEnds)) first (b + 1 - first))
 
     -- the window of n
     pub start-in : {n a : ℕ} → InRange h n → a ≡ windowStart (h .newest) n → (first ≤ a) × (a ≤ h .newest + 1)

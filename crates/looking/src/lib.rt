@@ -6,20 +6,20 @@ ghost use lib.Dec.{ltb};
 ghost use lib.ListN.{length};
 ghost use Rattle.skyline.specs.Skyline.{windowStart};
 ghost use Rattle.head.specs.Heads.{lastPosition};
-ghost use Rattle.head.specs.Refusals.{numberOf};
+ghost use Rattle.refusals.specs.Refusals.{numberOf};
 ghost use Rattle.model.specs.Promises.{tables, Looked, PastLooked};
 ghost use Rattle.listing.specs.Picked.{listedIn, Window};
 ghost use Rattle.looking.specs.Shown.{Shown, sizeAnswer, sizesAnswer};
-use head::Answer;
 use head::Head;
-use head::Refusal;
-use head::Reply;
 use judging::judge;
 use judging::out_of_range;
 use judging::with_test;
 use listing::count_listed;
 use listing::start_of;
 use listing::write_listed;
+use refusals::Answer;
+use refusals::Refusal;
+use replies::Reply;
 
 // The answer of a look at the list of n but for the output: 3, 11, 12, 5.
 fn judge_size(

@@ -13,7 +13,7 @@ use Rattle.dominance.specs.Dominance.{higher, better, betterAt, noWorse, someBe
 use Rattle.dominance.specs.Renewal.{quoteAt, equalColumns, renewed}
 use Rattle.skyline.specs.Skyline.{windowStart, dominatedIn, skyline}
 use Rattle.skyline.specs.Past.{lowerEnd, upperEnd, covers}
-use Rattle.head.specs.Refusals.{firstOf, granted}
+use Rattle.refusals.specs.Refusals.{firstOf, granted}
 use Rattle.head.specs.Heads.{settingsHold}
 use Rattle.head.specs.Desks.{recordOf, deskIn, sizeIn, watchOf}
 use Rattle.octets.specs.Bytes.{bytes2, bytes4}

@@ -7,9 +7,9 @@ use native.Mathlib.Nat.{le-refl}
 use native.Mathlib.Omega.{arith}
 use mathlib.Core.Bool.{Bool, true, false, _&&_, _||_, not, cond}
 use mathlib.Core.List.{List, [], _∷_, _++_, map, List·Memᴰ, List·Memᴰ·head, List·Memᴰ·append-cases, List·Memᴰ·eq-of-singleton}
-use lib.Dec.{ltb, leb, eqb}
+use lib.Dec.{ltb, eqb}
 use lib.ListN.{length, take, length-append, length-take, length-map}
-use borrow.Author.Tests.{le-ltb, eqb-true, eq-eqb, ne-eqb}
+use borrow.Author.Tests.{eqb-true, eq-eqb, ne-eqb}
 use Rattle.lists.specs.Lists.{filter, any, flat, run, contains, rising}
 use Rattle.lists.proofs.Booleans.{and-left, or-left, or-right}
 use Rattle.lists.proofs.Filters.{length-filter, map-append, map-map}
@@ -21,8 +21,6 @@ use Rattle.skyline.specs.Skyline.{windowStart}
 use Rattle.skyline.specs.Past.{covers}
 use Rattle.skyline.proofs.Past.{of-covers}
 use Rattle.head.specs.declared.Head.{Head}
-use Rattle.head.specs.declared.Refusal.the-variants.{ColumnCount, TapeFull}
-use Rattle.head.specs.Refusals.{number, firstOf}
 use Rattle.head.specs.Heads.{settingsHold, afterQuote, tornPair, lastPosition}
 use Rattle.head.proofs.Settings.{Within, settings-within}
 use Rattle.head.specs.declared.Desk.{Desk}
@@ -32,7 +30,7 @@ use Rattle.frame_kinds.specs.Kinds.{pairJoinKind}
 use Rattle.frames.proofs.RoundTrips.{change-length, position-length}
 use Rattle.model.specs.Rows.{Row, Tables, rowAt, rowsIn, isLive, liveRows, listed, expiring, overOlder, retiredBy, rowAfter, lowerEndAmong, rowsAfter}
 use Rattle.model.specs.Changes.{joinKindOf, leave, join, pairLeave, pairJoin, missing, changesBy, changes, allChanges, pairChanges, frames, changeRoom}
-use Rattle.model.specs.Book.{tornRows, standing, bookRows, pastListOf, listOf, pairStands, pairListOf, watchfulAnswer, quoteRows, quoteHead, quoteBytes, quoteAnswer, ChangesFit, watchBytes, pairBytes}
+use Rattle.model.specs.Book.{tornRows, standing, bookRows, pastListOf, listOf, pairStands, pairListOf, quoteRows, quoteHead, quoteBytes, ChangesFit, watchBytes, pairBytes}
 use Rattle.model.proofs.Torn.{Whole, upperAstray, upper-place, pair-within, window-bounded, untorn-whole}
 use Rattle.model.proofs.ChangeFrames.{frames-append, frames-bytes, changes-bytes, pair-bytes}
 
@@ -413,9 +411,3 @@ module _ (h : Head) (t : Tables) (holds : settingsHold (h .dimensions) (h .capac
   pair-fits n1 n2 ws =
       let list = listed (windowStart (h .newest) n2) (h .newest + 1 - n1) (bookRows h t) in
       omega (arith, frames-bytes 5 pairJoin (position-length pairJoinKind) list, list-bounded (windowStart (h .newest) n2) (h .newest + 1 - n1))
-
--- so an output that is not too short has room for every quote: its answer is by the other refusals alone
-pub room-suffices : (h : Head) (x : List ℕ) (t : Tables) (ws : List ℕ) (room : ℕ) → changeRoom ≤ room
-    → quoteAnswer h x t ws room ≡ watchfulAnswer h t ws ((not (eqb (length x) (h .dimensions)), number ColumnCount) ∷ (leb lastPosition (h .newest), number TapeFull) ∷ [])
-unfolding quoteAnswer watchfulAnswer firstOf
-room-suffices h x t ws room wide = rw (le-ltb room changeRoom wide)

@@ -11,9 +11,9 @@ use borrow.Author.Tests.{ltb-false}
 use Rattle.lists.specs.Lists.{flat}
 use Rattle.lists.proofs.Booleans.{clash, none-left, none-right}
 use Rattle.lists.proofs.Writing.{length-padded}
-use Rattle.head.specs.Refusals.{granted}
+use Rattle.refusals.specs.Refusals.{granted}
 use Rattle.head.specs.Heads.{settingsHold}
-use Rattle.head.proofs.Numbers.{zero-passed}
+use Rattle.refusals.proofs.Numbers.{zero-passed}
 use Rattle.model.specs.Rows.{Row, Tables, filled}
 use Rattle.model.specs.Reference.{Reference, unopened, rowsOf, isOpen, withQuote, withWatched, withPairOf, opening, tooShort, tells, foretells, referenceStep}
 use Rattle.model.specs.Book.{shortTables, shortLoan}

@@ -8,9 +8,9 @@ use mathlib.Core.List.{[], List·Memᴰ·not-nil}
 use borrow.Author.Tests.{not-false}
 use Rattle.lists.specs.Lists.{filter, laid, padded}
 use Rattle.lists.proofs.Writing.{length-padded, padded-again}
-use Rattle.head.specs.Refusals.{granted}
+use Rattle.refusals.specs.Refusals.{granted}
 use Rattle.head.specs.Heads.{freshHead, settingsHold, tornPair}
-use Rattle.head.proofs.Numbers.{zero-passed}
+use Rattle.refusals.proofs.Numbers.{zero-passed}
 use Rattle.model.specs.Rows.{filled, liveRows}
 use Rattle.model.specs.Reference.{Reference, unopened, rowsOf, headOf, isOpen, opening, tooShort, tells, referenceStep}
 use Rattle.model.specs.Book.{shortTables, shortLoan, replyOf, openAnswer, openReply, openTables, openWatches}

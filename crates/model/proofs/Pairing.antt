@@ -8,10 +8,10 @@ use mathlib.Core.List.{List, [], _∷_, map}
 use lib.Dec.{ltb}
 use lib.ListN.{length}
 use Rattle.lists.specs.Lists.{laid}
-use Rattle.head.specs.declared.Refusal.the-variants.{Settings, WindowSize, WindowOrder, NoFreeRecord, NotWatched, ShortOutput}
-use Rattle.head.specs.Refusals.{number, firstOf, granted}
+use Rattle.refusals.specs.declared.Refusal.the-variants.{Settings, WindowSize, WindowOrder, NoFreeRecord, NotWatched, ShortOutput}
+use Rattle.refusals.specs.Refusals.{number, firstOf, granted}
 use Rattle.head.specs.Heads.{withPair, tornPair}
-use Rattle.head.proofs.Numbers.{zero-passed}
+use Rattle.refusals.proofs.Numbers.{zero-passed}
 use Rattle.model.specs.Rows.{Row, dueCells}
 use Rattle.model.specs.Changes.{pairJoin, frames, changeRoom}
 use Rattle.model.specs.Reference.{Reference, newest, pastOf, paired, rowOf, rowsOf, headOf, dueOf, isOpen, outsidePair, withPairOf, tells, referenceStep}

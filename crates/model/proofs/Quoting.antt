@@ -11,10 +11,10 @@ use lib.ListN.{length}
 use borrow.Author.Tests.{leb-false, eqb-true, not-false}
 use Rattle.lists.specs.Lists.{laid}
 use Rattle.dominance.specs.Renewal.{quoteAt}
-use Rattle.head.specs.declared.Refusal.the-variants.{Settings, ColumnCount, TapeFull, ShortOutput}
-use Rattle.head.specs.Refusals.{number, firstOf, granted}
+use Rattle.refusals.specs.declared.Refusal.the-variants.{Settings, ColumnCount, TapeFull, ShortOutput}
+use Rattle.refusals.specs.Refusals.{number, firstOf, granted}
 use Rattle.head.specs.Heads.{lastPosition}
-use Rattle.head.proofs.Numbers.{zero-passed}
+use Rattle.refusals.proofs.Numbers.{zero-passed}
 use Rattle.model.specs.Rows.{filled}
 use Rattle.model.specs.Changes.{changeRoom}
 use Rattle.model.specs.Reference.{Reference, newest, rowsOf, headOf, isOpen, withQuote, tells, foretells, referenceStep}

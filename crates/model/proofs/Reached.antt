@@ -4,16 +4,16 @@ use mathlib.Core.Path.{_≡_, refl, sym, ap, subst, _∙_}
 use mathlib.Core.Logic.{_⊎_, inl, inr}
 use Prim.Native.Nat.{ℕ, suc, _-_, _≤_, _<_}
 use native.Mathlib.Omega.{arith}
-use mathlib.Core.Bool.{Bool, true, false, not}
+use mathlib.Core.Bool.{Bool, true, not}
 use mathlib.Core.List.{List, [], _∷_, _++_, map, List·Memᴰ}
 use Rattle.lists.specs.Lists.{between}
 use Rattle.lists.proofs.Runs.{into-run}
 use Rattle.skyline.specs.Skyline.{windowStart}
 use Rattle.skyline.specs.Past.{lowerEnd, upperEnd}
 use Rattle.skyline.proofs.Ends.{lower-spec, upper-within}
-use Rattle.head.specs.declared.Refusal.the-variants.{Settings}
-use Rattle.head.specs.Refusals.{number, firstOf}
-use Rattle.head.specs.Heads.{settingsHold, tornPair}
+use Rattle.refusals.specs.declared.Refusal.the-variants.{Settings}
+use Rattle.refusals.specs.Refusals.{number, firstOf}
+use Rattle.head.specs.Heads.{settingsHold}
 use Rattle.model.specs.Rows.{Row}
 use Rattle.model.specs.Reference.{Reference, unopened, newest, over, rowOf, rowsOf, headOf, isOpen}
 use Rattle.model.specs.Book.{bookRows, watchfulAnswer}
@@ -66,11 +66,6 @@ reached-judged more =
     reached-by
     (λ w. watchfulAnswer (w .head) (w .lent .tables) (w .lent .watches) more ≡ firstOf ((not (settingsHold (w .head .dimensions) (w .head .capacity) (w .head .directions)), number Settings) ∷ more))
     (λ l. refl) (λ s l f. judged-watchful s l f more more refl)
-
--- its pair is not torn: one that is watched has 2 ≤ n1 ≤ n2 ≤ N
-pub reached-pair : {w : World} → Reached w → tornPair (w .head) ≡ false
-unfolding headOf tornPair
-reached-pair = reached-by (λ w. tornPair (w .head) ≡ false) (λ l. refl) (λ s l f. f .pair)
 
 -- ---- ends
 

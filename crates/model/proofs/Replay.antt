@@ -4,7 +4,7 @@ use mathlib.Core.Path.{_≡_, refl, ap₂}
 use mathlib.Core.Logic.{inl, inr}
 use mathlib.Core.List.{List, [], _∷_}
 use Rattle.lists.specs.Lists.{filter, laid}
-use Rattle.head.specs.Refusals.{firstOf, granted}
+use Rattle.refusals.specs.Refusals.{firstOf, granted}
 use Rattle.head.specs.Heads.{settingsHold}
 use Rattle.model.specs.Rows.{liveRows}
 use Rattle.model.specs.Reference.{Reference, unopened, headOf, isOpen, tells, foretells, referenceStep}

@@ -2,12 +2,12 @@
 use mathlib.Core.Path.{_≡_}
 use Prim.Native.Nat.{ℕ}
 use Rattle.head.specs.declared.Head.{Head}
-use Rattle.head.specs.declared.Refusal.{Refusal}
-use Rattle.head.specs.declared.Answer.{Answer}
-use Rattle.head.specs.declared.Answer.the-variants.{Accepted, Refused}
-use Rattle.head.specs.Refusals.{numberOf, granted}
-use Rattle.head.specs.Replies.{outcome}
-use Rattle.head.proofs.Numbers.{accepted-number, refused-number, refused-granted}
+use Rattle.refusals.specs.declared.Refusal.{Refusal}
+use Rattle.refusals.specs.declared.Answer.{Answer}
+use Rattle.refusals.specs.declared.Answer.the-variants.{Accepted, Refused}
+use Rattle.refusals.specs.Refusals.{numberOf, granted}
+use Rattle.replies.specs.Replies.{outcome}
+use Rattle.refusals.proofs.Numbers.{accepted-number, refused-number, refused-granted}
 use Rattle.model.specs.Book.{replyOf}
 
 module _ {a : Answer} {answer : ℕ} (e : numberOf a ≡ answer) where

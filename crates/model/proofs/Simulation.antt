@@ -11,8 +11,8 @@ use borrow.Author.Tests.{ltb-false, leb-true, eqb-false, not-false}
 use Rattle.lists.specs.Lists.{run, padded}
 use Rattle.lists.proofs.Booleans.{and-left, and-right, none-left, none-right}
 use Rattle.head.specs.declared.Head.{Head}
-use Rattle.head.specs.declared.Refusal.the-variants.{Settings}
-use Rattle.head.specs.Refusals.{number, firstOf}
+use Rattle.refusals.specs.declared.Refusal.the-variants.{Settings}
+use Rattle.refusals.specs.Refusals.{number, firstOf}
 use Rattle.head.specs.Heads.{settingsHold, lastPosition, tornPair}
 use Rattle.head.specs.Desks.{deskUnit}
 use Rattle.head.proofs.Settings.{settings-within}

@@ -8,11 +8,11 @@ use lib.Dec.{ltb, eqb}
 use lib.ListN.{length}
 use Rattle.lists.specs.Lists.{contains, insert, without, laid, padded}
 use Rattle.lists.proofs.Writing.{length-padded, padded-again}
-use Rattle.head.specs.declared.Refusal.the-variants.{Settings, WindowSize, WindowOrder, AlreadyWatched, NoFreeRecord, NotWatched, ShortOutput}
-use Rattle.head.specs.Refusals.{number, firstOf, granted}
+use Rattle.refusals.specs.declared.Refusal.the-variants.{Settings, WindowSize, WindowOrder, AlreadyWatched, NoFreeRecord, NotWatched, ShortOutput}
+use Rattle.refusals.specs.Refusals.{number, firstOf, granted}
 use Rattle.head.specs.declared.Desk.{Desk}
 use Rattle.head.specs.Desks.{watchOf}
-use Rattle.head.proofs.Numbers.{zero-passed, firstOf-alike}
+use Rattle.refusals.proofs.Numbers.{zero-passed, firstOf-alike}
 use Rattle.model.specs.Changes.{join, frames, changeRoom}
 use Rattle.model.specs.Shares.{deskFull}
 use Rattle.model.specs.Reference.{Reference, skylineOf, pastOf, rowOf, rowsOf, headOf, isOpen, outside, outsidePast, withWatched, tells, referenceStep}

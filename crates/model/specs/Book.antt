@@ -9,13 +9,13 @@ use Rattle.skyline.specs.Skyline.{windowStart}
 use Rattle.head.specs.declared.Head.{Head}
 use Rattle.head.specs.declared.Desk.{Desk}
 use Rattle.head.specs.declared.Desk.the-variants.{One, Two}
-use Rattle.head.specs.Desks.{deskNumber, deskIn, sizeIn, watchOf}
-use Rattle.head.specs.declared.Refusal.the-variants.{Settings, ColumnCount, WindowSize, TapeFull, AlreadyWatched, NoFreeRecord, NotWatched, ShortLoan, Torn, ShortOutput, WindowOrder}
-use Rattle.head.specs.Refusals.{number, firstOf, granted}
-use Rattle.head.specs.Replies.{Outcome}
-use Rattle.head.specs.Heads.{freshHead, settingsHold, afterQuote, withPair, tornPair, lastPosition}
+use Rattle.head.specs.Desks.{recordCount, deskNumber, deskIn, sizeIn, watchOf}
+use Rattle.refusals.specs.declared.Refusal.the-variants.{Settings, ColumnCount, WindowSize, TapeFull, AlreadyWatched, NoFreeRecord, NotWatched, ShortLoan, Torn, ShortOutput, WindowOrder}
+use Rattle.refusals.specs.Refusals.{number, firstOf, granted}
+use Rattle.replies.specs.Replies.{Outcome}
+use Rattle.head.specs.Heads.{maxCapacity, freshHead, settingsHold, afterQuote, withPair, tornPair, lastPosition}
 use Rattle.model.specs.Rows.{Row, Tables, rowsIn, filled, liveRows, listed, dueRows, dueCells, rowsAfter}
-use Rattle.model.specs.Changes.{join, pairJoin, changes, allChanges, pairChanges, frames, changeRoom}
+use Rattle.model.specs.Changes.{join, pairJoin, changes, allChanges, pairChanges, frames, mostChanges, watchRoom, changeRoom}
 use Rattle.model.specs.Shares.{aboveShares, deskFull}
 
 -- a table is shorter than these settings ask
@@ -24,7 +24,7 @@ shortTables t d N = ltb (length (t .columns)) (N * d) || ltb (length (t .positio
 
 -- a table is shorter than these settings ask, or there are fewer than eight watch records
 unfoldable pub shortLoan : Tables → List ℕ → ℕ → ℕ → Bool
-shortLoan t ws d N = shortTables t d N || ltb (length ws) 8
+shortLoan t ws d N = shortTables t d N || ltb (length ws) recordCount
 
 -- the head or the rows held are torn: one of the conditions of 01 and 02 under 12 holds; a book that no call left need not be torn
 unfoldable pub tornRows : Head → List Row → Bool
@@ -53,12 +53,12 @@ ordered lo N (w ∷ ws) = cond (eqb w 0) (not (any (ltb 0) ws)) (leb lo w && isW
 
 -- the watches that stand, rising
 unfoldable pub standing : List ℕ → List ℕ
-standing ws = filter (ltb 0) (take 8 ws)
+standing ws = filter (ltb 0) (take recordCount ws)
 
 -- the eight watch records are torn: not desk one's watches, then desk two's, each rising by n within 1 to N, then empties, or over the
 -- shares (01 and 02: 12); records that no call left need not be torn
 unfoldable pub tornWatches : ℕ → List ℕ → Bool
-tornWatches N ws = not (ordered 1 N (take 8 ws)) || ltb 2 (aboveShares (standing ws))
+tornWatches N ws = not (ordered 1 N (take recordCount ws)) || ltb 2 (aboveShares (standing ws))
 
 -- the rows that a book holds, live and retired
 unfoldable pub bookRows : Head → Tables → List Row
@@ -117,7 +117,7 @@ module _ (d N directions : ℕ) (t : Tables) (ws : List ℕ) where
 
   -- the watch records after an opening: all eight empty
   unfoldable pub openWatches : List ℕ
-  openWatches = granted openAnswer (padded 8 [] ws) ws
+  openWatches = granted openAnswer (padded recordCount [] ws) ws
 
 -- ---- quote
 module _ (h : Head) (x : List ℕ) (t : Tables) (ws : List ℕ) where
@@ -171,9 +171,9 @@ module _ (h : Head) (x : List ℕ) (t : Tables) (ws : List ℕ) where
 -- all watches; for the pair at most 1,024 changes; and 62,520 bytes in all
 pub record ChangesFit (h : Head) (x : List ℕ) (t : Tables) (ws : List ℕ) : Type 0 where
   pub changes-each : (w : ℕ) → length (changes w (listOf h (bookRows h t) (sizeIn w)) (listOf (quoteHead h x t ws) (quoteRows h x t ws) (sizeIn w))) ≤ h .live + 1
-  pub changes-most : h .live + 1 ≤ 1025
-  pub watches-most : length (frames (allChanges (standing ws) (listOf h (bookRows h t)) (listOf (quoteHead h x t ws) (quoteRows h x t ws)))) ≤ 57400
-  pub pair-most : length (pairChanges (pairListOf h (bookRows h t)) (pairListOf (quoteHead h x t ws) (quoteRows h x t ws))) ≤ 1024
+  pub changes-most : h .live + 1 ≤ mostChanges
+  pub watches-most : length (frames (allChanges (standing ws) (listOf h (bookRows h t)) (listOf (quoteHead h x t ws) (quoteRows h x t ws)))) ≤ watchRoom
+  pub pair-most : length (pairChanges (pairListOf h (bookRows h t)) (pairListOf (quoteHead h x t ws) (quoteRows h x t ws))) ≤ maxCapacity
   pub bytes-most : length (quoteBytes h x t ws) ≤ changeRoom
 
 -- ---- look
@@ -232,7 +232,7 @@ module _ (h : Head) (desk : Desk) (n : ℕ) (t : Tables) (ws : List ℕ) where
 
   -- the watch records after a watch
   unfoldable pub watchWatches : ℕ → List ℕ
-  watchWatches room = granted (watchAnswer room) (padded 8 (insert (watchOf desk n) (standing ws)) ws) ws
+  watchWatches room = granted (watchAnswer room) (padded recordCount (insert (watchOf desk n) (standing ws)) ws) ws
 
   -- the output after a watch
   unfoldable pub watchOut : List ℕ → List ℕ
@@ -248,7 +248,7 @@ module _ (h : Head) (desk : Desk) (n : ℕ) (t : Tables) (ws : List ℕ) where
 
   -- the watch records after the end of a watch
   unfoldable pub endWatches : List ℕ
-  endWatches = granted endAnswer (padded 8 (without (watchOf desk n) (standing ws)) ws) ws
+  endWatches = granted endAnswer (padded recordCount (without (watchOf desk n) (standing ws)) ws) ws
 
 -- ---- pair, its end, and what is due
 module _ (h : Head) (n1 n2 : ℕ) (t : Tables) (ws : List ℕ) where

@@ -7,8 +7,9 @@ use lib.ListN.{length}
 use Rattle.lists.specs.Lists.{laid, padded}
 use Rattle.head.specs.declared.Head.{Head}
 use Rattle.head.specs.Heads.{freshHead}
-use Rattle.head.specs.Refusals.{granted}
-use Rattle.head.specs.Replies.{Outcome}
+use Rattle.head.specs.Desks.{recordCount}
+use Rattle.refusals.specs.Refusals.{granted}
+use Rattle.replies.specs.Replies.{Outcome}
 use Rattle.model.specs.Rows.{Row, Tables, filled, liveRows}
 use Rattle.model.specs.Reference.{Reference, unopened, Lengths, rowsOf, isOpen, referenceStep}
 pub use Rattle.model.specs.Reference.{Call, Open, Quote, Look, Watch, End, Past, Pair, Unpair, Due, Preview}
@@ -129,7 +130,7 @@ lengthsOf l o = record {
 unfoldable pub shown : Reference → Lent → Lent
 shown s l =
     cond (isOpen s)
-    (record { tables = filled (s .dimensions) (s .capacity) (rowsOf s) (l .tables); watches = padded 8 (s .watched) (l .watches) })
+    (record { tables = filled (s .dimensions) (s .capacity) (rowsOf s) (l .tables); watches = padded recordCount (s .watched) (l .watches) })
     l
 
 -- the reference model between two calls, with what is lent: what the book is expected to show

@@ -5,7 +5,8 @@ use mathlib.Core.List.{List, [], _++_, map}
 use lib.Dec.{eqb}
 use Rattle.lists.specs.Lists.{filter, flat, contains}
 use Rattle.head.specs.declared.Desk.the-variants.{Two}
-use Rattle.head.specs.Desks.{deskNumber, deskIn, sizeIn}
+use Rattle.head.specs.Heads.{maxCapacity}
+use Rattle.head.specs.Desks.{recordCount, deskNumber, deskIn, sizeIn}
 use Rattle.frames.specs.declared.Message.{Message}
 use Rattle.frames.specs.declared.Message.the-variants.{Change, Position}
 use Rattle.frame_kinds.specs.Kinds.{leaveKind, joinKind, leaveTwoKind, joinTwoKind, pairLeaveKind, pairJoinKind}
@@ -60,7 +61,21 @@ pairChanges before after = changesBy pairLeave pairJoin before after
 unfoldable pub frames : List Message → List ℕ
 frames ms = flat (map (λ m. frame m []) ms)
 
--- how many bytes of output every call that writes changes asks for (02: 62,520): for each of eight watches 1,025 frames of 7, and for the
--- pair 1,024 of 5
+-- how many bytes the frame of a watch's change has, and that of the pair's
+abbrev pub changeLength : ℕ
+changeLength = 7
+
+abbrev pub pairChangeLength : ℕ
+pairChangeLength = 5
+
+-- how many changes a quote brings a watch at most (01: 1,025): every live row may leave, and one may join
+abbrev pub mostChanges : ℕ
+mostChanges = maxCapacity + 1
+
+-- how many bytes suffice for the changes of all watches (01: 57,400)
+abbrev pub watchRoom : ℕ
+watchRoom = recordCount * mostChanges * changeLength
+
+-- how many bytes of output every call that writes changes asks for (02: 62,520): those of all watches, and for each place a change of the pair
 abbrev pub changeRoom : ℕ
-changeRoom = 8 * 1025 * 7 + 1024 * 5
+changeRoom = watchRoom + maxCapacity * pairChangeLength

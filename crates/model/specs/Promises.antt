@@ -5,9 +5,9 @@ use mathlib.Core.List.{List, [], _∷_}
 use lib.ListN.{length}
 use Rattle.head.specs.declared.Head.{Head}
 use Rattle.head.specs.declared.Desk.{Desk}
-use Rattle.head.specs.declared.Reply.{Reply}
-use Rattle.head.specs.declared.Effect.{Effect}
-use Rattle.head.specs.Replies.{outcome}
+use Rattle.replies.specs.declared.Reply.{Reply}
+use Rattle.replies.specs.declared.Effect.{Effect}
+use Rattle.replies.specs.Replies.{outcome}
 use Rattle.model.specs.Rows.{Tables}
 use Rattle.model.specs.Book
 use Rattle.model.specs.Calls.{World}

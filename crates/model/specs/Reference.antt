@@ -10,10 +10,10 @@ use Rattle.skyline.specs.Skyline.{windowStart, skyline}
 use Rattle.skyline.specs.Past.{lowerEnd, upperEnd}
 use Rattle.head.specs.declared.Head.{Head}
 use Rattle.head.specs.declared.Desk.{Desk}
-use Rattle.head.specs.Desks.{watchOf}
-use Rattle.head.specs.declared.Refusal.the-variants.{Settings, ColumnCount, WindowSize, TapeFull, AlreadyWatched, NoFreeRecord, NotWatched, ShortLoan, ShortOutput, WindowOrder}
-use Rattle.head.specs.Refusals.{number, firstOf, granted}
-use Rattle.head.specs.Heads.{freshHead, settingsHold, lastPosition}
+use Rattle.head.specs.Desks.{recordCount, watchOf}
+use Rattle.refusals.specs.declared.Refusal.the-variants.{Settings, ColumnCount, WindowSize, TapeFull, AlreadyWatched, NoFreeRecord, NotWatched, ShortLoan, ShortOutput, WindowOrder}
+use Rattle.refusals.specs.Refusals.{number, firstOf, granted}
+use Rattle.head.specs.Heads.{maxDimensions, maxCapacity, freshHead, settingsHold, lastPosition}
 use Rattle.model.specs.Rows.{Row, liveRows, dueRows, dueCells}
 use Rattle.model.specs.Changes.{join, pairJoin, allChanges, pairChanges, frames, changeRoom}
 use Rattle.model.specs.Shares.{deskFull}
@@ -176,7 +176,15 @@ pub record Lengths : Type 0 where
 -- lengths that are enough for every book and every answer: 1,024 rows of six columns, eight records, 62,520 bytes, and two cells for
 -- each of 1,024 rows
 abbrev pub ample : Lengths
-ample = record { columns = 6144; positions = 1024; lowerEnds = 1024; upperEnds = 1024; watches = 8; bytes = changeRoom; cells = 2048 }
+ample = record {
+  columns = maxCapacity * maxDimensions;
+  positions = maxCapacity;
+  lowerEnds = maxCapacity;
+  upperEnds = maxCapacity;
+  watches = recordCount;
+  bytes = changeRoom;
+  cells = 2 * maxCapacity;
+}
 
 -- what the model tells of a call: 0 or the number of its refusal, the head and the count handed back, what is written at the start of
 -- each output, the row counts handed back beside the head (live and held, of a preview), and the model after it
@@ -191,7 +199,7 @@ pub record Told : Type 0 where
 
 -- a table or the watch list is too short for these settings
 unfoldable pub tooShort : Lengths → ℕ → ℕ → Bool
-tooShort l d N = ltb (l .columns) (N * d) || ltb (l .positions) N || ltb (l .lowerEnds) N || ltb (l .upperEnds) N || ltb (l .watches) 8
+tooShort l d N = ltb (l .columns) (N * d) || ltb (l .positions) N || ltb (l .lowerEnds) N || ltb (l .upperEnds) N || ltb (l .watches) recordCount
 
 -- a call with these refusals, tried in order: if accepted it tells the next model, the count, and what is written as bytes and as
 -- cells; a refused one leaves the model as it is

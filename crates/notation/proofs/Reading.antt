@@ -10,7 +10,7 @@ use lib.ListN.{length, getD, drop, length-drop, drop-of-length-le}
 use lib.Seq.{drop-cons}
 use borrow.Author.Tests.{lt-ltb, le-ltb, ltb-true, ltb-false, eq-eqb, ne-eqb, not-true, not-false}
 use Rattle.lists.proofs.Booleans.{and-left, and-right}
-use Rattle.head.specs.Refusals.{firstOf, granted}
+use Rattle.refusals.specs.Refusals.{firstOf, granted}
 use Rattle.frame_kinds.specs.Kinds.{lookKind, watchKind, unwatchKind, watchTwoKind, unwatchTwoKind, pairKind, unpairKind, pastKind}
 use Rattle.frames.specs.Frames.{framed, frame}
 use Rattle.frame_writer.specs.Writing.{writeAnswer, Wrote}

@@ -16,9 +16,9 @@ use frames::UNWATCH;
 use frames::UNWATCH_TWO;
 use frames::WATCH;
 use frames::WATCH_TWO;
-use head::Refusal;
 use line_fields::Fields;
 use line_fields::fields_from;
+use refusals::Refusal;
 
 // Whether the fields are three numbers that fit the frame of an opening.
 fn opens(fields: Fields) -> bool

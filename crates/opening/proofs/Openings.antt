@@ -7,12 +7,12 @@ use mathlib.Core.List.{List, [], _∷_}
 use lib.ListN.{length, take, drop, drop-of-length-le}
 use Rattle.lists.specs.Lists.{flat, padded}
 use Rattle.head.specs.declared.Head.{Head}
-use Rattle.head.specs.declared.Answer.{Answer}
-use Rattle.head.specs.declared.Answer.the-variants.{Accepted, Refused}
-use Rattle.head.specs.declared.Refusal.{Refusal}
+use Rattle.refusals.specs.declared.Answer.{Answer}
+use Rattle.refusals.specs.declared.Answer.the-variants.{Accepted, Refused}
+use Rattle.refusals.specs.declared.Refusal.{Refusal}
 use Rattle.head.specs.Heads.{freshHead}
-use Rattle.head.specs.Refusals.{numberOf}
-use Rattle.head.proofs.Numbers.{accepted-number}
+use Rattle.refusals.specs.Refusals.{numberOf}
+use Rattle.refusals.proofs.Numbers.{accepted-number}
 use Rattle.head.proofs.Settings.{Within}
 use Rattle.model.specs.Rows.{Tables, filled}
 use Rattle.model.specs.Book.{shortLoan, openAnswer, openReply, openTables, openWatches}

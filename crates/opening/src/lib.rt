@@ -1,10 +1,10 @@
 // The opening: new settings, and nothing in the tables and watches.
 ghost use Rattle.model.specs.Promises.{tables, Opened};
 use cells::clear;
-use head::Answer;
 use head::Head;
-use head::Reply;
 use judging::judge_loan;
+use refusals::Answer;
+use replies::Reply;
 use watches::WatchReply;
 
 // Begins a new book: the head is fresh, the places of the tables are zeros, and nothing is watched.

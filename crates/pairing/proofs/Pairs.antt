@@ -10,12 +10,12 @@ use Rattle.lists.specs.Lists.{laid}
 use Rattle.lists.proofs.Booleans.{none-left, none-right}
 use Rattle.skyline.specs.Skyline.{windowStart}
 use Rattle.head.specs.declared.Head.{Head}
-use Rattle.head.specs.declared.Answer.{Answer}
-use Rattle.head.specs.declared.Answer.the-variants.{Accepted, Refused}
-use Rattle.head.specs.declared.Refusal.{Refusal}
+use Rattle.refusals.specs.declared.Answer.{Answer}
+use Rattle.refusals.specs.declared.Answer.the-variants.{Accepted, Refused}
+use Rattle.refusals.specs.declared.Refusal.{Refusal}
 use Rattle.head.specs.Heads.{withPair}
-use Rattle.head.specs.Refusals.{numberOf}
-use Rattle.head.proofs.Numbers.{zero-passed, accepted-number}
+use Rattle.refusals.specs.Refusals.{numberOf}
+use Rattle.refusals.proofs.Numbers.{zero-passed, accepted-number}
 use Rattle.model.specs.Rows.{Tables, listed}
 use Rattle.model.specs.Changes.{pairJoin, frames, changeRoom}
 use Rattle.model.specs.Book.{bookRows, pastListOf, pairBytes, pairAnswer, pairReply, pairOut}

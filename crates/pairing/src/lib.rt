@@ -1,12 +1,9 @@
 // The watch of the pair and its end: a past list followed, its joins written, and a past list no longer followed.
 ghost use mathlib.Core.Path.{_≡_};
-ghost use Rattle.head.specs.Refusals.{numberOf};
+ghost use Rattle.refusals.specs.Refusals.{numberOf};
 ghost use Rattle.model.specs.Book.{pairAnswer, unpairAnswer};
 ghost use Rattle.model.specs.Promises.{tables, Paired, Unpaired};
-use head::Answer;
 use head::Head;
-use head::Refusal;
-use head::Reply;
 use judging::judge_watchful;
 use judging::short_output;
 use judging::with_test;
@@ -15,6 +12,9 @@ use listing::start_of;
 use listing::write_joins;
 use looking::end_of;
 use looking::out_of_sizes;
+use refusals::Answer;
+use refusals::Refusal;
+use replies::Reply;
 
 // The answer of a watch of the pair with an output of this length.
 fn judge_pair(

@@ -1,7 +1,5 @@
 // The call that a line of the book player asks for, made on the parts of the buffers that are lent.
 use changed_by_value::Made;
-use head::Answer;
-use head::Reply;
 use player_lines::Command;
 use player_lines::Line;
 use player_lines::quoted;
@@ -9,6 +7,8 @@ use player_reads::read;
 use player_state::Seen;
 use player_state::State;
 use player_watches::set;
+use refusals::Answer;
+use replies::Reply;
 
 // Whether a reply accepts.
 fn accepts(reply: Reply) -> bool {

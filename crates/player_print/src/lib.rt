@@ -1,8 +1,5 @@
 // What is printed of each line of the book player.
-use head::Answer;
 use head::Head;
-use head::Reply;
-use head::Verdict;
 use head::Watch;
 use player_output::Print;
 use player_output::flush;
@@ -12,6 +9,9 @@ use player_output::put_short;
 use player_output::put_word;
 use player_state::Seen;
 use player_state::State;
+use refusals::Answer;
+use replies::Reply;
+use replies::Verdict;
 
 // The number of an answer: 0 where it accepts.
 fn number(answer: Answer) -> u32 {

@@ -2,13 +2,13 @@
 // without a call.
 mod poking;
 
-use head::Answer;
 use head::Head;
-use head::Reply;
-use head::Verdict;
 use head::Watch;
 pub use poking::begin;
 pub use poking::poke;
+use refusals::Answer;
+use replies::Reply;
+use replies::Verdict;
 use sizes::CHANGE_BYTES;
 use sizes::COLUMN_CELLS;
 use sizes::PLACES;

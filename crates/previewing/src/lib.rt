@@ -3,11 +3,11 @@
 ghost use mathlib.Core.Path.{_≡_};
 ghost use Rattle.model.specs.Promises.{tables, Previewed};
 ghost use Rattle.previewing.specs.Effects.{effectOf};
-use head::Answer;
-use head::Effect;
 use head::Head;
-use head::Reply;
 use quoting::judge_row;
+use refusals::Answer;
+use replies::Effect;
+use replies::Reply;
 use settling::find;
 use sizes::PLACES;
 use writing::accept;

@@ -11,14 +11,14 @@ use borrow.Author.Tests.{ltb-false, leb-false, eqb-true, not-false}
 use Rattle.lists.specs.Lists.{laid}
 use Rattle.skyline.specs.Skyline.{windowStart}
 use Rattle.head.specs.declared.Head.{Head}
-use Rattle.head.specs.declared.Answer.{Answer}
-use Rattle.head.specs.declared.Answer.the-variants.{Accepted, Refused}
-use Rattle.head.specs.declared.Refusal.{Refusal}
-use Rattle.head.specs.declared.Reply.{Reply}
+use Rattle.refusals.specs.declared.Answer.{Answer}
+use Rattle.refusals.specs.declared.Answer.the-variants.{Accepted, Refused}
+use Rattle.refusals.specs.declared.Refusal.{Refusal}
+use Rattle.replies.specs.declared.Reply.{Reply}
 use Rattle.head.specs.Heads.{lastPosition, afterQuote}
-use Rattle.head.specs.Refusals.{numberOf}
-use Rattle.head.specs.Replies.{outcome}
-use Rattle.head.proofs.Numbers.{zero-passed}
+use Rattle.refusals.specs.Refusals.{numberOf}
+use Rattle.replies.specs.Replies.{outcome}
+use Rattle.refusals.proofs.Numbers.{zero-passed}
 use Rattle.model.specs.Rows.{Row, Tables, filled, rowsAfter}
 use Rattle.model.specs.Changes.{allChanges, pairChanges, changeRoom}
 use Rattle.model.specs.Book.{tornWatches, bookRows, standing, listOf, pairListOf, quoteRows, quoteHead, quoteBytes, quoteAnswer, quoteReply, quoteTables, quoteOut}

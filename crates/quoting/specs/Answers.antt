@@ -5,9 +5,9 @@ use mathlib.Core.List.{List, [], _∷_}
 use lib.Dec.{ltb, leb, eqb}
 use lib.ListN.{length}
 use Rattle.head.specs.declared.Head.{Head}
-use Rattle.head.specs.declared.Refusal.the-variants.{Settings, ColumnCount, TapeFull, ShortOutput}
+use Rattle.refusals.specs.declared.Refusal.the-variants.{Settings, ColumnCount, TapeFull, ShortOutput}
 use Rattle.head.specs.Heads.{settingsHold, lastPosition}
-use Rattle.head.specs.Refusals.{number, firstOf}
+use Rattle.refusals.specs.Refusals.{number, firstOf}
 use Rattle.model.specs.Changes.{changeRoom}
 
 -- the tests of quote x itself and of the room for its changes: 4, 6, 13

@@ -1,16 +1,16 @@
 // The judgement of a quote, on any tables and on a book that calls left.
 ghost use mathlib.Core.Path.{_≡_};
-ghost use Rattle.head.specs.Refusals.{numberOf, firstOf, granted};
+ghost use Rattle.refusals.specs.Refusals.{numberOf, firstOf, granted};
 ghost use Rattle.model.specs.Book.{quoteAnswer};
 ghost use Rattle.model.specs.Promises.{tables};
 ghost use Rattle.quoting.specs.Answers.{quoteTests, reachedAnswer};
-use head::Answer;
 use head::Head;
-use head::Refusal;
 use judging::judge_settings;
 use judging::judge_watchful;
 use judging::short_output;
 use judging::with_test;
+use refusals::Answer;
+use refusals::Refusal;
 
 // An answer with the tests of the quote and of an output of this length behind it: 4, 6, 13.
 fn with_quote(answer: Answer, head: Head, quote: &[u32], room: usize) -> Answer

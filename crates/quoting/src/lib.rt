@@ -8,11 +8,11 @@ ghost use Rattle.writing.specs.Bytes.{SoundIf};
 
 mod judged;
 
-use head::Answer;
 use head::Head;
-use head::Reply;
 pub use judged::judge_reached;
 pub use judged::judge_row;
+use refusals::Answer;
+use replies::Reply;
 use settling::Finding;
 use settling::find;
 use settling::settle;

@@ -4,26 +4,26 @@ use Prim.Native.Nat.{ℕ, _*_, _≤_}
 use mathlib.Core.Bool.{true}
 use lib.ListN.{length, drop}
 use Rattle.head.specs.declared.Head.{Head}
-use Rattle.head.specs.Heads.{settingsHold}
+use Rattle.head.specs.Heads.{maxDimensions, maxCapacity, settingsHold}
 use Rattle.model.specs.Rows.{Tables}
 use Rattle.model.specs.Promises.{tables}
 use Rattle.row_starts.specs.declared.Start.{Start}
 
 -- the tables have twice the places of the largest N, and the columns six cells for each
 pub record Long (t : Tables) : Type 0 where
-  pub columns : 12288 ≤ length (t .columns)
-  pub positions : 2048 ≤ length (t .positions)
-  pub lowerEnds : 2048 ≤ length (t .lowerEnds)
-  pub upperEnds : 2048 ≤ length (t .upperEnds)
+  pub columns : 2 * maxCapacity * maxDimensions ≤ length (t .columns)
+  pub positions : 2 * maxCapacity ≤ length (t .positions)
+  pub lowerEnds : 2 * maxCapacity ≤ length (t .lowerEnds)
+  pub upperEnds : 2 * maxCapacity ≤ length (t .upperEnds)
 
 -- the rows start at most so many places on, with at most six cells of columns before them for each place
 pub record Within (most : ℕ) (s : Start) : Type 0 where
   pub bounded : s .row ≤ most
-  pub near : s .cell ≤ 6 * s .row
+  pub near : s .cell ≤ maxDimensions * s .row
 
 -- where the rows start 1,024 places on an opening was accepted
 pub record FullOpened (s : Start) (h : Head) : Type 0 where
-  pub opened : s .row ≡ 1024 → settingsHold (h .dimensions) (h .capacity) (h .directions) ≡ true
+  pub opened : s .row ≡ maxCapacity → settingsHold (h .dimensions) (h .capacity) (h .directions) ≡ true
 
 -- the tables from where the rows start on
 unfoldable pub onward : Start → Tables → Tables

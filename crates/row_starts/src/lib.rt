@@ -3,6 +3,7 @@
 ghost use mathlib.Core.Path.{_≡_};
 ghost use mathlib.Core.List.{List};
 ghost use Prim.Native.Nat.{ℕ, _+_, _*_, _≤_};
+ghost use Rattle.head.specs.Heads.{maxCapacity};
 ghost use Rattle.model.specs.Calls.{Reached};
 ghost use Rattle.model.specs.Promises.{tables, world};
 ghost use Rattle.row_starts.specs.Starts.{Long, Within, FullOpened, onward};
@@ -45,7 +46,7 @@ pub fn rewind(
     upper_ends: &mut [u32],
 ) -> Start
     requires { ⌜ Long (tables (now columns) (now positions) (now «lower_ends») (now «upper_ends»)) ⌝ }
-    requires { ⌜ Within 1024 start × FullOpened start head ⌝ }
+    requires { ⌜ Within maxCapacity start × FullOpened start head ⌝ }
     ensures { λ r. ⌜ Within 1023 r ⌝ }
     ensures { λ r. ⌜ ((ws : List ℕ) → Reached (world head
         (onward start (tables (now (columns .entry)) (now (positions .entry)) (now («lower_ends» .entry))

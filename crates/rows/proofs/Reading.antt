@@ -1,24 +1,17 @@
 -- Rows read out of the tables.
 use mathlib.Core.Path.{_≡_, _∙_}
 use Prim.Native.Nat.{ℕ, _+_, _*_, _≤_, _<_}
-use native.Mathlib.Nat.{zero-add, suc-mul, mul-le-mul-right}
+use native.Mathlib.Nat.{suc-mul, mul-le-mul-right}
 use native.Mathlib.Numerals.{add-one}
 use native.Mathlib.Omega.{arith}
-use mathlib.Core.List.{List, [], _∷_, _++_, map}
 use lib.ListN.{length, length-map}
 use Rattle.lists.specs.Lists.{run}
-use Rattle.lists.proofs.Filters.{map-append}
-use Rattle.lists.proofs.Runs.{length-run, run-snoc}
+use Rattle.lists.proofs.Runs.{length-run}
 use Rattle.model.specs.Rows.{Tables, rowAt, rowsIn}
 
 pub length-rows : (d n : ℕ) (t : Tables) → length (rowsIn d n t) ≡ n
 unfolding rowsIn
 length-rows d n t = length-map (run 0 n) (rowAt d t) ∙ length-run 0 n
-
--- one row more at the end
-pub rows-snoc : (d i : ℕ) (t : Tables) → rowsIn d (i + 1) t ≡ rowsIn d i t ++ (rowAt d t i ∷ [])
-unfolding rowsIn
-rows-snoc d i t = rw (add-one, run-snoc, map-append, zero-add)
 
 -- where the next row starts
 pub next-start : (i d : ℕ) → (i + 1) * d ≡ i * d + d

@@ -2,7 +2,7 @@
 use cells::chosen;
 use head::Head;
 ghost use mathlib.Core.Path.{_≡_};
-ghost use Prim.Native.Nat.{_+_, _-_, _≤_, min};
+ghost use Prim.Native.Nat.{_+_, _≤_, min};
 ghost use mathlib.Core.Bool.{_&&_};
 ghost use mathlib.Core.List.{[]};
 ghost use lib.Dec.{eqb};
@@ -11,13 +11,6 @@ ghost use Rattle.model.specs.Rows.{rowsIn, liveRows};
 ghost use Rattle.model.specs.Book.{tornRows, bookRows};
 ghost use Rattle.model.specs.Promises.{tables};
 ghost use Rattle.rows.specs.Places.{tornHead, inPlaces};
-
-// x less y, and 0 where y is larger.
-pub fn difference(x: u32, y: u32) -> u32
-    ensures { λ r. ⌜ r ≡ x - y ⌝ }
-{
-    if x < y { 0 } else { x - y }
-}
 
 // The smaller of two numbers.
 fn smaller(x: u32, y: u32) -> u32

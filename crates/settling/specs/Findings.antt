@@ -8,7 +8,7 @@ use lib.Dec.{eqb}
 use lib.ListN.{length, getD, drop}
 use Rattle.skyline.specs.Skyline.{windowStart}
 use Rattle.head.specs.declared.Head.{Head}
-use Rattle.head.specs.Heads.{lastPosition}
+use Rattle.head.specs.Heads.{maxCapacity, lastPosition}
 use Rattle.model.specs.Rows.{expiring}
 use Rattle.finding.specs.Found.{Rows, rows, liveIn, retired, youngest, Fits}
 use Rattle.settling.specs.declared.Finding.{Finding}
@@ -30,7 +30,7 @@ heldRows h x columns uppers = rows (h .dimensions) (h .directions) columns upper
 pub record Findable (h : Head) (x columns uppers places : List ℕ) : Type 0 where
   pub below : h .newest < lastPosition
   pub some : 1 ≤ h .capacity
-  pub bounded : h .capacity ≤ 1024
+  pub bounded : h .capacity ≤ maxCapacity
   pub full : h .held ≡ suc (h .newest) - windowStart (h .newest) (h .capacity)
   pub fits : Fits (heldRows h x columns uppers) (h .held)
   pub counted : h .live ≡ liveIn uppers 0 (h .held)
@@ -39,7 +39,7 @@ pub record Findable (h : Head) (x columns uppers places : List ℕ) : Type 0 whe
 -- what is found may be told: the numbers are those of rows held
 pub record Tellable (h : Head) (uppers : List ℕ) (last count : ℕ) : Type 0 where
   pub below : h .newest < lastPosition
-  pub held-bounded : h .held ≤ 1024
+  pub held-bounded : h .held ≤ maxCapacity
   pub held-fits : h .held ≤ h .capacity
   pub held-most : h .held ≤ h .newest
   pub some : 1 ≤ h .capacity

@@ -5,6 +5,7 @@ use mathlib.Core.List.{List, [], _∷_, _++_, map}
 use lib.ListN.{length, getD, take, drop}
 use Rattle.lists.specs.Lists.{padded}
 use Rattle.head.specs.declared.Head.{Head}
+use Rattle.head.specs.Heads.{maxDimensions, maxCapacity}
 use Rattle.model.specs.Rows.{Tables, renamed}
 use Rattle.cells.specs.Marked.{marked}
 use Rattle.settling.specs.Blank.{Blank}
@@ -28,8 +29,8 @@ module _ (h : Head) where
 
 -- a row may be put into a table of so many cells a row: there is room
 pub record Ready (h : Head) (width by : ℕ) (cells : List ℕ) : Type 0 where
-  pub narrow : width ≤ 6
-  pub bounded : h .capacity ≤ 1024
+  pub narrow : width ≤ maxDimensions
+  pub bounded : h .capacity ≤ maxCapacity
   pub by-held : by ≤ h .held
   pub room : h .held - by < h .capacity
   pub held-fit : h .held ≤ h .capacity

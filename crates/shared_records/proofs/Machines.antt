@@ -6,14 +6,14 @@ use denote.Laws.{Is}
 use denote.Struct.Declared.{Declared, row}
 use denote.Struct.Laws as LL
 use Rattle.head.specs.declared.Head.{Head}
-use Rattle.head.specs.declared.Reply.{Reply}
-use Rattle.head.specs.declared.Effect.{Effect}
+use Rattle.replies.specs.declared.Reply.{Reply}
+use Rattle.replies.specs.declared.Effect.{Effect}
 use Rattle.head.proofs.Head as Hd
 use Rattle.head.proofs.Head.Laws as Hd′
-use Rattle.head.proofs.Reply as R
-use Rattle.head.proofs.Reply.Laws as R′
-use Rattle.head.proofs.Effect as E
-use Rattle.head.proofs.Effect.Laws as E′
+use Rattle.replies.proofs.Reply as R
+use Rattle.replies.proofs.Reply.Laws as R′
+use Rattle.replies.proofs.Effect as E
+use Rattle.replies.proofs.Effect.Laws as E′
 use Rattle.lending.specs.declared.Judgement.{Judgement}
 use Rattle.lending.proofs.Judgement as J
 use Rattle.lending.proofs.Judgement.Laws as J′

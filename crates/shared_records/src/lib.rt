@@ -1,14 +1,14 @@
 // The calls that read the lent watch records and change none: the quote, its preview, the watch of the pair and its end.
 ghost use Rattle.watch_records.specs.Records.{watched};
 ghost use Rattle.model.specs.Promises.{tables, Quoted, Previewed, Paired, Unpaired};
-use head::Effect;
 use head::Head;
-use head::Reply;
 use head::Watch;
 use lending::pair_lent;
 use lending::preview_lent;
 use lending::quote_lent;
 use lending::unpair_lent;
+use replies::Effect;
+use replies::Reply;
 use watch_records::numbers;
 
 // Takes a quote: writes the changes of every watch, puts the quote's row into the tables, and hands back the next head

@@ -187,20 +187,6 @@ module _ (dom : ℕ → ℕ → Bool) where
         a : ℕ
         a = windowStart M n
 
-    -- p is on the list of a to b exactly if the window covers it
-    pub on-past : (S M a b p : ℕ) → S ≤ a → 1 ≤ a → b ≤ M → List·Memᴰ p (skyline dom a b) ↔ (coversAt S M a b p ≡ true)
-    on-past S M a b p hS h1 hM = (there, back)
-      where
-        there : List·Memᴰ p (skyline dom a b) → coversAt S M a b p ≡ true
-        there m =
-            let t = of-skyline dom a b p m in
-            into-coversAt S M a b p (free-covered S M a b p hS h1 hM (t .0) (t .1) (t .2))
-
-        back : coversAt S M a b p ≡ true → List·Memᴰ p (skyline dom a b)
-        back e =
-            let c = of-coversAt S M a b p e in
-            into-skyline dom a b p (c .start) (c .end) (covered-free S M a b p hS hM c)
-
     -- a live position heads the list of the window that starts at it
     pub live-listed : (M p : ℕ) → p ≤ M → upperEnd dom M p ≡ 0 → List·Memᴰ p (skyline dom p M)
     live-listed M p h e = into-skyline dom p M p (le-refl p) h (λ q u v. go q u v (decLt p q))

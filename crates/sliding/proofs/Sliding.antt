@@ -10,12 +10,12 @@ use lib.ListN.{length, take, drop}
 use borrow.Author.Tests.{lt-ltb}
 use Rattle.lists.specs.Lists.{laid}
 use Rattle.head.specs.declared.Head.{Head}
-use Rattle.head.specs.declared.Answer.{Answer}
-use Rattle.head.specs.declared.Answer.the-variants.{Refused}
-use Rattle.head.specs.declared.Refusal.{Refusal}
-use Rattle.head.specs.declared.Reply.{Reply}
+use Rattle.refusals.specs.declared.Answer.{Answer}
+use Rattle.refusals.specs.declared.Answer.the-variants.{Refused}
+use Rattle.refusals.specs.declared.Refusal.{Refusal}
+use Rattle.replies.specs.declared.Reply.{Reply}
 use Rattle.head.specs.Heads.{settingsHold, lastPosition, afterQuote}
-use Rattle.head.specs.Refusals.{numberOf}
+use Rattle.refusals.specs.Refusals.{numberOf}
 use Rattle.model.specs.Rows.{Tables}
 use Rattle.claims.specs.Places.{SamePlaces}
 use Rattle.model.specs.Book.{quoteAnswer}

@@ -4,7 +4,7 @@ use Prim.Native.Nat.{ℕ}
 use mathlib.Core.List.{List}
 use lib.ListN.{length, take}
 use Rattle.lists.specs.Lists.{laid}
-use Rattle.head.specs.Refusals.{numberOf}
+use Rattle.refusals.specs.Refusals.{numberOf}
 use Rattle.model.specs.Rows.{Tables}
 use Rattle.model.specs.Calls.{Call}
 use Rattle.asking.specs.declared.Wanted.{Wanted}

@@ -13,9 +13,9 @@ use Rattle.lists.specs.Lists.{laid}
 use Rattle.lists.proofs.Writing.{length-laid}
 use Rattle.head.specs.declared.Desk.{Desk}
 use Rattle.head.specs.Desks.{watchOf}
-use Rattle.head.specs.Refusals.{granted}
+use Rattle.refusals.specs.Refusals.{granted}
 use Rattle.head.specs.Heads.{lastPosition}
-use Rattle.head.proofs.Numbers.{zero-passed}
+use Rattle.refusals.proofs.Numbers.{zero-passed}
 use Rattle.frames.specs.Frames.{Saying, told, ended, refused, readAt}
 use Rattle.model.specs.Changes.{changeRoom}
 use Rattle.model.specs.Reference.{Reference, Lengths, unopened, newest, isOpen, headOf, tells, foretells, referenceStep}

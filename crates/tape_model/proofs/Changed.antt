@@ -11,9 +11,9 @@ use native.Mathlib.Nat.{le-refl}
 use borrow.Author.Tests.{leb-false}
 use Rattle.head.specs.declared.Desk.{Desk}
 use Rattle.head.specs.Desks.{watchOf}
-use Rattle.head.specs.Refusals.{granted}
+use Rattle.refusals.specs.Refusals.{granted}
 use Rattle.head.specs.Heads.{lastPosition}
-use Rattle.head.proofs.Numbers.{zero-passed}
+use Rattle.refusals.proofs.Numbers.{zero-passed}
 use Rattle.frames.specs.declared.Message.{Message}
 use Rattle.model.specs.Changes.{join, pairJoin, allChanges, pairChanges, frames}
 use Rattle.model.specs.Rows.{liveRows}

@@ -15,10 +15,10 @@ use Rattle.lists.proofs.Runs.{length-run}
 use Rattle.skyline.specs.Skyline.{windowStart, dominatedIn, skyline}
 use Rattle.head.specs.declared.Desk.{Desk}
 use Rattle.head.specs.Desks.{watchOf}
-use Rattle.head.specs.declared.Refusal.the-variants.{Settings, ColumnCount, WindowSize, TapeFull, AlreadyWatched, NoFreeRecord, ShortLoan, ShortOutput, WindowOrder}
-use Rattle.head.specs.Refusals.{number, firstOf}
+use Rattle.refusals.specs.declared.Refusal.the-variants.{Settings, ColumnCount, WindowSize, TapeFull, AlreadyWatched, NoFreeRecord, ShortLoan, ShortOutput, WindowOrder}
+use Rattle.refusals.specs.Refusals.{number, firstOf}
 use Rattle.head.specs.Heads.{settingsHold, lastPosition}
-use Rattle.head.proofs.Numbers.{firstOf-alike, firstOf-fails}
+use Rattle.refusals.proofs.Numbers.{firstOf-alike, firstOf-fails}
 use Rattle.head.proofs.Settings.{settings-within}
 use Rattle.frames.specs.Frames.{readAt}
 use Rattle.model.specs.Changes.{changeRoom}

@@ -12,8 +12,8 @@ use lib.Seq.{getD-append-add, drop-append-add}
 use borrow.Author.Tests.{ltb-true, lt-ltb, le-ltb, le-leb, leb-true, eqb-true, eqb-false, eq-eqb, ne-eqb}
 use Rattle.lists.proofs.Booleans.{either, agree, clash, and-left, and-right, or-cases}
 use Rattle.lists.proofs.Cells.{map-run}
-use Rattle.head.specs.declared.Refusal.the-variants.{UnknownKind, CutFrame}
-use Rattle.head.specs.Refusals.{number}
+use Rattle.refusals.specs.declared.Refusal.the-variants.{UnknownKind, CutFrame}
+use Rattle.refusals.specs.Refusals.{number}
 use Rattle.octets.specs.Bytes.{number2, number4}
 use Rattle.frame_kinds.specs.declared.Shape.{Shape}
 use Rattle.frame_kinds.specs.declared.Shape.the-variants.{Columns, Size, SizePosition, SizePair, Bare, Position, Settings, Unknown}
@@ -312,39 +312,7 @@ module _ {S : Type 0} (begun : S → Bool) (make : Call → S → Answered × S)
   -- a tape that is read in pieces prints what the whole tape prints
   pub printed-in-pieces : (tape : List ℕ) (s : S) {text : List ℕ} → Streams begun make [] 0 s tape text → text ≡ print begun make tape s
   printed-in-pieces tape s t = streams-lines t ∙ sym (print-lines tape s)
-
   -- ---- and every tape can be printed so
-
-  -- once nothing more comes, the frames are played to the end
-  frames-stream : (k : ℕ) (piece : List ℕ) (place : ℕ) (s : S) → 1 ≤ k → length piece < place + k → Streams begun make piece place s [] (printFrom begun make k piece place s)
-  unfolding printFrom
-  frames-stream zero piece place s a u = absurd (omega arith)
-  frames-stream (suc k) piece place s a u =
-      go (either (one .over))
-      (λ e.
-      let t = onward piece place s e in
-      let low = t .0 in
-      let high = t .1 in
-      frames-stream k piece (one .next) (one .state) (omega arith) (omega arith))
-    where
-      one : Played S
-      one = playAt begun make piece place s
-
-      rest : List ℕ
-      rest = printFrom begun make k piece (one .next) (one .state)
-
-      go : (one .over ≡ true) ⊎ (one .over ≡ false) → (one .over ≡ false → Streams begun make piece (one .next) (one .state) [] rest)
-          → Streams begun make piece place s [] (one .text ++ cond (one .over) [] rest)
-      go (inl e) more = rw (e, append-nil) (stops (inr refl) e)
-      go (inr e) more = rw e (plays (inr refl) e (more e))
-
-  -- whatever stands in the buffer, its lines can be printed
-  pub lines-stream : (piece rest : List ℕ) (place : ℕ) (s : S) → Streams begun make piece place s rest (linesFrom begun make (piece ++ rest) place s)
-  unfolding linesFrom
-  lines-stream piece rest place s =
-      let k = suc (length (piece ++ rest) - place) in
-      let t : Streams begun make piece place s (rest ++ []) (printFrom begun make k (piece ++ rest) place s) = fills rest (frames-stream k (piece ++ rest) place s (omega arith) (omega arith)) in
-      rw (append-nil rest) at t
 
 -- what the book prints of a tape that is read in pieces is the print by the reference model
 pub streamed-agrees : (tape : List ℕ) (l : Lent) (o : Outputs) {text : List ℕ}

@@ -3,8 +3,9 @@ use mathlib.Core.Path.{_≡_}
 use Prim.Native.Nat.{ℕ, _≤_}
 use mathlib.Core.Bool.{Bool, false}
 use mathlib.Core.List.{List}
-use Rattle.head.specs.declared.Refusal.the-variants.{ShortLoan, ShortOutput}
-use Rattle.head.specs.Refusals.{number}
+use Rattle.refusals.specs.declared.Refusal.the-variants.{ShortLoan, ShortOutput}
+use Rattle.refusals.specs.Refusals.{number}
+use Rattle.head.specs.Heads.{maxCapacity}
 use Rattle.model.specs.Reference.{Lengths, ample}
 use Rattle.model.specs.Calls.{Call}
 use Rattle.tape_model.specs.Print.{Answered}
@@ -25,7 +26,7 @@ pub record Ample (lengths : Lengths) : Type 0 where
   pub upperEnds : ample .upperEnds ≤ lengths .upperEnds
   pub watches : ample .watches ≤ lengths .watches
   pub bytes : ample .bytes ≤ lengths .bytes
-  pub cells : 1024 ≤ lengths .cells
+  pub cells : maxCapacity ≤ lengths .cells
 
 -- the answer is neither 11 nor 13
 abbrev pub Unshort : ℕ → Type 0

@@ -3,8 +3,8 @@ use Prim.Native.Nat.{ℕ, zero, suc}
 use mathlib.Core.Bool.{Bool, true, false, cond}
 use mathlib.Core.List.{List, [], _++_}
 use lib.ListN.{length}
-use Rattle.head.specs.declared.Refusal.the-variants.{OutOfPlace}
-use Rattle.head.specs.Refusals.{number}
+use Rattle.refusals.specs.declared.Refusal.the-variants.{OutOfPlace}
+use Rattle.refusals.specs.Refusals.{number}
 use Rattle.head.specs.Heads.{settingsHold}
 use Rattle.frames.specs.Frames.{readAt}
 use Rattle.model.specs.Rows.{Tables}

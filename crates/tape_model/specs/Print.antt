@@ -4,8 +4,8 @@ use mathlib.Core.List.{List, [], _∷_, _++_}
 use lib.ListN.{take}
 use Rattle.head.specs.declared.Desk.{Desk}
 use Rattle.head.specs.declared.Desk.the-variants.{One, Two}
-use Rattle.head.specs.Refusals.{granted}
-use Rattle.head.specs.Replies.{Outcome}
+use Rattle.refusals.specs.Refusals.{granted}
+use Rattle.replies.specs.Replies.{Outcome}
 use Rattle.model.specs.Calls.{Call, Open, Quote, Look, Watch, End, Past, Pair, Unpair, Due, Preview, Outputs}
 use Rattle.text.specs.Text.{line, line2}
 use Rattle.printed.specs.Printed.{changesText}

@@ -4,6 +4,7 @@ use Prim.Native.Nat.{ℕ, _+_, _-_, _≤_, _<_}
 use mathlib.Core.Bool.{Bool, cond}
 use mathlib.Core.List.{List}
 use lib.ListN.{length}
+use Rattle.head.specs.Heads.{maxCapacity}
 use Rattle.model.specs.Rows.{Tables}
 use Rattle.model.specs.Calls.{Reached}
 use Rattle.model.specs.Promises.{world}
@@ -24,7 +25,7 @@ pub record FramePlayed (tape : List ℕ) (room : ℕ) (s r : Playback) (t : Tabl
   pub advanced : Advanced tape (s .place) (r .place) (r .over)
   pub fits : r .used ≤ room
   pub same : r .end ≡ s .end
-  pub starts : Within 1024 (r .start)
+  pub starts : Within maxCapacity (r .start)
   pub opened : FullOpened (r .start) (r .head)
   pub reached : Reached (world (r .head) (onward (r .start) t) (r .watches))
 

@@ -12,7 +12,7 @@ use types.Run.{OneOf}
 use denote.Enum.Declared.{tagOf}
 use Rattle.head.specs.declared.Head.{Head}
 use Rattle.head.specs.Heads.{settingsHold}
-use Rattle.head.specs.Replies.{Outcome}
+use Rattle.replies.specs.Replies.{Outcome}
 use Rattle.model.specs.Rows.{Tables}
 use Rattle.model.specs.Book.{quoteTables, quoteReply}
 use Rattle.model.specs.Calls.{Call, Reached, bookSeen, headAfter, worldAfter, bookStep}

@@ -3,9 +3,9 @@
 ghost use mathlib.Core.Path.{_≡_};
 ghost use Prim.Native.Nat.{_+_, _≤_};
 ghost use lib.ListN.{length};
-use head::Answer;
 use libc::STDERR_FILENO;
 use line_fields::line_end;
+use refusals::Answer;
 
 // How many bytes the longest frame has.
 const LONGEST_FRAME: usize = 25;

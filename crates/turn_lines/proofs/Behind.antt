@@ -9,7 +9,7 @@ use Rattle.lists.specs.Lists.{laid}
 use Rattle.lists.proofs.Laying.{front-one, front-more}
 use Rattle.head.specs.declared.Desk.{Desk}
 use Rattle.head.specs.declared.Desk.the-variants.{One, Two}
-use Rattle.head.specs.Refusals.{granted}
+use Rattle.refusals.specs.Refusals.{granted}
 use Rattle.model.specs.Changes.{changeRoom}
 use Rattle.text.specs.Text.{Laid}
 use Rattle.text.proofs.Lines.{line-short, line2-short, of-front}

@@ -9,14 +9,14 @@ use Rattle.lists.specs.Lists.{flat}
 use Rattle.head.specs.declared.Head.{Head}
 use Rattle.head.specs.declared.Desk.{Desk}
 use Rattle.head.specs.declared.Desk.the-variants.{One, Two}
-use Rattle.head.specs.declared.Answer.{Answer}
-use Rattle.head.specs.declared.Answer.the-variants.{Accepted, Refused}
-use Rattle.head.specs.declared.Reply.{Reply}
-use Rattle.head.specs.declared.Refusal.{Refusal}
-use Rattle.head.specs.Refusals.{number, numberOf, granted}
-use Rattle.head.specs.Replies.{Outcome}
+use Rattle.refusals.specs.declared.Answer.{Answer}
+use Rattle.refusals.specs.declared.Answer.the-variants.{Accepted, Refused}
+use Rattle.replies.specs.declared.Reply.{Reply}
+use Rattle.refusals.specs.declared.Refusal.{Refusal}
+use Rattle.refusals.specs.Refusals.{number, numberOf, granted}
+use Rattle.replies.specs.Replies.{Outcome}
 use Rattle.head.specs.Heads.{withPair}
-use Rattle.head.proofs.Numbers.{refused-granted}
+use Rattle.refusals.proofs.Numbers.{refused-granted}
 use Rattle.frames.specs.Frames.{messagesFrom}
 use Rattle.model.specs.Rows.{Tables}
 use Rattle.model.specs.Book.{replyOf, quoteBytes, quoteHead, quoteAnswer, quoteReply, lookAnswer, lookReply, pastAnswer, pastReply, watchBytes, watchAnswer, watchReply, pairBytes, pairAnswer, pairReply}

@@ -5,9 +5,10 @@ use mathlib.Core.List.{List}
 use lib.ListN.{length, replicate}
 use Rattle.lists.specs.Lists.{laid}
 use Rattle.head.specs.declared.Head.{Head}
-use Rattle.head.specs.Refusals.{numberOf, granted}
+use Rattle.head.specs.Heads.{maxCapacity}
+use Rattle.refusals.specs.Refusals.{numberOf, granted}
 use Rattle.model.specs.Rows.{Tables}
-use Rattle.model.specs.Changes.{changeRoom}
+use Rattle.model.specs.Changes.{changeLength, changeRoom}
 use Rattle.model.specs.Calls.{Call}
 use Rattle.model.specs.Promises.{world}
 use Rattle.tape_model.specs.Print.{refusalLine, textOf}
@@ -22,13 +23,13 @@ lineBytes numbers = 3 + 11 * numbers
 
 -- how many bytes the lines of any frame have room in: the longest list, n1, n2 and 1,024 positions, and for every 7 bytes of changes a line
 abbrev pub textBytes : ℕ
-textBytes = lineBytes 1026 + lineBytes 2 * (changeRoom / 7)
+textBytes = lineBytes (maxCapacity + 2) + lineBytes 2 * (changeRoom / changeLength)
 
 -- ---- the player
 
 -- the player with this head, these tables and watches, these bytes for changes, and 1,024 cells of its own for positions
 abbrev pub player : Head → Tables → List ℕ → List ℕ → Player
-player h t ws bytes = record { world = world h t ws; outputs = record { bytes = bytes; cells = replicate 1024 0 } }
+player h t ws bytes = record { world = world h t ws; outputs = record { bytes = bytes; cells = replicate maxCapacity 0 } }
 
 -- ---- lines
 

@@ -5,7 +5,7 @@ ghost use Prim.Native.Nat.{ℕ, _+_, _≤_};
 ghost use lib.Dec.{eqb};
 ghost use lib.ListN.{length, take};
 ghost use Rattle.head.specs.declared.Head.{Head};
-ghost use Rattle.head.specs.Refusals.{number, numberOf, granted};
+ghost use Rattle.refusals.specs.Refusals.{number, numberOf, granted};
 ghost use Rattle.model.specs.Rows.{Tables};
 ghost use Rattle.model.specs.Changes.{changeRoom};
 ghost use Rattle.model.specs.Calls.{Call};
@@ -14,11 +14,11 @@ ghost use Rattle.text.specs.Text.{Laid};
 ghost use Rattle.printed.specs.Printed.{changesText};
 ghost use Rattle.tape_model.specs.Print.{deskLine};
 ghost use Rattle.turn_lines.specs.Turns.{lineBytes, textBytes, player, answerLine, made, refusedWith, Turned};
-use head::Answer;
 use head::Desk;
 use head::Head;
-use head::Refusal;
-use head::Reply;
+use refusals::Answer;
+use refusals::Refusal;
+use replies::Reply;
 use watches::WatchReply;
 
 // What a call of a tape leaves: its answer, how many bytes of text, and the head and the watches for the next one.

@@ -6,10 +6,10 @@ use mathlib.Core.List.{List, [], _++_, append-nil}
 use lib.ListN.{length}
 use borrow.Author.Tests.{ltb-false}
 use Rattle.head.specs.declared.Head.{Head}
-use Rattle.head.specs.declared.Reply.{Reply}
-use Rattle.head.specs.Refusals.{granted}
-use Rattle.head.specs.Replies.{Outcome}
-use Rattle.head.proofs.Numbers.{zero-passed}
+use Rattle.replies.specs.declared.Reply.{Reply}
+use Rattle.refusals.specs.Refusals.{granted}
+use Rattle.replies.specs.Replies.{Outcome}
+use Rattle.refusals.proofs.Numbers.{zero-passed}
 use Rattle.model.specs.Rows.{Tables}
 use Rattle.model.specs.Book.{replyOf, lookCells, lookAnswer, lookReply, pastCells, pastAnswer, pastReply}
 use Rattle.model.specs.Promises.{Looked, PastLooked}

@@ -6,7 +6,7 @@ use types.Run.{OneOf, miss}
 use denote.Enum.Declared.{tagOf}
 use Rattle.lists.specs.Lists.{laid}
 use Rattle.head.specs.declared.Head.{Head}
-use Rattle.head.specs.declared.Answer.the-variants.{Accepted}
+use Rattle.refusals.specs.declared.Answer.the-variants.{Accepted}
 use Rattle.model.specs.Rows.{Tables}
 use Rattle.asking.specs.declared.Wanted.{Wanted}
 use Rattle.asking.specs.declared.Wanted.the-variants.{Quote, Look, Past, Watch, End, Pair, Unpair, Open, Nothing, Refused, Misplaced}

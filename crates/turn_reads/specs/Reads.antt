@@ -1,7 +1,7 @@
 -- What a frame that leaves the book as it is comes to.
 use mathlib.Core.List.{[]}
-use Rattle.head.specs.declared.Refusal.the-variants.{OutOfPlace}
-use Rattle.head.specs.Refusals.{number}
+use Rattle.refusals.specs.declared.Refusal.the-variants.{OutOfPlace}
+use Rattle.refusals.specs.Refusals.{number}
 use Rattle.model.specs.Calls.{Call}
 use Rattle.asking.specs.declared.Wanted.{Wanted}
 use Rattle.asking.specs.declared.Wanted.the-variants.{Quote, Look, Past, Watch, End, Pair, Unpair, Open, Nothing, Refused, Misplaced}

@@ -8,10 +8,11 @@ ghost use Rattle.model.specs.Promises.{tables};
 ghost use Rattle.turn_lines.specs.Turns.{textBytes, player, made, Turned};
 ghost use Rattle.turn_reads.specs.Reads.{refused, looked};
 use asking::Wanted;
-use head::Answer;
 use head::Desk;
 use head::Head;
-use head::Refusal;
+use refusals::Answer;
+use refusals::Refusal;
+use sizes::PLACES;
 use turn_lines::Turn;
 use turn_lines::put_answer;
 use turn_lines::put_refusal;
@@ -34,7 +35,7 @@ fn look(
         (tables (now (columns .entry)) (now (positions .entry)) (now («lower_ends» .entry)) (now («upper_ends» .entry)))
         bytes (now (text .exit))) ⌝ }
 {
-    let mut cells = [0u32; 1025];
+    let mut cells = [0u32; PLACES + 1];
     let reply = looking::look(
         head,
         n,
@@ -74,7 +75,7 @@ fn past(
         (tables (now (columns .entry)) (now (positions .entry)) (now («lower_ends» .entry)) (now («upper_ends» .entry)))
         bytes (now (text .exit))) ⌝ }
 {
-    let mut cells = [0u32; 1026];
+    let mut cells = [0u32; PLACES + 2];
     let reply = looking::past(
         head,
         n1,

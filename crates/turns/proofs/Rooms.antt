@@ -10,8 +10,8 @@ use lib.ListN.{length}
 use borrow.Author.Tests.{ltb-false}
 use Rattle.head.specs.declared.Desk.{Desk}
 use Rattle.head.specs.declared.Head.{Head}
-use Rattle.head.specs.declared.Reply.{Reply}
-use Rattle.head.proofs.Numbers.{zero-passed}
+use Rattle.replies.specs.declared.Reply.{Reply}
+use Rattle.refusals.proofs.Numbers.{zero-passed}
 use Rattle.model.specs.Rows.{Tables}
 use Rattle.model.specs.Changes.{changeRoom}
 use Rattle.model.specs.Book.{replyOf, quoteBytes, quoteAnswer, quoteReply, watchBytes, watchAnswer, watchReply, pairBytes, pairAnswer, pairReply, watchfulAnswer}

@@ -14,11 +14,11 @@ use Rattle.lists.proofs.Booleans.{clash, refute, or-swap}
 use Rattle.lists.proofs.Members.{none-mem, of-filter}
 use Rattle.skyline.specs.Skyline.{windowStart}
 use Rattle.skyline.proofs.Free.{skyline-rises}
-use Rattle.head.specs.Refusals.{granted}
+use Rattle.refusals.specs.Refusals.{granted}
 use Rattle.head.specs.Heads.{lastPosition}
 use Rattle.head.specs.declared.Desk.{Desk}
 use Rattle.head.specs.Desks.{sizeIn, watchOf}
-use Rattle.head.proofs.Numbers.{zero-passed}
+use Rattle.refusals.proofs.Numbers.{zero-passed}
 use Rattle.frames.specs.declared.Message.{Message}
 use Rattle.frames.specs.Frames.{messagesFrom}
 use Rattle.model.specs.Changes.{join, pairJoin, allChanges, pairChanges, frames}

@@ -7,7 +7,7 @@ use lib.ListN.{length, take}
 use Rattle.lists.specs.Lists.{any, insert, without}
 use Rattle.head.specs.declared.Desk.{Desk}
 use Rattle.head.specs.Desks.{deskNumber, sizeIn, watchOf}
-use Rattle.head.specs.Refusals.{granted}
+use Rattle.refusals.specs.Refusals.{granted}
 use Rattle.frames.specs.declared.Message.{Message}
 use Rattle.frames.specs.declared.Message.the-variants.{Quote, Sized, Change, Pair, Bare, Position, Open, EndOfTape, Refused}
 use Rattle.frame_kinds.specs.Kinds.{pairLeaveKind, pairJoinKind}

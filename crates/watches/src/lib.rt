@@ -12,7 +12,7 @@ use desk_shares::desk_of;
 use desk_shares::size_of;
 use desk_shares::watch_of;
 use head::Desk;
-use head::Reply;
+use replies::Reply;
 
 // What a call that may change the watches hands back: its reply, and the watches after it.
 pub struct WatchReply {

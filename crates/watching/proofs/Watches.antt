@@ -9,12 +9,12 @@ use Rattle.lists.specs.Lists.{insert, laid, padded}
 use Rattle.skyline.specs.Skyline.{windowStart}
 use Rattle.head.specs.declared.Head.{Head}
 use Rattle.head.specs.declared.Desk.{Desk}
-use Rattle.head.specs.declared.Answer.{Answer}
-use Rattle.head.specs.declared.Answer.the-variants.{Accepted, Refused}
-use Rattle.head.specs.declared.Refusal.{Refusal}
+use Rattle.refusals.specs.declared.Answer.{Answer}
+use Rattle.refusals.specs.declared.Answer.the-variants.{Accepted, Refused}
+use Rattle.refusals.specs.declared.Refusal.{Refusal}
 use Rattle.head.specs.Desks.{deskUnit, watchOf}
-use Rattle.head.specs.Refusals.{numberOf}
-use Rattle.head.proofs.Numbers.{zero-passed}
+use Rattle.refusals.specs.Refusals.{numberOf}
+use Rattle.refusals.proofs.Numbers.{zero-passed}
 use Rattle.model.specs.Rows.{Tables, listed}
 use Rattle.model.specs.Changes.{join, frames, changeRoom}
 use Rattle.model.specs.Book.{standing, bookRows, listOf, watchBytes, watchAnswer, watchReply, watchWatches, watchOut}

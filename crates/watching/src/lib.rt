@@ -1,16 +1,13 @@
 // The watch and its end: a list followed, its joins written, and a list no longer followed.
 ghost use mathlib.Core.Path.{_≡_};
 ghost use mathlib.Core.List.{[], _∷_};
-ghost use Rattle.head.specs.declared.Refusal.the-variants.{WindowSize};
-ghost use Rattle.head.specs.Refusals.{number, numberOf};
+ghost use Rattle.refusals.specs.declared.Refusal.the-variants.{WindowSize};
+ghost use Rattle.refusals.specs.Refusals.{number, numberOf};
 ghost use Rattle.model.specs.Book.{watchfulAnswer, outOfRange, watchAnswer, endAnswer};
 ghost use Rattle.model.specs.Promises.{tables, Watched, Ended};
 use desk_shares::full;
-use head::Answer;
 use head::Desk;
 use head::Head;
-use head::Refusal;
-use head::Reply;
 use judging::judge_watchful;
 use judging::out_of_range;
 use judging::short_output;
@@ -18,6 +15,9 @@ use judging::with_test;
 use listing::Follower;
 use listing::start_of;
 use listing::write_joins;
+use refusals::Answer;
+use refusals::Refusal;
+use replies::Reply;
 use watches::WatchReply;
 use watches::find;
 use watches::insert;

@@ -5,10 +5,10 @@ ghost use Rattle.lists.specs.Lists.{laid};
 ghost use Rattle.settling.specs.Findings.{heldRows};
 ghost use Rattle.writing.specs.Bytes.{changeBytes, SoundIf, Writable, acceptedReply};
 use changes::write_all_changes;
-use head::Answer;
 use head::Head;
-use head::Reply;
 use pair_changes::write_pair_changes;
+use refusals::Answer;
+use replies::Reply;
 use settling::Finding;
 
 // Writes the changes of every watch, and behind them those of the pair; retired has the places of the rows that the quote retires.

@@ -43,14 +43,14 @@ use denote.Triple.Walked.{says, Stays, stay-dropped, walkOf, goes-dropped, Walks
 use denote.Exit.{yes}
 use Rattle.head.specs.declared.Desk.{Desk}
 use Rattle.head.specs.declared.Head.{Head}
-use Rattle.head.specs.declared.Reply.{Reply}
+use Rattle.replies.specs.declared.Reply.{Reply}
 use Rattle.head.specs.declared.Watch.{Watch}
 use Rattle.head.proofs.Desk as D
 use Rattle.head.proofs.Desk.Laws as D′
 use Rattle.head.proofs.Head as Hd
 use Rattle.head.proofs.Head.Laws as Hd′
-use Rattle.head.proofs.Reply as R
-use Rattle.head.proofs.Reply.Laws as R′
+use Rattle.replies.proofs.Reply as R
+use Rattle.replies.proofs.Reply.Laws as R′
 use Rattle.head.proofs.Watch as T
 use Rattle.head.proofs.Watch.Laws as T′
 use Rattle.model.specs.Rows.{Tables as Lent}

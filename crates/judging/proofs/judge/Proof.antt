@@ -2,7 +2,7 @@
 use mathlib.Core.Path.{refl, ap₂, _∙_}
 use mathlib.Core.Bool.{_||_}
 use borrow.Author.Needs.{needs}
-use Rattle.head.proofs.Numbers.{accepted-number}
+use Rattle.refusals.proofs.Numbers.{accepted-number}
 use Rattle.model.specs.Book.{answerOf}
 use Rattle.rows.proofs.Torn.{torn-columns}
 use Rattle.judging.specs.Answers.{loanAnswer}

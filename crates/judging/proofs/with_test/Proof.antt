@@ -1,8 +1,8 @@
 -- `with_test` meets its contract: a refusal stays, and an acceptance goes by the test.
 use mathlib.Core.Path.{sym}
 use borrow.Author.Needs.{needs}
-use Rattle.head.specs.Refusals.{firstOf, granted}
-use Rattle.head.proofs.Numbers.{refused-granted}
+use Rattle.refusals.specs.Refusals.{firstOf, granted}
+use Rattle.refusals.proofs.Numbers.{refused-granted}
 use Rattle.judging.proofs.with_test.Statement.{statement}
 use Rattle.judging.proofs.with_test.Tie as tie
 

@@ -2,8 +2,8 @@
 use mathlib.Core.Path.{refl}
 use borrow.Author.Needs.{needs}
 use mathlib.Core.Bool.{true, false}
-use Rattle.head.specs.Refusals.{granted}
-use Rattle.head.proofs.Numbers.{refused-granted}
+use Rattle.refusals.specs.Refusals.{granted}
+use Rattle.refusals.proofs.Numbers.{refused-granted}
 use Rattle.lending.specs.Lent.{judgement}
 use Rattle.lending.proofs.judge.Statement.{statement}
 use Rattle.lending.proofs.judge.Tie as tie

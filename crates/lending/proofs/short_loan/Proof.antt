@@ -1,6 +1,6 @@
 -- `short_loan` meets its contract.
 use borrow.Author.Needs.{needs}
-use Rattle.head.specs.Refusals.{firstOf, granted}
+use Rattle.refusals.specs.Refusals.{firstOf, granted}
 use Rattle.model.specs.Book.{replyOf}
 use Rattle.lending.specs.Lent.{shortLoanAnswer, shortLoanReply}
 use Rattle.lending.proofs.short_loan.Statement.{statement}

@@ -1,6 +1,6 @@
 -- `preview` meets its contract: it is judged as the quote is, and its changes are those of the quote.
 use native.Mathlib.Omega.{arith}
-use Rattle.head.proofs.Numbers.{accepted-number}
+use Rattle.refusals.proofs.Numbers.{accepted-number}
 use Rattle.settling.proofs.Findings.{findable}
 use Rattle.quoting.proofs.Quotes.{Entering, taken, bounded-held, reply-is, out-is, quote-refused}
 use Rattle.quoting.proofs.Reaching.{any-sound-if}

@@ -1,6 +1,6 @@
 -- `quote` meets its contract: it is judged, and takes the tables for any.
 use native.Mathlib.Omega.{arith}
-use Rattle.head.proofs.Numbers.{accepted-number}
+use Rattle.refusals.proofs.Numbers.{accepted-number}
 use Rattle.settling.proofs.Findings.{findable}
 use Rattle.quoting.proofs.Quotes.{taken, bounded-held, quote-refused}
 use Rattle.quoting.proofs.Reaching.{any-sound-if}

@@ -1,6 +1,6 @@
 -- `quote_sliding` meets its contract: a book that calls left is answered by the settings, the quote and the output.
 use native.Mathlib.Omega.{arith}
-use Rattle.head.proofs.Numbers.{accepted-number}
+use Rattle.refusals.proofs.Numbers.{accepted-number}
 use Rattle.settling.proofs.Standing.{within}
 use Rattle.settling.proofs.Findings.{findable}
 use Rattle.settling.proofs.Reaching.{reached-sound}

@@ -1,6 +1,6 @@
 -- `watch` meets its contract: refused, it leaves everything as it was; accepted, it writes the joins and inserts n.
 use native.Mathlib.Omega.{arith}
-use Rattle.head.proofs.Numbers.{accepted-number}
+use Rattle.refusals.proofs.Numbers.{accepted-number}
 use Rattle.watching.proofs.Watches.{watch-free, watch-window, joins-room, watch-refused, watch-set}
 use borrow.Author.Needs.{needs}
 use Rattle.watching.proofs.watch.Statement.{statement}

@@ -2,7 +2,7 @@
 use mathlib.Core.Path.{_≡_}
 use Prim.Native.Nat.{ℕ}
 use Rattle.head.specs.declared.Head.{Head}
-use Rattle.head.specs.declared.Answer.the-variants.{Accepted}
+use Rattle.refusals.specs.declared.Answer.the-variants.{Accepted}
 use Rattle.head.specs.Heads.{afterQuote}
 use Rattle.writing.specs.Bytes.{acceptedReply}
 use borrow.Author.Needs.{needs}

@@ -5,14 +5,13 @@ use native.Mathlib.Omega.{arith}
 use mathlib.Core.Bool.{Bool, true, false, _&&_}
 use mathlib.Core.List.{List, [], _∷_, _++_}
 use lib.Dec.{ltb}
-use lib.ListN.{getD}
 use borrow.Author.Tests.{ltb-true}
 use Rattle.lists.proofs.Booleans.{and-left, and-right}
-use Rattle.head.specs.declared.Refusal.{Refusal}
-use Rattle.head.specs.declared.Refusal.the-variants.{UnknownKind, CutFrame, Settings, ColumnCount, WindowSize, TapeFull, OutOfPlace, AlreadyWatched, NoFreeRecord, NotWatched, ShortLoan, Torn, ShortOutput, WindowOrder}
-use Rattle.head.specs.declared.Answer.{Answer}
-use Rattle.head.specs.declared.Answer.the-variants.{Accepted, Refused}
-use Rattle.head.specs.Refusals.{number, numberOf, firstOf, granted}
+use Rattle.refusals.specs.declared.Refusal.{Refusal}
+use Rattle.refusals.specs.declared.Refusal.the-variants.{UnknownKind, CutFrame, Settings, ColumnCount, WindowSize, TapeFull, OutOfPlace, AlreadyWatched, NoFreeRecord, NotWatched, ShortLoan, Torn, ShortOutput, WindowOrder}
+use Rattle.refusals.specs.declared.Answer.{Answer}
+use Rattle.refusals.specs.declared.Answer.the-variants.{Accepted, Refused}
+use Rattle.refusals.specs.Refusals.{number, numberOf, firstOf, granted}
 
 -- ---- the first condition that holds
 
@@ -34,11 +33,6 @@ module _ (b : Bool) (n : ℕ) (more : List (Bool × ℕ)) where
       go : (c : Bool) → (c ≡ false → firstOf more ≡ firstOf more') → firstOf ((c, n) ∷ more) ≡ firstOf ((c, n) ∷ more')
       go true h = refl
       go false h = h refl
-
-  -- a condition that holds is the answer
-  pub firstOf-holds : b ≡ true → firstOf ((b, n) ∷ more) ≡ n
-  unfolding firstOf
-  firstOf-holds e = rw e
 
   -- a condition that fails does not count
   pub firstOf-fails : b ≡ false → firstOf ((b, n) ∷ more) ≡ firstOf more
@@ -63,40 +57,6 @@ number-above ShortLoan = omega arith
 number-above Torn = omega arith
 number-above ShortOutput = omega arith
 number-above WindowOrder = omega arith
-
--- the answers in the order of their numbers
-abbrev answers : List Answer
-answers =
-    Accepted ∷ Refused UnknownKind ∷ Refused CutFrame ∷ Refused Settings ∷ Refused ColumnCount ∷ Refused WindowSize ∷ Refused TapeFull ∷ Refused OutOfPlace
-    ∷ Refused AlreadyWatched ∷ Refused NoFreeRecord ∷ Refused NotWatched ∷ Refused ShortLoan ∷ Refused Torn ∷ Refused ShortOutput ∷ Refused WindowOrder ∷ []
-
--- the answer with this number
-abbrev answerWith : ℕ → Answer
-answerWith n = getD answers n Accepted
-
-number-read : (k : Refusal) → answerWith (number k) ≡ Refused k
-number-read UnknownKind = refl
-number-read CutFrame = refl
-number-read Settings = refl
-number-read ColumnCount = refl
-number-read WindowSize = refl
-number-read TapeFull = refl
-number-read OutOfPlace = refl
-number-read AlreadyWatched = refl
-number-read NoFreeRecord = refl
-number-read NotWatched = refl
-number-read ShortLoan = refl
-number-read Torn = refl
-number-read ShortOutput = refl
-number-read WindowOrder = refl
-
-answer-read : (a : Answer) → answerWith (numberOf a) ≡ a
-answer-read Accepted = refl
-answer-read (Refused k) = number-read k
-
--- answers with the same number are the same
-pub numberOf-injective : (a b : Answer) → numberOf a ≡ numberOf b → a ≡ b
-numberOf-injective a b e = sym (answer-read a) ∙ ap answerWith e ∙ answer-read b
 
 -- the number of a call that was accepted is 0
 pub accepted-number : {n : ℕ} (a : Answer) → numberOf a ≡ n → a ≡ Accepted → n ≡ 0

@@ -1,10 +1,10 @@
 -- What the answers of the calls say, by 01's numbers and values: one definition for each enum that is an answer.
 use Prim.Native.Nat.{ℕ}
 use Rattle.head.specs.declared.Head.{Head}
-use Rattle.head.specs.declared.Reply.{Reply}
-use Rattle.head.specs.declared.Verdict.{Verdict}
-use Rattle.head.specs.declared.Verdict.the-variants.{Yes, No, Refused}
-use Rattle.head.specs.Refusals.{number, numberOf}
+use Rattle.replies.specs.declared.Reply.{Reply}
+use Rattle.replies.specs.declared.Verdict.{Verdict}
+use Rattle.replies.specs.declared.Verdict.the-variants.{Yes, No, Refused}
+use Rattle.refusals.specs.Refusals.{number, numberOf}
 
 -- what a call hands back: 0 or the number of its refusal, the head, and the count
 pub record Outcome : Type 0 where
