@@ -15,21 +15,30 @@ abbrev μ-loop : tie.MeasureT-loop
 μ-loop directions d columns uppers quote from to places₀ i₀ so-far₀ places i so-far = i
 
 loop-holds : tie.Need-loop-holds Inv-loop μ-loop
-loop-holds c = going-start _ (c .before .before .before .before .pre .0) (c .before .before .before .before .pre .1 .1)
+loop-holds c =
+    let at-start = c .before .before .before .before in
+    going-start _ (at-start .pre .0) (at-start .pre .1 .1)
 
 sub-i : tie.Need-sub-i Inv-loop μ-loop
 sub-i c = search needs
 
 go-through-requires : tie.Need-go-through-requires Inv-loop μ-loop
-go-through-requires c κs = let i = c .before .before .loop .inv in
-    (fits-less _ (omega (arith, i .most)) (c .before .before .before .before .before .before .before .pre .1 .0), record { least = omega (arith, i .room .least, c .before .loop-test .taken); most = i .room .most })
+go-through-requires c κs =
+    let at-loop = c .before .before in
+    let at-start = at-loop .before .before .before .before .before in
+    let i = at-loop .loop .inv in
+    (fits-less _ (omega (arith, i .most)) (at-start .pre .1 .0), record { least = omega (arith, i .room .least, c .before .loop-test .taken); most = i .room .most })
 
 loop-less : tie.Need-loop-less Inv-loop μ-loop
 loop-less c = search needs
 
 loop-again : tie.Need-loop-again Inv-loop μ-loop
-loop-again c = let t = c .before .before .before .before .loop-test .taken in let g = c .before .before .go-through in
-    going-turn _ (c .before .before .before .before .before .loop .inv) _ (omega (arith, t)) (omega arith) _ _ (g .ensures .0) (g .kept .1 .1 .1 .1 .1 .1 .0) (row-next _ (omega (arith, t)) (g .ensures .1))
+loop-again c =
+    let at-go-through = c .before .before in
+    let at-loop-test = at-go-through .before .before in
+    let at-loop = at-loop-test .before in
+    let t = at-loop-test .loop-test .taken in let g = at-go-through .go-through in
+    going-turn _ (at-loop .loop .inv) _ (omega (arith, t)) (omega arith) _ _ (g .ensures .0) (g .kept .1 .1 .1 .1 .1 .1 .0) (row-next _ (omega (arith, t)) (g .ensures .1))
 
 same-length : tie.Need-same-length Inv-loop μ-loop
 same-length c = c .before .loop .inv .same-length

@@ -10,26 +10,41 @@ use Rattle.any_finding.proofs.go_down_block.Statement.{statement}
 use Rattle.any_finding.proofs.go_down_block.Tie as tie
 
 taken-live-requires : tie.Need-taken-live-requires
-taken-live-requires c κs = c .before .before .before .before .pre .1 .0 .uppers
+taken-live-requires c κs =
+    let at-start = c .before .before .before .before in
+    at-start .pre .1 .0 .uppers
 
 returns : tie.Need-returns
-returns c = let p = c .before .before .before .before .before .before .before .pre in dead-block _ _ (p .0 .0) (p .0 .1) (p .1 .1) (c .before .before .taken-live .ensures) (c .if1 .taken)
+returns c =
+    let at-taken-live = c .before .before in
+    let at-start = at-taken-live .before .before .before .before .before in
+    let p = at-start .pre in dead-block _ _ (p .0 .0) (p .0 .1) (p .1 .1) (at-taken-live .taken-live .ensures) (c .if1 .taken)
 
 sub-dull-columns : tie.Need-sub-dull-columns
-sub-dull-columns c = block-below _ _ _ (c .before .before .before .taken-live .ensures) (c .if2 .taken)
+sub-dull-columns c =
+    let at-taken-live = c .before .before .before in
+    block-below _ _ _ (at-taken-live .taken-live .ensures) (c .if2 .taken)
 
 dull-columns-requires : tie.Need-dull-columns-requires
-dull-columns-requires c κs = fits-at _ (block-below _ _ _ (c .before .before .before .taken-live .ensures) (c .if2 .taken)) (c .before .before .before .before .before .before .before .before .pre .1 .0)
+dull-columns-requires c κs =
+    let at-taken-live = c .before .before .before in
+    let at-start = at-taken-live .before .before .before .before .before in
+    fits-at _ (block-below _ _ _ (at-taken-live .taken-live .ensures) (c .if2 .taken)) (at-start .pre .1 .0)
 
 returns-2 : tie.Need-returns-2
 returns-2 c =
-    let p = c .before .before .before .before .before .before .before .before .before .before .pre in
-    let h = block-below _ _ _ (c .before .before .before .before .before .taken-live .ensures) (c .before .before .if2 .taken) in
+    let at-if2 = c .before .before in
+    let at-taken-live = at-if2 .before .before .before in
+    let at-start = at-taken-live .before .before .before .before .before in
+    let p = at-start .pre in
+    let h = block-below _ _ _ (at-taken-live .taken-live .ensures) (at-if2 .if2 .taken) in
     let d = sym (c .before .dull-columns .ensures) ∙ c .if3 .taken in
     block-gone _ (p .0 .0) (p .1 .1) (λ q u l w. dull-apart _ _ 64 d q (omega (arith, p .0 .1)) (omega arith) .0) (inl (λ q u l. dull-apart _ _ 64 d q (omega (arith, p .0 .1)) (omega arith) .1))
 
 go-down-requires : tie.Need-go-down-requires
-go-down-requires c κs = let p = c .before .before .before .before .before .before .before .before .before .pre in (p .0 .0, p .1)
+go-down-requires c κs =
+    let at-start = c .before .before .before .before .before .before .before .before .before in
+    let p = at-start .pre in (p .0 .0, p .1)
 
 same-length : tie.Need-same-length
 same-length c = search needs

@@ -16,13 +16,19 @@ shared-slice-read-live : tie.Need-shared-slice-read-live
 shared-slice-read-live c = search needs
 
 returns : tie.Need-returns
-returns c = let m = c .before .before .before .before .before .before .before .pre .1 in (record { least = omega (arith, m .least); most = m .most }, λ b l v. dead-passed _ l v (c .if1 .taken))
+returns c =
+    let at-start = c .before .before .before .before .before .before .before in
+    let m = at-start .pre .1 in (record { least = omega (arith, m .least); most = m .most }, λ b l v. dead-passed _ l v (c .if1 .taken))
 
 mul-compare-unrolled : tie.Need-mul-compare-unrolled
-mul-compare-unrolled c = omega (arith, c .before .before .before .before .before .before .before .pre .0 .columns, row-in (c .before .before .before .before .before .before .before .args .place) (suc (c .before .before .before .before .before .before .before .args .place)) (c .before .before .before .before .before .before .before .args .d) (omega arith), c .before .before .before .before .before .before .before .fits)
+mul-compare-unrolled c =
+    let at-start = c .before .before .before .before .before .before .before in
+    omega (arith, at-start .pre .0 .columns, row-in (at-start .args .place) (suc (at-start .args .place)) (at-start .args .d) (omega arith), at-start .fits)
 
 compare-unrolled-requires : tie.Need-compare-unrolled-requires
-compare-unrolled-requires c κs = omega (arith, c .before .before .before .before .before .before .before .pre .0 .quoted, c .before .before .before .before .before .before .before .pre .0 .columns, row-in (c .before .before .before .before .before .before .before .args .place) (suc (c .before .before .before .before .before .before .before .args .place)) (c .before .before .before .before .before .before .before .args .d) (omega arith))
+compare-unrolled-requires c κs =
+    let at-start = c .before .before .before .before .before .before .before in
+    omega (arith, at-start .pre .0 .quoted, at-start .pre .0 .columns, row-in (at-start .args .place) (suc (at-start .args .place)) (at-start .args .d) (omega arith))
 
 over-older-requires : tie.Need-over-older-requires
 over-older-requires c κs = search needs
@@ -44,10 +50,14 @@ same-length c = search needs
 
 returns-2 : tie.Need-returns-2
 returns-2 c =
-    let m = c .before .before .before .before .before .before .before .before .before .before .before .before .before .before .before .before .pre .1 in
-    let p = c .before .before .before .before .before .push in (
+    let at-push = c .before .before .before .before .before in
+    let at-over-older = at-push .before in
+    let at-compare-unrolled = at-over-older .before .before in
+    let at-start = at-compare-unrolled .before .before .before .before .before .before .before .before in
+    let m = at-start .pre .1 in
+    let p = at-push .push in (
       room-pushed _ m _ (p .ensures .1 .0) (p .kept .0),
-      λ b l v. rw (p .ensures .1 .1) (compared-next _ l m v _ (c .before .before .before .before .before .before .before .before .compare-unrolled .ensures) _ (p .ensures .0 ∙ rw (c .before .before .before .before .before .before .over-older .ensures)) (c .chosen .ensures ∙ rw (c .before .under-older .ensures))),
+      λ b l v. rw (p .ensures .1 .1) (compared-next _ l m v _ (at-compare-unrolled .compare-unrolled .ensures) _ (p .ensures .0 ∙ rw (at-over-older .over-older .ensures)) (c .chosen .ensures ∙ rw (c .before .under-older .ensures))),
     )
 
 pub go-through-spec : {M : Type 1} → statement M

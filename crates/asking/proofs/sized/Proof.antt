@@ -20,7 +20,10 @@ returns-5 c = λ columns. end-two-sized _ _ columns (c .if5 .taken)
 
 returns-6 : tie.Need-returns-6
 returns-6 c =
-    λ columns. none-sized _ _ columns (c .before .before .before .before .if1 .left) (c .before .before .before .if2 .left) (c .before .before .if3 .left)
+    let at-if3 = c .before .before in
+    let at-if2 = at-if3 .before in
+    let at-if1 = at-if2 .before in
+    λ columns. none-sized _ _ columns (at-if1 .if1 .left) (at-if2 .if2 .left) (at-if3 .if3 .left)
     (c .before .if4 .left) (c .if5 .left)
 
 pub sized-spec : {M : Type 1} → statement M

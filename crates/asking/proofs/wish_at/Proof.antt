@@ -14,7 +14,9 @@ placed-requires : tie.Need-placed-requires
 placed-requires c κs = search needs
 
 returns : tie.Need-returns
-returns c = wish-there _ _ _ (c .before .before .before .read-at .result) (c .placed .result) (c .before .before .before .read-at .ensures) (c .before .settings-hold .ensures) (c .placed .ensures)
+returns c =
+    let at-read-at = c .before .before .before in
+    wish-there _ _ _ (at-read-at .read-at .result) (c .placed .result) (at-read-at .read-at .ensures) (c .before .settings-hold .ensures) (c .placed .ensures)
 
 pub wish-at-spec : {M : Type 1} → statement M
 wish-at-spec = tie.close (tie.spec read-at-requires settings-hold-requires placed-requires returns)

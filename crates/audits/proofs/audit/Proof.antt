@@ -20,28 +20,40 @@ short-tables-requires c κs = search needs
 
 returns-2 : tie.Need-returns-2
 returns-2 c =
+    let at-if1 = c .before .before in
+    let at-settings-hold = at-if1 .before in
     sym (
-    too-short _ _ (sym (c .before .before .before .settings-hold .ensures) ∙ not-false _ (c .before .before .if1 .left)) (sym (c .before .short-tables .ensures) ∙ c .if2 .taken)
+    too-short _ _ (sym (at-settings-hold .settings-hold .ensures) ∙ not-false _ (at-if1 .if1 .left)) (sym (c .before .short-tables .ensures) ∙ c .if2 .taken)
     )
 
 meets-rules-requires : tie.Need-meets-rules-requires
 meets-rules-requires c κs =
+    let at-if1 = c .before .before in
+    let at-settings-hold = at-if1 .before in
     let room = long-enough _ _ _ (sym (c .before .short-tables .ensures) ∙ c .if2 .left) in
-    let within = settings-within _ _ _ (sym (c .before .before .before .settings-hold .ensures) ∙ not-false _ (c .before .before .if1 .left)) in
+    let within = settings-within _ _ _ (sym (at-settings-hold .settings-hold .ensures) ∙ not-false _ (at-if1 .if1 .left)) in
     (within .some-capacity, (room .columns, (room .positions, (room .lowerEnds, room .upperEnds))))
 
 returns-3 : tie.Need-returns-3
 unfolding findingOf
 returns-3 c =
+    let at-if2 = c .before .before in
+    let at-short-tables = at-if2 .before in
+    let at-if1 = at-short-tables .before in
+    let at-settings-hold = at-if1 .before in
     sym (
-    by-rules _ _ (sym (c .before .before .before .before .before .settings-hold .ensures) ∙ not-false _ (c .before .before .before .before .if1 .left)) (sym (c .before .before .before .short-tables .ensures) ∙ c .before .before .if2 .left) _ (sym (c .before .meets-rules .ensures) ∙ c .if3 .taken)
+    by-rules _ _ (sym (at-settings-hold .settings-hold .ensures) ∙ not-false _ (at-if1 .if1 .left)) (sym (at-short-tables .short-tables .ensures) ∙ at-if2 .if2 .left) _ (sym (c .before .meets-rules .ensures) ∙ c .if3 .taken)
     )
 
 returns-4 : tie.Need-returns-4
 unfolding findingOf
 returns-4 c =
+    let at-if2 = c .before .before in
+    let at-short-tables = at-if2 .before in
+    let at-if1 = at-short-tables .before in
+    let at-settings-hold = at-if1 .before in
     sym (
-    by-rules _ _ (sym (c .before .before .before .before .before .settings-hold .ensures) ∙ not-false _ (c .before .before .before .before .if1 .left)) (sym (c .before .before .before .short-tables .ensures) ∙ c .before .before .if2 .left) _ (sym (c .before .meets-rules .ensures) ∙ c .if3 .left)
+    by-rules _ _ (sym (at-settings-hold .settings-hold .ensures) ∙ not-false _ (at-if1 .if1 .left)) (sym (at-short-tables .short-tables .ensures) ∙ at-if2 .if2 .left) _ (sym (c .before .meets-rules .ensures) ∙ c .if3 .left)
     )
 
 pub audit-spec : {M : Type 1} → statement M

@@ -33,13 +33,20 @@ shared-slice-read-result : tie.Need-shared-slice-read-result Inv-loop μ-loop
 shared-slice-read-result c = search needs
 
 returns : tie.Need-returns Inv-loop μ-loop
-returns c = back-found (c .before .before .before .before .loop .inv) (c .before .before .before .loop-test .taken) (c .before .before .over-younger .ensures) (c .before .if1 .taken)
+returns c =
+    let at-over-younger = c .before .before in
+    let at-loop-test = at-over-younger .before in
+    let at-loop = at-loop-test .before in
+    back-found (at-loop .loop .inv) (at-loop-test .loop-test .taken) (at-over-younger .over-younger .ensures) (c .before .if1 .taken)
 
 loop-less : tie.Need-loop-less Inv-loop μ-loop
 loop-less c = search needs
 
 loop-again : tie.Need-loop-again Inv-loop μ-loop
-loop-again c = back-more (c .before .before .before .loop .inv) (c .before .before .loop-test .taken) (c .before .over-younger .ensures) (c .if1 .left)
+loop-again c =
+    let at-loop-test = c .before .before in
+    let at-loop = at-loop-test .before in
+    back-more (at-loop .loop .inv) (at-loop-test .loop-test .taken) (c .before .over-younger .ensures) (c .if1 .left)
 
 returns-2 : tie.Need-returns-2 Inv-loop μ-loop
 returns-2 c = back-none (c .before .loop .inv) (c .loop-test .left)

@@ -23,8 +23,9 @@ cast-count c = search needs
 
 right-ends-requires : tie.Need-right-ends-requires
 right-ends-requires c κs =
+    let at-if1 = c .before .before .before in
     let passed = c .before .before .before .before in
-    let untorn = sym (passed .torn-rows .ensures) ∙ c .before .before .before .if1 .left in
+    let untorn = sym (passed .torn-rows .ensures) ∙ at-if1 .if1 .left in
     let some = passed .before .before .before .before .before .pre .0 in
     let rows = held-fits _ _ _ _ some untorn in
     let cells = columns-fit _ _ _ _ some untorn in
@@ -32,8 +33,9 @@ right-ends-requires c κs =
 
 mul-all-zero : tie.Need-mul-all-zero
 mul-all-zero c =
+    let at-if1 = c .before .before .before .before in
     let passed = c .before .before .before .before .before in
-    let untorn = sym (passed .torn-rows .ensures) ∙ c .before .before .before .before .if1 .left in
+    let untorn = sym (passed .torn-rows .ensures) ∙ at-if1 .if1 .left in
     let some = passed .before .before .before .before .before .pre .0 in
     omega (arith, columns-fit _ _ _ _ some untorn)
 
@@ -44,20 +46,30 @@ all-zero-requires : tie.Need-all-zero-requires
 all-zero-requires c κs = search needs
 
 all-zero-requires-2 : tie.Need-all-zero-requires-2
-all-zero-requires-2 c κs = c .before .before .before .before .before .before .before .before .before .before .before .pre .1 .1 .0
+all-zero-requires-2 c κs =
+    let at-start = c .before .before .before .before .before .before .before .before .before .before .before in
+    at-start .pre .1 .1 .0
 
 all-zero-requires-3 : tie.Need-all-zero-requires-3
-all-zero-requires-3 c κs = c .before .before .before .before .before .before .before .before .before .before .before .before .pre .1 .1 .1 .0
+all-zero-requires-3 c κs =
+    let at-start = c .before .before .before .before .before .before .before .before .before .before .before .before in
+    at-start .pre .1 .1 .1 .0
 
 all-zero-requires-4 : tie.Need-all-zero-requires-4
-all-zero-requires-4 c κs = c .before .before .before .before .before .before .before .before .before .before .before .before .before .pre .1 .1 .1 .1
+all-zero-requires-4 c κs =
+    let at-start = c .before .before .before .before .before .before .before .before .before .before .before .before .before in
+    at-start .pre .1 .1 .1 .1
 
 returns-2 : tie.Need-returns-2
 returns-2 c =
+    let at-all-zero2 = c .before .before in
+    let at-all-zero = at-all-zero2 .before in
+    let at-right-ends = at-all-zero .before in
+    let at-if1 = at-right-ends .before .before .before .before in
     let passed = c .before .before .before .before .before .before .before .before .before in
-    let untorn = sym (passed .torn-rows .ensures) ∙ c .before .before .before .before .before .before .before .before .if1 .left in
+    let untorn = sym (passed .torn-rows .ensures) ∙ at-if1 .if1 .left in
     let some = passed .before .before .before .before .before .pre .0 in
-    by-parts _ _ _ _ some untorn _ _ (c .before .before .before .before .right-ends .ensures) _ _ _ _ (c .before .before .before .all-zero .ensures) (c .before .before .all-zero2 .ensures) (c .before .all-zero3 .ensures) (c .all-zero4 .ensures)
+    by-parts _ _ _ _ some untorn _ _ (at-right-ends .right-ends .ensures) _ _ _ _ (at-all-zero .all-zero .ensures) (at-all-zero2 .all-zero2 .ensures) (c .before .all-zero3 .ensures) (c .all-zero4 .ensures)
 
 pub meets-rules-spec : {M : Type 1} → statement M
 meets-rules-spec =

@@ -32,7 +32,11 @@ shared-slice-read-result : tie.Need-shared-slice-read-result Inv-loop μ-loop
 shared-slice-read-result c = search needs
 
 returns : tie.Need-returns Inv-loop μ-loop
-returns c = onward-found (c .before .before .before .before .loop .inv) (c .before .before .before .loop-test .taken) (c .before .before .over-older .ensures) (c .before .if1 .taken)
+returns c =
+    let at-over-older = c .before .before in
+    let at-loop-test = at-over-older .before in
+    let at-loop = at-loop-test .before in
+    onward-found (at-loop .loop .inv) (at-loop-test .loop-test .taken) (at-over-older .over-older .ensures) (c .before .if1 .taken)
 
 add-j-2 : tie.Need-add-j-2 Inv-loop μ-loop
 add-j-2 c = search needs
@@ -41,7 +45,10 @@ loop-less : tie.Need-loop-less Inv-loop μ-loop
 loop-less c = search needs
 
 loop-again : tie.Need-loop-again Inv-loop μ-loop
-loop-again c = onward-more (c .before .before .before .loop .inv) (c .before .before .loop-test .taken) (c .before .over-older .ensures) (c .if1 .left)
+loop-again c =
+    let at-loop-test = c .before .before in
+    let at-loop = at-loop-test .before in
+    onward-more (at-loop .loop .inv) (at-loop-test .loop-test .taken) (c .before .over-older .ensures) (c .if1 .left)
 
 returns-2 : tie.Need-returns-2 Inv-loop μ-loop
 returns-2 c = onward-none (c .before .loop .inv) (c .loop-test .left)

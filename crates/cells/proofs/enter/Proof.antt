@@ -24,9 +24,13 @@ same-length c = search needs
 
 returns : tie.Need-returns
 returns c =
-    let p = c .before .before .before .before .before .before .before .before .before .before .before .before .before .before .pre in
-    let moved = c .before .before .before .before .before .before .before .before .before .before .shift in
-    entered _ _ _ _ _ _ _ _ (p .0) (p .1 .0) (p .1 .1 .0) (p .1 .1 .1) (moved .ensures) (moved .kept .0) (c .before .before .before .before .before .before .put .ensures) (c .before .before .clear .ensures)
+    let at-clear = c .before .before in
+    let at-put = at-clear .before .before .before .before in
+    let at-shift = at-put .before .before .before .before in
+    let at-start = at-shift .before .before .before .before in
+    let p = at-start .pre in
+    let moved = at-shift .shift in
+    entered _ _ _ _ _ _ _ _ (p .0) (p .1 .0) (p .1 .1 .0) (p .1 .1 .1) (moved .ensures) (moved .kept .0) (at-put .put .ensures) (at-clear .clear .ensures)
 
 pub enter-spec : {M : Type 1} → statement M
 enter-spec =

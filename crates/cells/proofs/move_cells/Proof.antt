@@ -13,9 +13,10 @@ use Rattle.cells.proofs.move_cells.Tie as tie
 -- as many cells as were copied out stand in front of the copy
 held-enough : (c : tie.After-held2) → let n = c .before .before .before .before .before .before .args .n in length (take n (c .before .put .last .0)) ≡ n
 held-enough c =
-    let n = c .before .before .before .before .before .before .args .n in
+    let at-start = c .before .before .before .before .before .before in
+    let n = at-start .args .n in
     let l = c .before .put .last .0 in
-    let enough : n ≤ length l = omega (arith, c .before .put .kept .0, c .before .before .before .before .before .before .pre) in
+    let enough : n ≤ length l = omega (arith, c .before .put .kept .0, at-start .pre) in
     length-take-le n l enough
 
 add-end : tie.Need-add-end
@@ -46,16 +47,21 @@ slice-aggregate-put-2 : tie.Need-slice-aggregate-put-2
 slice-aggregate-put-2 c = sym (held-enough (c .before .before))
 
 put-requires-2 : tie.Need-put-requires-2
-put-requires-2 c κs = omega (arith, held-enough (c .before .before), c .before .before .before .before .before .before .before .before .pre)
+put-requires-2 c κs =
+    let at-start = c .before .before .before .before .before .before .before .before in
+    omega (arith, held-enough (c .before .before), at-start .pre)
 
 same-length : tie.Need-same-length
 same-length c = search needs
 
 returns : tie.Need-returns
 returns c =
-    let args = c .before .before .before .before .before .before .before .before .before .before .before .args in
+    let at-put2 = c .before .before in
+    let at-put = at-put2 .before .before .before .before in
+    let at-start = at-put .before .before .before .before .before in
+    let args = at-start .args in
     let z : args .from + args .n - args .from ≡ args .n = omega arith in
-    moved (now (args .cells)) (args .from) (args .to) (args .n) _ (take (args .from + args .n - args .from) (drop (args .from) (now (args .cells)))) _ _ (c .before .before .before .before .before .before .before .before .before .before .before .pre .0) (c .before .before .before .before .before .before .put .ensures) (c .before .before .put2 .ensures) (rw z)
+    moved (now (args .cells)) (args .from) (args .to) (args .n) _ (take (args .from + args .n - args .from) (drop (args .from) (now (args .cells)))) _ _ (at-start .pre .0) (at-put .put .ensures) (at-put2 .put2 .ensures) (rw z)
 
 pub move-cells-spec : {M : Type 1} → statement M
 move-cells-spec =

@@ -42,7 +42,10 @@ loop-less c = search needs
 
 loop-again : tie.Need-loop-again Inv-loop μ-loop
 unfolding renamed
-loop-again c = more (c .before .before .before .loop .inv) (c .before .before .loop-test .taken) _ (c .chosen .ensures)
+loop-again c =
+    let at-loop-test = c .before .before in
+    let at-loop = at-loop-test .before in
+    more (at-loop .loop .inv) (at-loop-test .loop-test .taken) _ (c .chosen .ensures)
 
 same-length : tie.Need-same-length Inv-loop μ-loop
 same-length c = c .before .loop .inv .same-length

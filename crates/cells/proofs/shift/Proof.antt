@@ -40,7 +40,11 @@ loop-less : tie.Need-loop-less Inv-loop μ-loop
 loop-less c = search needs
 
 loop-again : tie.Need-loop-again Inv-loop μ-loop
-loop-again c = more (c .before .before .before .before .before .before .loop .inv) (c .before .before .before .before .piece .ensures) _ (c .before .before .move-cells .ensures)
+loop-again c =
+    let at-move-cells = c .before .before in
+    let at-piece = at-move-cells .before .before in
+    let at-loop = at-piece .before .before in
+    more (at-loop .loop .inv) (at-piece .piece .ensures) _ (at-move-cells .move-cells .ensures)
 
 same-length : tie.Need-same-length Inv-loop μ-loop
 same-length c = c .before .loop .inv .same-length

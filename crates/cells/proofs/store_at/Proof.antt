@@ -27,7 +27,10 @@ cast-at : tie.Need-cast-at Inv-loop μ-loop
 cast-at c = omega (arith, c .shared-slice-known .given (c .before .before .loop .k))
 
 mul-cells : tie.Need-mul-cells Inv-loop μ-loop
-mul-cells c = omega (arith, low (c .before .before .loop .inv) (c .before .loop-test .taken), c .before .before .before .fits)
+mul-cells c =
+    let at-loop = c .before .before in
+    let at-fits = at-loop .before in
+    omega (arith, low (at-loop .loop .inv) (c .before .loop-test .taken), at-fits .fits)
 
 slice-write-cells : tie.Need-slice-write-cells Inv-loop μ-loop
 slice-write-cells c = low (c .before .before .loop .inv) (c .before .loop-test .taken)

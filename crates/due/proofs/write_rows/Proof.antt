@@ -24,26 +24,44 @@ count-due-requires c κs = search needs
 
 mul-cells : tie.Need-mul-cells
 mul-cells c =
-    let known = c .before .before .before .before .before .before .before .args in
-    let bounded = due-bounded (c .before .before .before .before .start-of .result) (c .before .before .start-of2 .result) (known .head .newest) (c .before .start-of3 .result) (known .lower-ends .now) in
+    let at-start-of2 = c .before .before in
+    let at-start-of = at-start-of2 .before .before in
+    let at-start = at-start-of .before .before .before in
+    let known = at-start .args in
+    let bounded = due-bounded (at-start-of .start-of .result) (at-start-of2 .start-of2 .result) (known .head .newest) (c .before .start-of3 .result) (known .lower-ends .now) in
     omega (arith, bounded, c .count-due .ensures)
 
 returns : tie.Need-returns
-returns c = rows-none _ _ _ (c .before .before .before .before .before .start-of .ensures) (c .before .before .before .start-of2 .ensures) (c .before .before .start-of3 .ensures) (c .before .count-due .ensures) (c .if1 .taken)
+returns c =
+    let at-start-of3 = c .before .before in
+    let at-start-of2 = at-start-of3 .before in
+    let at-start-of = at-start-of2 .before .before in
+    rows-none _ _ _ (at-start-of .start-of .ensures) (at-start-of2 .start-of2 .ensures) (at-start-of3 .start-of3 .ensures) (c .before .count-due .ensures) (c .if1 .taken)
 
 write-due-requires : tie.Need-write-due-requires
 unfolding windowStart
 write-due-requires c κs =
-    let pre = c .before .before .before .before .before .before .before .before .before .pre in (
-      rw (c .before .before .before .before .before .before .start-of .ensures, c .before .before .before .before .start-of2 .ensures) (pre .1 .1 .1),
-      (omega (arith, c .before .before .before .before .start-of2 .ensures, pre), (omega (arith, pre), omega (arith, c .before .if1 .left, c .before .before .count-due .ensures))),
+    let at-count-due = c .before .before in
+    let at-start-of2 = at-count-due .before .before in
+    let at-start-of = at-start-of2 .before .before in
+    let at-start = at-start-of .before .before .before in
+    let pre = at-start .pre in (
+      rw (at-start-of .start-of .ensures, at-start-of2 .start-of2 .ensures) (pre .1 .1 .1),
+      (omega (arith, at-start-of2 .start-of2 .ensures, pre), (omega (arith, pre), omega (arith, c .before .if1 .left, at-count-due .count-due .ensures))),
     )
 
 same-length : tie.Need-same-length
 same-length c = search needs
 
 returns-2 : tie.Need-returns-2
-returns-2 c = rows-all _ _ _ (c .before .before .before .before .before .before .before .before .before .start-of .ensures) (c .before .before .before .before .before .before .before .start-of2 .ensures) (c .before .before .before .before .before .before .start-of3 .ensures) (c .before .before .before .before .before .count-due .ensures) (c .before .before .before .before .if1 .left) (c .before .before .write-due .ensures)
+returns-2 c =
+    let at-write-due = c .before .before in
+    let at-if1 = at-write-due .before .before in
+    let at-count-due = at-if1 .before in
+    let at-start-of3 = at-count-due .before in
+    let at-start-of2 = at-start-of3 .before in
+    let at-start-of = at-start-of2 .before .before in
+    rows-all _ _ _ (at-start-of .start-of .ensures) (at-start-of2 .start-of2 .ensures) (at-start-of3 .start-of3 .ensures) (at-count-due .count-due .ensures) (at-if1 .if1 .left) (at-write-due .write-due .ensures)
 
 pub write-rows-spec : {M : Type 1} → statement M
 write-rows-spec = tie.close (tie.spec start-of-requires sub-start-of start-of-requires-2 start-of-requires-3 count-due-requires mul-cells returns write-due-requires same-length returns-2)

@@ -30,7 +30,10 @@ one-requires : tie.Need-one-requires Inv-loop μ-loop
 one-requires c κs = search needs
 
 add-count : tie.Need-add-count Inv-loop μ-loop
-add-count c = omega (arith, c .one .ensures .1, c .before .before .before .loop .inv .bounded, c .before .before .loop-test .taken)
+add-count c =
+    let at-loop-test = c .before .before in
+    let at-loop = at-loop-test .before in
+    omega (arith, c .one .ensures .1, at-loop .loop .inv .bounded, at-loop-test .loop-test .taken)
 
 add-i : tie.Need-add-i Inv-loop μ-loop
 add-i c = search needs
@@ -40,7 +43,10 @@ loop-less c = search needs
 
 loop-again : tie.Need-loop-again Inv-loop μ-loop
 unfolding live
-loop-again c = count-turn (c .before .before .before .loop .inv) (c .before .before .loop-test .taken) _ (c .one .ensures .0) (c .one .ensures .1)
+loop-again c =
+    let at-loop-test = c .before .before in
+    let at-loop = at-loop-test .before in
+    count-turn (at-loop .loop .inv) (at-loop-test .loop-test .taken) _ (c .one .ensures .0) (c .one .ensures .1)
 
 returns : tie.Need-returns Inv-loop μ-loop
 returns c = rw (← le-antisymm (c .before .loop .inv .within) (c .loop-test .left)) (c .before .loop .inv .count≡)

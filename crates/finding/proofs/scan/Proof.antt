@@ -15,25 +15,38 @@ abbrev μ-loop : tie.MeasureT-loop
 μ-loop directions d columns uppers quote from to places₀ at i₀ left₀ places i left = i
 
 loop-holds : tie.Need-loop-holds Inv-loop μ-loop
-loop-holds c = scan-start _ (c .before .before .before .before .pre .0) (c .before .before .before .before .pre .1 .1)
+loop-holds c =
+    let at-start = c .before .before .before .before in
+    scan-start _ (at-start .pre .0) (at-start .pre .1 .1)
 
 sub-i : tie.Need-sub-i Inv-loop μ-loop
 sub-i c = search needs
 
 step-requires : tie.Need-step-requires Inv-loop μ-loop
-step-requires c κs = (fits-less _ (omega (arith, c .before .before .loop .inv .most)) (c .before .before .before .before .before .before .before .pre .1 .0), record { least = omega (arith, c .before .before .loop .inv .room .least, c .before .loop-test .taken); most = c .before .before .loop .inv .room .most })
+step-requires c κs =
+    let at-loop = c .before .before in
+    let at-start = at-loop .before .before .before .before .before in
+    (fits-less _ (omega (arith, at-loop .loop .inv .most)) (at-start .pre .1 .0), record { least = omega (arith, at-loop .loop .inv .room .least, c .before .loop-test .taken); most = at-loop .loop .inv .room .most })
 
 same-length : tie.Need-same-length Inv-loop μ-loop
 same-length c = search needs
 
 returns : tie.Need-returns Inv-loop μ-loop
-returns c = scan-found _ (c .before .before .before .before .before .before .before .loop .inv) (omega (arith, c .before .before .before .before .before .before .loop-test .taken)) (omega arith) _ _ (c .before .before .before .before .step .ensures .0) (row-below _ (omega (arith, c .before .before .before .before .before .before .loop-test .taken)) (c .before .before .before .before .step .ensures .1)) (c .if1 .taken)
+returns c =
+    let at-step = c .before .before .before .before in
+    let at-loop-test = at-step .before .before in
+    let at-loop = at-loop-test .before in
+    scan-found _ (at-loop .loop .inv) (omega (arith, at-loop-test .loop-test .taken)) (omega arith) _ _ (at-step .step .ensures .0) (row-below _ (omega (arith, at-loop-test .loop-test .taken)) (at-step .step .ensures .1)) (c .if1 .taken)
 
 loop-less : tie.Need-loop-less Inv-loop μ-loop
 loop-less c = search needs
 
 loop-again : tie.Need-loop-again Inv-loop μ-loop
-loop-again c = scan-turn _ (c .before .before .before .before .before .before .before .loop .inv) (omega (arith, c .before .before .before .before .before .before .loop-test .taken)) (omega arith) _ _ (c .before .before .before .before .step .ensures .0) (row-below _ (omega (arith, c .before .before .before .before .before .before .loop-test .taken)) (c .before .before .before .before .step .ensures .1)) (c .before .before .before .before .step .kept .1 .1 .1 .1 .1 .1 .0) (c .if1 .left)
+loop-again c =
+    let at-step = c .before .before .before .before in
+    let at-loop-test = at-step .before .before in
+    let at-loop = at-loop-test .before in
+    scan-turn _ (at-loop .loop .inv) (omega (arith, at-loop-test .loop-test .taken)) (omega arith) _ _ (at-step .step .ensures .0) (row-below _ (omega (arith, at-loop-test .loop-test .taken)) (at-step .step .ensures .1)) (at-step .step .kept .1 .1 .1 .1 .1 .1 .0) (c .if1 .left)
 
 same-length-2 : tie.Need-same-length-2 Inv-loop μ-loop
 same-length-2 c = c .before .loop .inv .same-length

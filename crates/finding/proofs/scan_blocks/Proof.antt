@@ -14,34 +14,46 @@ abbrev μ-loop : tie.MeasureT-loop
 μ-loop directions d columns uppers quote dense from to places₀ at i₀ left₀ places i left = i
 
 loop-holds : tie.Need-loop-holds Inv-loop μ-loop
-loop-holds c = scan-start _ (c .before .before .before .before .pre .0) (c .before .before .before .before .pre .1 .1)
+loop-holds c =
+    let at-start = c .before .before .before .before in
+    scan-start _ (at-start .pre .0) (at-start .pre .1 .1)
 
 block-start-requires : tie.Need-block-start-requires Inv-loop μ-loop
 block-start-requires c κs = c .loop-test .taken
 
 scan-block-requires : tie.Need-scan-block-requires Inv-loop μ-loop
 scan-block-requires c κs =
-    let i = c .before .before .before .loop .inv in
+    let at-loop = c .before .before .before in
+    let at-start = at-loop .before .before .before .before .before in
+    let i = at-loop .loop .inv in
     let s = c .before .block-start .ensures in
-    ((omega (arith, s .0 .1), s .1), (fits-less _ (i .most) (c .before .before .before .before .before .before .before .before .pre .1 .0), i .room))
+    ((omega (arith, s .0 .1), s .1), (fits-less _ (i .most) (at-start .pre .1 .0), i .room))
 
 same-length : tie.Need-same-length Inv-loop μ-loop
 same-length c = search needs
 
 returns : tie.Need-returns Inv-loop μ-loop
 returns c =
-    let s = c .before .before .before .before .before .before .block-start .ensures in
-    let b = c .before .before .before .before .scan-block .ensures in
-    scan-found _ (c .before .before .before .before .before .before .before .before .loop .inv) (s .0 .0) (omega (arith, s .0 .1)) _ _ (b .0) (b .1) (c .if1 .taken)
+    let at-scan-block = c .before .before .before .before in
+    let at-block-start = at-scan-block .before .before in
+    let at-loop = at-block-start .before .before in
+    let s = at-block-start .block-start .ensures in
+    let b = at-scan-block .scan-block .ensures in
+    scan-found _ (at-loop .loop .inv) (s .0 .0) (omega (arith, s .0 .1)) _ _ (b .0) (b .1) (c .if1 .taken)
 
 loop-less : tie.Need-loop-less Inv-loop μ-loop
-loop-less c = c .before .before .before .before .before .before .block-start .ensures .0 .1
+loop-less c =
+    let at-block-start = c .before .before .before .before .before .before in
+    at-block-start .block-start .ensures .0 .1
 
 loop-again : tie.Need-loop-again Inv-loop μ-loop
 loop-again c =
-    let s = c .before .before .before .before .before .before .block-start .ensures in
-    let b = c .before .before .before .before .scan-block in
-    scan-turn _ (c .before .before .before .before .before .before .before .before .loop .inv) (s .0 .0) (omega (arith, s .0 .1)) _ _ (b .ensures .0) (b .ensures .1) (b .kept .1 .1 .1 .1 .1 .1 .1 .1 .0) (c .if1 .left)
+    let at-scan-block = c .before .before .before .before in
+    let at-block-start = at-scan-block .before .before in
+    let at-loop = at-block-start .before .before in
+    let s = at-block-start .block-start .ensures in
+    let b = at-scan-block .scan-block in
+    scan-turn _ (at-loop .loop .inv) (s .0 .0) (omega (arith, s .0 .1)) _ _ (b .ensures .0) (b .ensures .1) (b .kept .1 .1 .1 .1 .1 .1 .1 .1 .0) (c .if1 .left)
 
 same-length-2 : tie.Need-same-length-2 Inv-loop μ-loop
 same-length-2 c = c .before .loop .inv .same-length

@@ -17,13 +17,19 @@ shared-slice-read-if1 : tie.Need-shared-slice-read-if1
 shared-slice-read-if1 c = search needs
 
 returns : tie.Need-returns
-returns c = (record { least = omega (arith, c .before .before .before .before .before .before .pre .1 .least); most = c .before .before .before .before .before .before .pre .1 .most }, λ b l v. through refl (retired-passed _ l v (live-not _ _ (c .if1 .taken))))
+returns c =
+    let at-start = c .before .before .before .before .before .before in
+    (record { least = omega (arith, at-start .pre .1 .least); most = at-start .pre .1 .most }, λ b l v. through refl (retired-passed _ l v (live-not _ _ (c .if1 .taken))))
 
 mul-compare-unrolled : tie.Need-mul-compare-unrolled
-mul-compare-unrolled c = omega (arith, c .before .before .before .before .before .before .pre .0 .columns, row-in (c .before .before .before .before .before .before .args .place) (suc (c .before .before .before .before .before .before .args .place)) (c .before .before .before .before .before .before .args .d) (omega arith), c .before .before .before .before .before .before .fits)
+mul-compare-unrolled c =
+    let at-start = c .before .before .before .before .before .before in
+    omega (arith, at-start .pre .0 .columns, row-in (at-start .args .place) (suc (at-start .args .place)) (at-start .args .d) (omega arith), at-start .fits)
 
 compare-unrolled-requires : tie.Need-compare-unrolled-requires
-compare-unrolled-requires c κs = omega (arith, c .before .before .before .before .before .before .pre .0 .quoted, c .before .before .before .before .before .before .pre .0 .columns, row-in (c .before .before .before .before .before .before .args .place) (suc (c .before .before .before .before .before .before .args .place)) (c .before .before .before .before .before .before .args .d) (omega arith))
+compare-unrolled-requires c κs =
+    let at-start = c .before .before .before .before .before .before in
+    omega (arith, at-start .pre .0 .quoted, at-start .pre .0 .columns, row-in (at-start .args .place) (suc (at-start .args .place)) (at-start .args .d) (omega arith))
 
 over-older-requires : tie.Need-over-older-requires
 over-older-requires c κs = search needs
@@ -44,7 +50,13 @@ same-length : tie.Need-same-length
 same-length c = search needs
 
 returns-2 : tie.Need-returns-2
-returns-2 c = (room-pushed _ (c .before .before .before .before .before .before .before .before .before .before .before .before .before .before .pre .1) _ (c .before .before .before .before .push .ensures .1 .0) (c .before .before .before .before .push .kept .0), λ b l v. rw (c .before .before .before .before .push .ensures .1 .1) (compared-row _ l v (c .before .before .before .before .before .before .before .before .before .before .before .before .before .before .pre .1) _ (c .before .before .before .before .before .before .before .compare-unrolled .ensures) (live-zero _ _ (c .before .before .before .before .before .before .before .before .if1 .left)) _ (c .before .before .before .before .push .ensures .0 ∙ rw (c .before .before .before .before .before .over-older .ensures)) (c .chosen .ensures ∙ rw (c .before .under-older .ensures))))
+returns-2 c =
+    let at-push = c .before .before .before .before in
+    let at-over-older = at-push .before in
+    let at-compare-unrolled = at-over-older .before .before in
+    let at-if1 = at-compare-unrolled .before in
+    let at-start = at-if1 .before .before .before .before .before .before in
+    (room-pushed _ (at-start .pre .1) _ (at-push .push .ensures .1 .0) (at-push .push .kept .0), λ b l v. rw (at-push .push .ensures .1 .1) (compared-row _ l v (at-start .pre .1) _ (at-compare-unrolled .compare-unrolled .ensures) (live-zero _ _ (at-if1 .if1 .left)) _ (at-push .push .ensures .0 ∙ rw (at-over-older .over-older .ensures)) (c .chosen .ensures ∙ rw (c .before .under-older .ensures))))
 
 pub step-spec : {M : Type 1} → statement M
 step-spec =

@@ -25,7 +25,10 @@ add-result : tie.Need-add-result
 add-result c = search needs
 
 returns-2 : tie.Need-returns-2
-returns-2 c = length-found _ (sym (c .before .before .before .framed .ensures) ∙ not-false _ (c .before .before .if1 .left)) (c .before .kind-of .ensures) (c .body-length .ensures)
+returns-2 c =
+    let at-if1 = c .before .before in
+    let at-framed = at-if1 .before in
+    length-found _ (sym (at-framed .framed .ensures) ∙ not-false _ (at-if1 .if1 .left)) (c .before .kind-of .ensures) (c .body-length .ensures)
 
 pub frame-length-spec : {M : Type 1} → statement M
 frame-length-spec =

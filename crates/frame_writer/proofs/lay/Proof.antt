@@ -11,43 +11,63 @@ enum-known-message : tie.Need-enum-known-message
 enum-known-message c = search needs
 
 lay-quote-requires : tie.Need-lay-quote-requires
-lay-quote-requires c κs = quote-fits _ _ (c .before .before .before .before .before .pre .0) (c .before .before .before .before .before .pre .1) _ (c .before .before .message .given .1)
+lay-quote-requires c κs =
+    let at-message = c .before .before in
+    let at-start = at-message .before .before .before in
+    quote-fits _ _ (at-start .pre .0) (at-start .pre .1) _ (at-message .message .given .1)
 
 enum-known-message-2 : tie.Need-enum-known-message-2
 enum-known-message-2 c = search needs
 
 lay-number-requires : tie.Need-lay-number-requires
-lay-number-requires c κs = size-fits _ _ (c .before .before .before .before .before .pre .0) (c .before .before .before .before .before .pre .1) _ _ (c .before .before .message2 .given .1)
+lay-number-requires c κs =
+    let at-message2 = c .before .before in
+    let at-start = at-message2 .before .before .before in
+    size-fits _ _ (at-start .pre .0) (at-start .pre .1) _ _ (at-message2 .message2 .given .1)
 
 enum-known-message-3 : tie.Need-enum-known-message-3
 enum-known-message-3 c = search needs
 
 lay-change-requires : tie.Need-lay-change-requires
-lay-change-requires c κs = change-fits _ _ (c .before .before .before .before .before .pre .0) (c .before .before .before .before .before .pre .1) _ _ _ (c .before .before .message3 .given .1)
+lay-change-requires c κs =
+    let at-message3 = c .before .before in
+    let at-start = at-message3 .before .before .before in
+    change-fits _ _ (at-start .pre .0) (at-start .pre .1) _ _ _ (at-message3 .message3 .given .1)
 
 enum-known-message-4 : tie.Need-enum-known-message-4
 enum-known-message-4 c = search needs
 
 lay-pair-requires : tie.Need-lay-pair-requires
-lay-pair-requires c κs = pair-fits _ _ (c .before .before .before .before .before .pre .0) (c .before .before .before .before .before .pre .1) _ _ _ (c .before .before .message4 .given .1)
+lay-pair-requires c κs =
+    let at-message4 = c .before .before in
+    let at-start = at-message4 .before .before .before in
+    pair-fits _ _ (at-start .pre .0) (at-start .pre .1) _ _ _ (at-message4 .message4 .given .1)
 
 enum-known-message-5 : tie.Need-enum-known-message-5
 enum-known-message-5 c = search needs
 
 slice-write-out : tie.Need-slice-write-out
-slice-write-out c = bare-fits _ _ (c .before .before .before .before .pre .0) (c .before .before .before .before .pre .1)
+slice-write-out c =
+    let at-start = c .before .before .before .before in
+    bare-fits _ _ (at-start .pre .0) (at-start .pre .1)
 
 enum-known-message-6 : tie.Need-enum-known-message-6
 enum-known-message-6 c = search needs
 
 lay-position-requires : tie.Need-lay-position-requires
-lay-position-requires c κs = position-fits _ _ (c .before .before .before .before .before .pre .0) (c .before .before .before .before .before .pre .1) _ _ (c .before .before .message6 .given .1)
+lay-position-requires c κs =
+    let at-message6 = c .before .before in
+    let at-start = at-message6 .before .before .before in
+    position-fits _ _ (at-start .pre .0) (at-start .pre .1) _ _ (at-message6 .message6 .given .1)
 
 enum-known-message-7 : tie.Need-enum-known-message-7
 enum-known-message-7 c = search needs
 
 lay-open-requires : tie.Need-lay-open-requires
-lay-open-requires c κs = open-fits _ _ (c .before .before .before .before .before .pre .0) (c .before .before .before .before .before .pre .1) _ _ _ (c .before .before .message7 .given .1)
+lay-open-requires c κs =
+    let at-message7 = c .before .before in
+    let at-start = at-message7 .before .before .before in
+    open-fits _ _ (at-start .pre .0) (at-start .pre .1) _ _ _ (at-message7 .message7 .given .1)
 
 enum-told : tie.Need-enum-told
 enum-told c = search needs
@@ -60,28 +80,40 @@ same-length c = search needs
 
 returns : tie.Need-returns
 unfolding frame
-returns c = rw (c .before .before .before .before .before .message .given .1) (c .before .before .lay-quote .ensures)
+returns c =
+    let at-lay-quote = c .before .before in
+    let at-message = at-lay-quote .before .before .before in
+    rw (at-message .message .given .1) (at-lay-quote .lay-quote .ensures)
 
 same-length-2 : tie.Need-same-length-2
 same-length-2 c = search needs
 
 returns-2 : tie.Need-returns-2
 unfolding frame
-returns-2 c = rw (c .before .before .before .before .before .message2 .given .1) (c .before .before .lay-number .ensures)
+returns-2 c =
+    let at-lay-number = c .before .before in
+    let at-message2 = at-lay-number .before .before .before in
+    rw (at-message2 .message2 .given .1) (at-lay-number .lay-number .ensures)
 
 same-length-3 : tie.Need-same-length-3
 same-length-3 c = search needs
 
 returns-3 : tie.Need-returns-3
 unfolding frame
-returns-3 c = rw (c .before .before .before .before .before .message3 .given .1) (c .before .before .lay-change .ensures)
+returns-3 c =
+    let at-lay-change = c .before .before in
+    let at-message3 = at-lay-change .before .before .before in
+    rw (at-message3 .message3 .given .1) (at-lay-change .lay-change .ensures)
 
 same-length-4 : tie.Need-same-length-4
 same-length-4 c = search needs
 
 returns-4 : tie.Need-returns-4
 unfolding frame
-returns-4 c = rw (c .before .before .before .before .before .message4 .given .1) (c .before .before .lay-pair .ensures)
+returns-4 c =
+    let at-lay-pair = c .before .before in
+    let at-message4 = at-lay-pair .before .before .before in
+    rw (at-message4 .message4 .given .1) (at-lay-pair .lay-pair .ensures)
 
 same-length-5 : tie.Need-same-length-5
 same-length-5 c = search needs
@@ -89,21 +121,28 @@ same-length-5 c = search needs
 returns-5 : tie.Need-returns-5
 unfolding frame
 returns-5 c =
-    rw (c .before .message5 .given .1) (laid-one _ _ (bare-fits _ _ (c .before .before .before .before .pre .0) (c .before .before .before .before .pre .1)))
+    let at-start = c .before .before .before .before in
+    rw (c .before .message5 .given .1) (laid-one _ _ (bare-fits _ _ (at-start .pre .0) (at-start .pre .1)))
 
 same-length-6 : tie.Need-same-length-6
 same-length-6 c = search needs
 
 returns-6 : tie.Need-returns-6
 unfolding frame
-returns-6 c = rw (c .before .before .before .before .before .message6 .given .1) (c .before .before .lay-position .ensures)
+returns-6 c =
+    let at-lay-position = c .before .before in
+    let at-message6 = at-lay-position .before .before .before in
+    rw (at-message6 .message6 .given .1) (at-lay-position .lay-position .ensures)
 
 same-length-7 : tie.Need-same-length-7
 same-length-7 c = search needs
 
 returns-7 : tie.Need-returns-7
 unfolding frame
-returns-7 c = rw (c .before .before .before .before .before .message7 .given .1) (c .before .before .lay-open .ensures)
+returns-7 c =
+    let at-lay-open = c .before .before in
+    let at-message7 = at-lay-open .before .before .before in
+    rw (at-message7 .message7 .given .1) (at-lay-open .lay-open .ensures)
 
 returns-8 : tie.Need-returns-8
 unfolding frame laid

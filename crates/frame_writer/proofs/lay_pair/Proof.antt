@@ -18,7 +18,10 @@ same-length c = search needs
 
 returns : tie.Need-returns
 unfolding bytes2 frame
-returns c = laid-next _ _ _ refl (c .before .before .before .before .before .before .lay-number .ensures) (c .before .before .put-two .ensures)
+returns c =
+    let at-put-two = c .before .before in
+    let at-lay-number = at-put-two .before .before .before .before in
+    laid-next _ _ _ refl (at-lay-number .lay-number .ensures) (at-put-two .put-two .ensures)
 
 pub lay-pair-spec : {M : Type 1} → statement M
 lay-pair-spec = tie.close (tie.spec lay-number-requires put-two-requires same-length returns)

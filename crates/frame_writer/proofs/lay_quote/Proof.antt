@@ -38,7 +38,10 @@ loop-less : tie.Need-loop-less Inv-loop μ-loop
 loop-less c = search needs
 
 loop-again : tie.Need-loop-again Inv-loop μ-loop
-loop-again c = more _ (c .before .before .before .before .before .loop .inv) (omega arith) (c .before .before .put-four .kept .1 .1 .0) (c .before .before .put-four .ensures)
+loop-again c =
+    let at-put-four = c .before .before in
+    let at-loop = at-put-four .before .before .before in
+    more _ (at-loop .loop .inv) (omega arith) (at-put-four .put-four .kept .1 .1 .0) (at-put-four .put-four .ensures)
 
 same-length : tie.Need-same-length Inv-loop μ-loop
 same-length c = simp length-set at (c .before .loop .inv .long)

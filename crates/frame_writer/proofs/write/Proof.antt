@@ -22,7 +22,9 @@ same-length c = search needs
 
 returns-3 : tie.Need-returns-3
 returns-3 c =
-    rw (c .before .before .before .before .before .before .frame-length .ensures) (accepted _ _ _ (search needs) (λ e. omega arith) _ (omega arith) (c .before .before .lay .ensures))
+    let at-lay = c .before .before in
+    let at-frame-length = at-lay .before .before .before .before in
+    rw (at-frame-length .frame-length .ensures) (accepted _ _ _ (search needs) (λ e. omega arith) _ (omega arith) (at-lay .lay .ensures))
 
 pub write-spec : {M : Type 1} → statement M
 write-spec =

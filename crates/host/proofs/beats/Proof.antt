@@ -19,13 +19,20 @@ slice-aggregate-compare-2 c = search needs
 
 compare-requires : tie.Need-compare-requires
 compare-requires c κs =
-    let pre = c .before .before .before .before .before .before .before .before .pre in
-    (columns-fit _ _ (pre .0) _ (c .before .before .before .before .before .read-at .ensures), rw zero-add (columns-fit _ _ (pre .1) _ (c .before .before .before .read-at2 .ensures)))
+    let at-read-at2 = c .before .before .before in
+    let at-read-at = at-read-at2 .before .before in
+    let at-start = at-read-at .before .before .before in
+    let pre = at-start .pre in
+    (columns-fit _ _ (pre .0) _ (at-read-at .read-at .ensures), rw zero-add (columns-fit _ _ (pre .1) _ (at-read-at2 .read-at2 .ensures)))
 
 returns : tie.Need-returns
 returns c =
-    let pre = c .before .before .before .before .before .before .before .before .before .before .before .pre in
-    read-dominates _ _ _ _ (pre .0) (pre .1) _ _ (c .before .before .before .before .before .before .before .before .read-at .ensures) (c .before .before .before .before .before .before .read-at2 .ensures) _ (c .before .before .compare .ensures)
+    let at-compare = c .before .before in
+    let at-read-at2 = at-compare .before .before .before .before in
+    let at-read-at = at-read-at2 .before .before in
+    let at-start = at-read-at .before .before .before in
+    let pre = at-start .pre in
+    read-dominates _ _ _ _ (pre .0) (pre .1) _ _ (at-read-at .read-at .ensures) (at-read-at2 .read-at2 .ensures) _ (at-compare .compare .ensures)
 
 pub beats-spec : {M : Type 1} → statement M
 beats-spec =

@@ -19,7 +19,9 @@ returns-2 : tie.Need-returns-2
 returns-2 c = sym (second-cut _ _ _ (omega arith))
 
 shared-slice-read-kind : tie.Need-shared-slice-read-kind
-shared-slice-read-kind c = uncut-some (c .before .before .before .before .before .before .before .args .first .now) (λ e. omega arith)
+shared-slice-read-kind c =
+    let at-start = c .before .before .before .before .before .before .before in
+    uncut-some (at-start .args .first .now) (λ e. omega arith)
 
 returns-3 : tie.Need-returns-3
 returns-3 c = sym (low-kind _ _ _ (λ e. omega arith) (λ e. omega arith) (omega arith))
@@ -28,7 +30,9 @@ returns-4 : tie.Need-returns-4
 returns-4 c = sym (high-kind _ _ _ (λ e. omega arith) (λ e. omega arith) (omega arith))
 
 shared-slice-read-if5 : tie.Need-shared-slice-read-if5
-shared-slice-read-if5 c = uncut-some (c .before .before .before .before .before .before .before .before .before .before .args .second .now) (λ e. omega arith)
+shared-slice-read-if5 c =
+    let at-start = c .before .before .before .before .before .before .before .before .before .before in
+    uncut-some (at-start .args .second .now) (λ e. omega arith)
 
 returns-5 : tie.Need-returns-5
 returns-5 c = sym (other-kind _ _ _ (λ e. omega arith) (λ e. omega arith) (omega arith) (omega arith) (λ e. omega arith))

@@ -37,8 +37,10 @@ with-test-requires c κs = search needs
 returns-2 : tie.Need-returns-2
 unfolding loanAnswer answerOf
 returns-2 c =
-    tested _ _ _ (c .before .before .before .before .before .judge-loan .ensures)
-    (ap₂ _||_ (c .before .before .torn-rows .ensures ∙ torn-columns _ _ _ _ _ _) (c .before .torn-pair .ensures)) (c .with-test .ensures) refl
+    let at-torn-rows = c .before .before in
+    let at-judge-loan = at-torn-rows .before .before .before in
+    tested _ _ _ (at-judge-loan .judge-loan .ensures)
+    (ap₂ _||_ (at-torn-rows .torn-rows .ensures ∙ torn-columns _ _ _ _ _ _) (c .before .torn-pair .ensures)) (c .with-test .ensures) refl
 
 pub judge-spec : {M : Type 1} → statement M
 judge-spec =

@@ -13,7 +13,8 @@ judge-requires c κs = search needs
 
 returns : tie.Need-returns
 returns c =
-    let a = c .before .before .before .before .before .before .before .args in
+    let at-start = c .before .before .before .before .before .before .before in
+    let a = at-start .args in
     end-short (a .watches) (a .lent) (omega arith) _ _ _ _ _ (c .before .short-loan .ensures) (c .judge .ensures)
 
 end-requires : tie.Need-end-requires

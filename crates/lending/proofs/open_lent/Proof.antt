@@ -19,8 +19,11 @@ judge-requires c κs = search needs
 
 returns : tie.Need-returns
 returns c =
-    let a = c .before .before .before .before .before .before .before .before .before .args in
-    open-short (a .watches) (a .lent) (omega arith) _ _ _ _ _ (c .before .before .before .fresh .ensures) (c .before .before .fresh2 .ensures) (c .before .short-loan .ensures) (c .judge .ensures)
+    let at-fresh2 = c .before .before in
+    let at-fresh = at-fresh2 .before in
+    let at-start = at-fresh .before .before .before .before .before .before in
+    let a = at-start .args in
+    open-short (a .watches) (a .lent) (omega arith) _ _ _ _ _ (at-fresh .fresh .ensures) (at-fresh2 .fresh2 .ensures) (c .before .short-loan .ensures) (c .judge .ensures)
 
 open-requires : tie.Need-open-requires
 open-requires c κs = search needs
@@ -42,10 +45,12 @@ same-length-4 c = search needs
 
 returns-2 : tie.Need-returns-2
 returns-2 c =
+    let at-open = c .before .before .before .before .before .before .before .before .before in
+    let at-if1 = at-open .before .before .before .before .before in
     let s = c .before .before .before .before .before .before .before .before .before .before .before .before .before .before .before .before .before .before .before in
     let a = s .args in
     let g = s .good .1 .1 .1 .1 .1 .1 .1 .0 in
-    open-eight (a .watches) (a .lent) _ _ _ _ (omega (arith, g, c .before .before .before .before .before .before .before .before .before .before .before .before .before .before .if1 .left)) (c .before .before .before .before .before .before .before .before .before .«open» .ensures) (c .judge2 .ensures)
+    open-eight (a .watches) (a .lent) _ _ _ _ (omega (arith, g, at-if1 .if1 .left)) (at-open .«open» .ensures) (c .judge2 .ensures)
 
 pub open-lent-spec : {M : Type 1} → statement M
 open-lent-spec =

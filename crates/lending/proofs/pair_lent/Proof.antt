@@ -10,7 +10,8 @@ short-loan-requires c κs = search needs
 
 returns : tie.Need-returns
 returns c =
-    let a = c .before .before .before .before .before .before .before .args in
+    let at-start = c .before .before .before .before .before .before .before in
+    let a = at-start .args in
     pair-short (a .watches) (a .lent) (omega arith) _ _ _ _ (c .short-loan .ensures)
 
 pair-requires : tie.Need-pair-requires
@@ -21,10 +22,11 @@ same-length c = search needs
 
 returns-2 : tie.Need-returns-2
 returns-2 c =
+    let at-pair = c .before .before in
     let s = c .before .before .before .before .before .before .before .before .before .before in
     let a = s .args in
     let g = s .good .1 .1 .1 .1 .1 .1 .1 .0 in
-    pair-eight (a .watches) (a .lent) _ _ _ _ (omega (arith, g)) (c .before .before .pair .ensures)
+    pair-eight (a .watches) (a .lent) _ _ _ _ (omega (arith, g)) (at-pair .pair .ensures)
 
 pub pair-lent-spec : {M : Type 1} → statement M
 pair-lent-spec = tie.close (tie.spec short-loan-requires returns pair-requires same-length returns-2)

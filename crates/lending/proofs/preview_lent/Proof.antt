@@ -13,7 +13,8 @@ effect-of-requires c κs = search needs
 
 returns : tie.Need-returns
 returns c =
-    let a = c .before .before .before .before .before .before .before .before .before .args in
+    let at-start = c .before .before .before .before .before .before .before .before .before in
+    let a = at-start .args in
     preview-short (a .watches) (a .lent) (omega arith) _ _ _ _ (c .before .short-loan .ensures) (c .effect-of .ensures)
 
 preview-requires : tie.Need-preview-requires
@@ -24,10 +25,11 @@ same-length c = search needs
 
 returns-2 : tie.Need-returns-2
 returns-2 c =
+    let at-preview = c .before .before in
     let s = c .before .before .before .before .before .before .before .before .before .before .before in
     let a = s .args in
     let g = s .good .1 .1 .1 .1 .1 .1 .0 in
-    preview-eight (a .watches) (a .lent) _ _ _ (omega (arith, g)) (c .before .before .preview .ensures)
+    preview-eight (a .watches) (a .lent) _ _ _ (omega (arith, g)) (at-preview .preview .ensures)
 
 pub preview-lent-spec : {M : Type 1} → statement M
 preview-lent-spec = tie.close (tie.spec short-loan-requires effect-of-requires returns preview-requires same-length returns-2)

@@ -10,7 +10,8 @@ short-loan-requires c κs = search needs
 
 returns : tie.Need-returns
 returns c =
-    let a = c .before .before .before .before .before .before .before .before .args in
+    let at-start = c .before .before .before .before .before .before .before .before in
+    let a = at-start .args in
     quote-short (a .watches) (a .lent) (omega arith) _ _ _ (c .short-loan .ensures)
 
 quote-requires : tie.Need-quote-requires
@@ -33,10 +34,12 @@ same-length-5 c = search needs
 
 returns-2 : tie.Need-returns-2
 returns-2 c =
+    let at-quote = c .before .before .before .before .before .before .before .before .before .before in
+    let at-if1 = at-quote .before .before .before .before .before .before in
     let s = c .before .before .before .before .before .before .before .before .before .before .before .before .before .before .before .before .before .before .before .before .before .before .before in
     let a = s .args in
     let g = s .good .1 .1 .1 .1 .1 .1 .0 in
-    quote-eight (a .watches) (a .lent) _ _ _ (omega (arith, g, c .before .before .before .before .before .before .before .before .before .before .before .before .before .before .before .before .if1 .left)) (c .before .before .before .before .before .before .before .before .before .before .quote .ensures)
+    quote-eight (a .watches) (a .lent) _ _ _ (omega (arith, g, at-if1 .if1 .left)) (at-quote .quote .ensures)
 
 pub quote-lent-spec : {M : Type 1} → statement M
 quote-lent-spec =

@@ -10,7 +10,8 @@ short-loan-requires c κs = search needs
 
 returns : tie.Need-returns
 returns c =
-    let a = c .before .before .before .before .before .before .args in
+    let at-start = c .before .before .before .before .before .before in
+    let a = at-start .args in
     unpair-short (a .watches) (a .lent) (omega arith) _ _ (c .short-loan .ensures)
 
 unpair-requires : tie.Need-unpair-requires

@@ -13,7 +13,8 @@ judge-requires c κs = search needs
 
 returns : tie.Need-returns
 returns c =
-    let a = c .before .before .before .before .before .before .before .before .args in
+    let at-start = c .before .before .before .before .before .before .before .before in
+    let a = at-start .args in
     watch-short (a .watches) (a .lent) (omega arith) _ _ _ _ _ (c .before .short-loan .ensures) (c .judge .ensures)
 
 watch-requires : tie.Need-watch-requires
@@ -27,10 +28,11 @@ same-length c = search needs
 
 returns-2 : tie.Need-returns-2
 returns-2 c =
+    let at-watch = c .before .before .before in
     let s = c .before .before .before .before .before .before .before .before .before .before .before in
     let a = s .args in
     let g = s .good .1 .1 .1 .1 .1 .1 .1 .0 in
-    watch-eight (a .watches) (a .lent) _ _ _ _ (omega (arith, g)) (c .before .before .before .watch .ensures) (c .judge2 .ensures)
+    watch-eight (a .watches) (a .lent) _ _ _ _ (omega (arith, g)) (at-watch .watch .ensures) (c .judge2 .ensures)
 
 pub watch-lent-spec : {M : Type 1} → statement M
 watch-lent-spec =

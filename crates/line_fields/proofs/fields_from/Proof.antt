@@ -35,7 +35,10 @@ loop-less : tie.Need-loop-less Inv-loop μ-loop
 loop-less c = search needs
 
 loop-again : tie.Need-loop-again Inv-loop μ-loop
-loop-again c = rw (c .after .ensures) (fields-more _ _ (c .before .before .loop-test .taken) (c .before .before .before .loop .inv))
+loop-again c =
+    let at-loop-test = c .before .before in
+    let at-loop = at-loop-test .before in
+    rw (c .after .ensures) (fields-more _ _ (at-loop-test .loop-test .taken) (at-loop .loop .inv))
 
 returns : tie.Need-returns Inv-loop μ-loop
 returns c = fields-finish _ _ (c .loop-test .left) (c .before .loop .inv)

@@ -29,10 +29,18 @@ loop-less : tie.Need-loop-less Inv-loop μ-loop
 loop-less c = search needs
 
 loop-again : tie.Need-loop-again Inv-loop μ-loop
-loop-again c = end-more (now (c .before .before .before .before .args .text)) (c .before .before .loop-test .taken) (c .if1 .taken) (c .before .before .before .loop .inv)
+loop-again c =
+    let at-loop-test = c .before .before in
+    let at-loop = at-loop-test .before in
+    let at-start = at-loop .before in
+    end-more (now (at-start .args .text)) (at-loop-test .loop-test .taken) (c .if1 .taken) (at-loop .loop .inv)
 
 returns : tie.Need-returns Inv-loop μ-loop
-returns c = end-newline (now (c .before .before .before .before .args .text)) (c .before .before .loop-test .taken) (c .if1 .left) (c .before .before .before .loop .inv)
+returns c =
+    let at-loop-test = c .before .before in
+    let at-loop = at-loop-test .before in
+    let at-start = at-loop .before in
+    end-newline (now (at-start .args .text)) (at-loop-test .loop-test .taken) (c .if1 .left) (at-loop .loop .inv)
 
 returns-2 : tie.Need-returns-2 Inv-loop μ-loop
 returns-2 c = end-last _ (c .loop-test .left) (c .before .loop .inv)

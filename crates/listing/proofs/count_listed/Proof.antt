@@ -51,7 +51,10 @@ cast-n : tie.Need-cast-n Inv-loop μ-loop
 cast-n c = search needs
 
 add-n : tie.Need-add-n Inv-loop μ-loop
-add-n c = omega (arith, byte-small (c .is-listed .result), c .before .before .before .before .loop .inv .counted .bounded, c .before .before .before .before .before .before .before .pre .starts)
+add-n c =
+    let at-loop = c .before .before .before .before in
+    let at-start = at-loop .before .before .before in
+    omega (arith, byte-small (c .is-listed .result), at-loop .loop .inv .counted .bounded, at-start .pre .starts)
 
 add-i : tie.Need-add-i Inv-loop μ-loop
 add-i c = search needs
@@ -61,8 +64,10 @@ loop-less c = search needs
 
 loop-again : tie.Need-loop-again Inv-loop μ-loop
 loop-again c =
-    let turn = c .before .before .before .before .loop in
-    counting-more _ _ _ _ (turn .inv) (c .before .before .before .loop-test .taken) (c .is-listed .result)
+    let at-loop-test = c .before .before .before in
+    let at-loop = at-loop-test .before in
+    let turn = at-loop .loop in
+    counting-more _ _ _ _ (turn .inv) (at-loop-test .loop-test .taken) (c .is-listed .result)
     (listed-inside _ _ _ _ _ _ (turn .inv .reached) (omega arith) (c .is-listed .ensures))
 
 cast-result : tie.Need-cast-result Inv-loop μ-loop

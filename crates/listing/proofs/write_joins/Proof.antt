@@ -36,8 +36,9 @@ cast-i c = search needs
 loop-holds : tie.Need-loop-holds Inv-loop μ-loop
 unfolding listedIn
 loop-holds c =
-    let within = c .before .before .before .pre .0 in
-    listing-start _ _ _ _ (within .low) (within .near) (listed-early _ _ _ _ _) _ _ (rw (← frames-cells) (c .before .before .before .pre .1))
+    let at-start = c .before .before .before in
+    let within = at-start .pre .0 in
+    listing-start _ _ _ _ (within .low) (within .near) (listed-early _ _ _ _ _) _ _ (rw (← frames-cells) (at-start .pre .1))
 
 cast-position : tie.Need-cast-position Inv-loop μ-loop
 cast-position c = search needs
@@ -67,8 +68,10 @@ add-i c = search needs
 fits : (c : tie.Then1 Inv-loop μ-loop)
     → c .before .before .before .before .before .loop .at + length (frame (joinOf (c .before .before .before .before .before .before .before .before .before .args .follower) (c .before .before .before .before .before .before .before .before .before .args .first + c .before .before .before .before .before .loop .i)) []) ≤ length (c .before .before .before .before .before .loop .out)
 fits c =
-    let turn = c .before .before .before .before .before .loop in
-    writing-fits (turn .inv .writing) (c .before .before .before .before .loop-test .taken) (listed-inside _ _ _ _ _ _ (c .before .before .before .before .before .loop .inv .reached) (omega arith) (c .before .is-listed .ensures)) (c .if1 .taken)
+    let at-loop-test = c .before .before .before .before in
+    let at-loop = at-loop-test .before in
+    let turn = at-loop .loop in
+    writing-fits (turn .inv .writing) (at-loop-test .loop-test .taken) (listed-inside _ _ _ _ _ _ (at-loop .loop .inv .reached) (omega arith) (c .before .is-listed .ensures)) (c .if1 .taken)
 
 sub-lay-join : tie.Need-sub-lay-join Inv-loop μ-loop
 sub-lay-join c = omega (arith, fits c)
@@ -90,11 +93,16 @@ loop-less c = search needs
 
 loop-again : tie.Need-loop-again Inv-loop μ-loop
 loop-again c =
+    let at-lay-join = c .before .before in
+    let at-if1 = at-lay-join .before .before in
+    let at-is-listed = at-if1 .before in
+    let at-loop-test = at-is-listed .before .before .before in
+    let at-loop = at-loop-test .before in
     record {
-      reached = omega (arith, c .before .before .before .before .before .before .before .before .before .loop .inv .reached);
+      reached = omega (arith, at-loop .loop .inv .reached);
       writing =
-          writing-more (c .before .before .before .before .before .before .before .before .before .loop .inv .writing) (c .before .before .before .before .before .before .before .before .loop-test .taken) (listed-inside _ _ _ _ _ _ (c .before .before .before .before .before .before .before .before .before .loop .inv .reached) (omega arith) (c .before .before .before .before .before .is-listed .ensures))
-          (c .before .before .lay-join .ensures .0) (c .before .before .lay-join .ensures .1) (c .before .before .before .before .if1 .taken);
+          writing-more (at-loop .loop .inv .writing) (at-loop-test .loop-test .taken) (listed-inside _ _ _ _ _ _ (at-loop .loop .inv .reached) (omega arith) (at-is-listed .is-listed .ensures))
+          (at-lay-join .lay-join .ensures .0) (at-lay-join .lay-join .ensures .1) (at-if1 .if1 .taken);
     }
 
 loop-less-2 : tie.Need-loop-less-2 Inv-loop μ-loop
@@ -102,9 +110,11 @@ loop-less-2 c = search needs
 
 loop-again-2 : tie.Need-loop-again-2 Inv-loop μ-loop
 loop-again-2 c =
+    let at-loop-test = c .before .before .before .before in
+    let at-loop = at-loop-test .before in
     record {
-      reached = omega (arith, c .before .before .before .before .before .loop .inv .reached);
-      writing = writing-pass (c .before .before .before .before .before .loop .inv .writing) (c .before .before .before .before .loop-test .taken) (listed-inside _ _ _ _ _ _ (c .before .before .before .before .before .loop .inv .reached) (omega arith) (c .before .is-listed .ensures)) (c .if1 .left);
+      reached = omega (arith, at-loop .loop .inv .reached);
+      writing = writing-pass (at-loop .loop .inv .writing) (at-loop-test .loop-test .taken) (listed-inside _ _ _ _ _ _ (at-loop .loop .inv .reached) (omega arith) (c .before .is-listed .ensures)) (c .if1 .left);
     }
 
 same-length : tie.Need-same-length Inv-loop μ-loop

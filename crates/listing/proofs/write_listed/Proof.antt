@@ -32,8 +32,9 @@ cast-i c = search needs
 loop-holds : tie.Need-loop-holds Inv-loop μ-loop
 unfolding listedIn
 loop-holds c =
-    let within = c .before .before .before .pre .0 in
-    listing-start _ _ _ _ (within .low) (within .near) (listed-early _ _ _ _ _) _ _ (rw cells-same (c .before .before .before .pre .1))
+    let at-start = c .before .before .before in
+    let within = at-start .pre .0 in
+    listing-start _ _ _ _ (within .low) (within .near) (listed-early _ _ _ _ _) _ _ (rw cells-same (at-start .pre .1))
 
 cast-position : tie.Need-cast-position Inv-loop μ-loop
 cast-position c = search needs
@@ -61,7 +62,10 @@ add-i c = search needs
 
 -- a position that is listed has room for its cell
 fits : (c : tie.Then1 Inv-loop μ-loop) → c .before .before .before .before .before .loop .at + 1 ≤ length (c .before .before .before .before .before .loop .out)
-fits c = writing-fits (c .before .before .before .before .before .loop .inv .writing) (c .before .before .before .before .loop-test .taken) (listed-inside _ _ _ _ _ _ (c .before .before .before .before .before .loop .inv .reached) (omega arith) (c .before .is-listed .ensures)) (c .if1 .taken)
+fits c =
+    let at-loop-test = c .before .before .before .before in
+    let at-loop = at-loop-test .before in
+    writing-fits (at-loop .loop .inv .writing) (at-loop-test .loop-test .taken) (listed-inside _ _ _ _ _ _ (at-loop .loop .inv .reached) (omega arith) (c .before .is-listed .ensures)) (c .if1 .taken)
 
 mul-out : tie.Need-mul-out Inv-loop μ-loop
 mul-out c = omega (arith, fits c)
@@ -76,13 +80,19 @@ loop-less : tie.Need-loop-less Inv-loop μ-loop
 loop-less c = search needs
 
 loop-again : tie.Need-loop-again Inv-loop μ-loop
-loop-again c = record { reached = omega (arith, c .before .before .before .before .before .loop .inv .reached); writing = writing-store (c .before .before .before .before .before .loop .inv .writing) (c .before .before .before .before .loop-test .taken) (listed-inside _ _ _ _ _ _ (c .before .before .before .before .before .loop .inv .reached) (omega arith) (c .before .is-listed .ensures)) _ refl (c .if1 .taken) }
+loop-again c =
+    let at-loop-test = c .before .before .before .before in
+    let at-loop = at-loop-test .before in
+    record { reached = omega (arith, at-loop .loop .inv .reached); writing = writing-store (at-loop .loop .inv .writing) (at-loop-test .loop-test .taken) (listed-inside _ _ _ _ _ _ (at-loop .loop .inv .reached) (omega arith) (c .before .is-listed .ensures)) _ refl (c .if1 .taken) }
 
 loop-less-2 : tie.Need-loop-less-2 Inv-loop μ-loop
 loop-less-2 c = search needs
 
 loop-again-2 : tie.Need-loop-again-2 Inv-loop μ-loop
-loop-again-2 c = record { reached = omega (arith, c .before .before .before .before .before .loop .inv .reached); writing = writing-pass (c .before .before .before .before .before .loop .inv .writing) (c .before .before .before .before .loop-test .taken) (listed-inside _ _ _ _ _ _ (c .before .before .before .before .before .loop .inv .reached) (omega arith) (c .before .is-listed .ensures)) (c .if1 .left) }
+loop-again-2 c =
+    let at-loop-test = c .before .before .before .before in
+    let at-loop = at-loop-test .before in
+    record { reached = omega (arith, at-loop .loop .inv .reached); writing = writing-pass (at-loop .loop .inv .writing) (at-loop-test .loop-test .taken) (listed-inside _ _ _ _ _ _ (at-loop .loop .inv .reached) (omega arith) (c .before .is-listed .ensures)) (c .if1 .left) }
 
 same-length : tie.Need-same-length Inv-loop μ-loop
 same-length c = c .before .loop .inv .writing .laying .front .long

@@ -23,7 +23,9 @@ with-test-requires-2 c κs = search needs
 returns : tie.Need-returns
 unfolding answerOf sizesAnswer
 returns c =
-    let sized = tested _ _ _ (c .before .before .before .judge .ensures) (rw below-one at (c .before .before .out-of-sizes .ensures)) (c .before .with-test .ensures) refl in
+    let at-out-of-sizes = c .before .before in
+    let at-judge = at-out-of-sizes .before in
+    let sized = tested _ _ _ (at-judge .judge .ensures) (rw below-one at (at-out-of-sizes .out-of-sizes .ensures)) (c .before .with-test .ensures) refl in
     tested _ _ _ sized refl (c .with-test2 .ensures) refl
 
 pub judge-sizes-spec : {M : Type 1} → statement M

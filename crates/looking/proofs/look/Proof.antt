@@ -21,13 +21,21 @@ start-of-requires : tie.Need-start-of-requires
 start-of-requires c κs = size-passed _ _ _ (c .before .before .judge-size .ensures) (c .enum-told .given .1) .0 .whole .low-newest
 
 write-list-requires : tie.Need-write-list-requires
-write-list-requires c κs = let p = size-passed _ _ _ (c .before .before .before .before .judge-size .ensures) (c .before .before .enum-told .given .1) in let w = start-in _ _ (p .0) (p .1) (c .before .start-of .ensures) in (p .0 .whole .low-newest, window-in _ _ (p .0) _ _ (w .0) (w .1) (omega arith))
+write-list-requires c κs =
+    let at-enum-told = c .before .before in
+    let at-judge-size = at-enum-told .before .before in
+    let p = size-passed _ _ _ (at-judge-size .judge-size .ensures) (at-enum-told .enum-told .given .1) in let w = start-in _ _ (p .0) (p .1) (c .before .start-of .ensures) in (p .0 .whole .low-newest, window-in _ _ (p .0) _ _ (w .0) (w .1) (omega arith))
 
 same-length : tie.Need-same-length
 same-length c = search needs
 
 returns-2 : tie.Need-returns-2
-returns-2 c = look-done _ _ _ _ (c .before .before .before .before .before .before .before .judge-size .ensures) (c .before .before .before .before .before .enum-told .given .1) (c .before .before .before .before .start-of .ensures) (c .before .before .write-list .ensures)
+returns-2 c =
+    let at-write-list = c .before .before in
+    let at-start-of = at-write-list .before .before in
+    let at-enum-told = at-start-of .before in
+    let at-judge-size = at-enum-told .before .before in
+    look-done _ _ _ _ (at-judge-size .judge-size .ensures) (at-enum-told .enum-told .given .1) (at-start-of .start-of .ensures) (at-write-list .write-list .ensures)
 
 pub look-spec : {M : Type 1} → statement M
 look-spec =

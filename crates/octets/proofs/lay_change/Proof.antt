@@ -17,7 +17,10 @@ same-length c = search needs
 
 returns : tie.Need-returns
 unfolding bytes2
-returns c = laid-next _ _ _ refl (c .before .before .before .before .before .before .lay-number .ensures) (c .before .before .put-four .ensures)
+returns c =
+    let at-put-four = c .before .before in
+    let at-lay-number = at-put-four .before .before .before .before in
+    laid-next _ _ _ refl (at-lay-number .lay-number .ensures) (at-put-four .put-four .ensures)
 
 pub lay-change-spec : {M : Type 1} → statement M
 lay-change-spec = tie.close (tie.spec lay-number-requires put-four-requires same-length returns)

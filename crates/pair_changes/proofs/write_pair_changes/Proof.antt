@@ -26,11 +26,15 @@ begin c = c .before .before .before .before .before .before .before .before
 
 -- the window lies within the rows
 ready : (c : tie.After-end-of) → Ready (c .before .before .start-of .result) (now (begin c .args .lower-ends)) (now (begin c .args .upper-ends)) (c .before .shift-of .result) (c .end-of .result)
-ready c = ready-of (begin c .pre .0) (has (c .before .before .before)) (c .before .before .start-of .ensures) (c .before .shift-of .ensures) (c .end-of .ensures)
+ready c =
+    let at-start-of = c .before .before in
+    ready-of (begin c .pre .0) (has (c .before .before .before)) (at-start-of .start-of .ensures) (c .before .shift-of .ensures) (c .end-of .ensures)
 
 -- the row at its new end is held
 held : (c : tie.After-end-of) → c .end-of .result .after < c .before .before .start-of .result + begin c .args .head .held
-held c = end-held (begin c .pre .0) (has (c .before .before .before)) (c .before .before .start-of .ensures) (c .before .shift-of .ensures) (c .end-of .ensures)
+held c =
+    let at-start-of = c .before .before in
+    end-held (begin c .pre .0) (has (c .before .before .before)) (at-start-of .start-of .ensures) (c .before .shift-of .ensures) (c .end-of .ensures)
 
 -- what is known of a sound book
 known : (c : tie.After-end-of) → begin c .args .sound ≡ true
@@ -46,8 +50,9 @@ J c = frames (map pairJoin (joining (c .before .before .start-of .result) (now (
 
 both : (c : tie.After-end-of) → pairFrames (begin c .args .head) (now (begin c .args .lower-ends)) (now (begin c .args .upper-ends)) ≡ L c ++ J c
 both c =
-    pair-some (begin c .args .head) (now (begin c .args .lower-ends)) (now (begin c .args .upper-ends)) (has (c .before .before .before)) (c .before .before .start-of .ensures) (c .before .shift-of .ensures) (c .end-of .ensures)
-    ∙ moved-frames (c .before .before .start-of .result) (now (begin c .args .lower-ends)) (now (begin c .args .upper-ends)) (c .before .shift-of .result) (c .end-of .result)
+    let at-start-of = c .before .before in
+    pair-some (begin c .args .head) (now (begin c .args .lower-ends)) (now (begin c .args .upper-ends)) (has (c .before .before .before)) (at-start-of .start-of .ensures) (c .before .shift-of .ensures) (c .end-of .ensures)
+    ∙ moved-frames (at-start-of .start-of .result) (now (begin c .args .lower-ends)) (now (begin c .args .upper-ends)) (c .before .shift-of .result) (c .end-of .result)
 
 room : (c : tie.After-end-of) → length (L c ++ J c) ≤ length (now (begin c .args .out))
 room c = rw (both c) at (begin c .pre .1 .1)
@@ -76,7 +81,9 @@ begun-requires c κs = search needs
 
 returns : tie.Need-returns
 unfolding laid
-returns c = rw (pair-none (c .before .before .before .before .before .args .head) (now (c .before .before .before .before .before .args .lower-ends)) (now (c .before .before .before .before .before .args .upper-ends)) (sym (c .before .begun .ensures) ∙ not-true (c .before .begun .result) (c .if1 .taken))) (refl, refl)
+returns c =
+    let at-start = c .before .before .before .before .before in
+    rw (pair-none (at-start .args .head) (now (at-start .args .lower-ends)) (now (at-start .args .upper-ends)) (sym (c .before .begun .ensures) ∙ not-true (c .before .begun .result) (c .if1 .taken))) (refl, refl)
 
 start-of-requires : tie.Need-start-of-requires
 start-of-requires c κs = search needs
@@ -85,7 +92,9 @@ shift-of-requires : tie.Need-shift-of-requires
 shift-of-requires c κs = search needs
 
 end-of-requires : tie.Need-end-of-requires
-end-of-requires c κs = (c .before .before .before .before .before .before .before .pre .0 .space, begun-low (c .before .before .before .before .before .before .before .pre .0) (has (c .before .before)))
+end-of-requires c κs =
+    let at-start = c .before .before .before .before .before .before .before in
+    (at-start .pre .0 .space, begun-low (at-start .pre .0) (has (c .before .before)))
 
 falls-requires : tie.Need-falls-requires
 falls-requires c κs = let v = ready c in (v .starts, λ moved. omega (arith, v .forth, v .near, v .upper-room))
@@ -95,11 +104,12 @@ dropped-from-requires c κs = let v = ready (c .before) in (omega (arith, v .sta
 
 write-leaves-requires : tie.Need-write-leaves-requires
 write-leaves-requires c κs =
+    let at-falls = c .before .before in
     let e = c .before .before .before in (
       ready e,
       (
         rw (c .before .dropped-from .ensures) (from-unequal _ _ _ _ _ (ready e) (known e) (held e)),
-        (c .before .before .falls .ensures, leaves-room e),
+        (at-falls .falls .ensures, leaves-room e),
       ),
     )
 
@@ -119,15 +129,18 @@ write-joins-requires c κs =
     (ready e, (λ none. gains-none _ _ _ _ _ (ready e) (known e) (held e) (b .before .before .before .falls .ensures) none, front-rest (front b) (J e) (room e)))
 
 add-result : tie.Need-add-result
-add-result c = let b = c .before .before .before .before .before .before in omega (arith, joins-room b, front b .long, begin (window b) .good, c .before .before .write-joins .ensures .0)
+add-result c =
+    let at-write-joins = c .before .before in
+    let b = c .before .before .before .before .before .before in omega (arith, joins-room b, front b .long, begin (window b) .good, at-write-joins .write-joins .ensures .0)
 
 same-length : tie.Need-same-length
 same-length c = search needs
 
 returns-2 : tie.Need-returns-2
 returns-2 c =
+    let at-write-joins = c .before .before in
     let b = c .before .before .before .before .before .before in
-    let v = front-more (front b) (J (window b)) (room (window b)) (c .before .before .write-joins .ensures .0) (c .before .before .write-joins .ensures .1) in
+    let v = front-more (front b) (J (window b)) (room (window b)) (at-write-joins .write-joins .ensures .0) (at-write-joins .write-joins .ensures .1) in
     rw (both (window b)) (v .place, v .cells)
 
 pub write-pair-changes-spec : {M : Type 1} → statement M

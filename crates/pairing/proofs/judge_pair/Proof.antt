@@ -30,10 +30,12 @@ with-test-requires-4 c κs = search needs
 returns : tie.Need-returns
 unfolding watchfulAnswer pairAnswer pairStands
 returns c =
+    let at-with-test3 = c .before .before in
+    let at-with-test2 = at-with-test3 .before in
     let known = c .before .before .before .before .before in
     let sized = tested _ _ _ (known .before .before .judge-watchful .ensures) (known .before .out-of-sizes .ensures) (known .with-test .ensures) refl in
-    let ordered = tested _ _ _ sized refl (c .before .before .before .with-test2 .ensures) refl in
-    let free = tested _ _ _ ordered refl (c .before .before .with-test3 .ensures) refl in
+    let ordered = tested _ _ _ sized refl (at-with-test2 .with-test2 .ensures) refl in
+    let free = tested _ _ _ ordered refl (at-with-test3 .with-test3 .ensures) refl in
     tested _ _ _ free (c .before .short-output .ensures) (c .with-test4 .ensures) refl
 
 pub judge-pair-spec : {M : Type 1} → statement M

@@ -24,7 +24,9 @@ after-watch-requires c κs = search needs
 
 returns-2 : tie.Need-returns-2
 unfolding unpairReply
-returns-2 c = record { reply = accepted-reply (c .before .before .before .judge-unpair .ensures) (c .before .enum-told .given .1) _ (c .after-watch .ensures) refl }
+returns-2 c =
+    let at-judge-unpair = c .before .before .before in
+    record { reply = accepted-reply (at-judge-unpair .judge-unpair .ensures) (c .before .enum-told .given .1) _ (c .after-watch .ensures) refl }
 
 pub unpair-spec : {M : Type 1} → statement M
 unpair-spec = tie.close (tie.spec judge-unpair-requires enum-told enum-told-2 returns after-watch-requires returns-2)

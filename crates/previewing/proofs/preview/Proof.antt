@@ -22,14 +22,17 @@ effect-of-requires : tie.Need-effect-of-requires
 effect-of-requires c κs = search needs
 
 returns : tie.Need-returns
-returns c = let q = quote-refused _ _ _ _ _ (c .before .before .before .judge-row .ensures) (c .before .enum-told2 .given .1) in tells-quote _ _ _ _ _ (c .effect-of .ensures) (q .reply) (q .out)
+returns c =
+    let at-judge-row = c .before .before .before in
+    let q = quote-refused _ _ _ _ _ (at-judge-row .judge-row .ensures) (c .before .enum-told2 .given .1) in tells-quote _ _ _ _ _ (c .effect-of .ensures) (q .reply) (q .out)
 
 slice-aggregate-find : tie.Need-slice-aggregate-find
 slice-aggregate-find c = search needs
 
 find-requires : tie.Need-find-requires
 find-requires c κs =
-    let a = taken _ _ _ _ _ (accepted-number _ (c .before .before .before .judge-row .ensures) (c .before .enum-told .given .1)) .admitted in
+    let at-judge-row = c .before .before .before in
+    let a = taken _ _ _ _ _ (accepted-number _ (at-judge-row .judge-row .ensures) (c .before .enum-told .given .1)) .admitted in
     findable a (omega (arith, bounded-held a))
 
 mul-write : tie.Need-mul-write
@@ -46,10 +49,14 @@ part-write-end c = search needs
 
 write-requires : tie.Need-write-requires
 write-requires c κs =
-    let found = c .before .before .before .before .find in
+    let at-find = c .before .before .before .before in
+    let at-enum-told = at-find .before .before in
+    let at-judge-row = at-enum-told .before .before in
+    let at-good = at-judge-row .before .before .before .before .before .before .before in
+    let found = at-find .find in
     let v : Entering _ _ _ _ _ _ _ = record {
-      accepted = accepted-number _ (c .before .before .before .before .before .before .before .before .judge-row .ensures) (c .before .before .before .before .before .before .enum-told .given .1);
-      eight = omega (arith, c .before .before .before .before .before .before .before .before .before .before .before .before .before .before .before .good);
+      accepted = accepted-number _ (at-judge-row .judge-row .ensures) (at-enum-told .enum-told .given .1);
+      eight = omega (arith, at-good .good);
       finds = found .ensures .1;
     } in
     (writable-in v (omega (arith, found .kept)), any-sound-if (found .ensures .0))
@@ -65,12 +72,17 @@ same-length c = search needs
 
 returns-2 : tie.Need-returns-2
 returns-2 c =
+    let at-write = c .before .before .before .before in
+    let at-find = at-write .before .before .before .before .before in
+    let at-enum-told = at-find .before .before in
+    let at-judge-row = at-enum-told .before .before in
+    let at-good = at-judge-row .before .before .before .before .before .before .before in
     let v : Entering _ _ _ _ _ _ _ = record {
-      accepted = accepted-number _ (c .before .before .before .before .before .before .before .before .before .before .before .before .before .judge-row .ensures) (c .before .before .before .before .before .before .before .before .before .before .before .enum-told .given .1);
-      eight = omega (arith, c .before .before .before .before .before .before .before .before .before .before .before .before .before .before .before .before .before .before .before .before .good);
-      finds = c .before .before .before .before .before .before .before .before .before .find .ensures .1;
+      accepted = accepted-number _ (at-judge-row .judge-row .ensures) (at-enum-told .enum-told .given .1);
+      eight = omega (arith, at-good .good);
+      finds = at-find .find .ensures .1;
     } in
-    let written = c .before .before .before .before .write .ensures in
+    let written = at-write .write .ensures in
     tells-quote _ _ _ _ _ (c .effect-of2 .ensures) (reply-is v (written .0) (c .before .accept .ensures)) (out-is _ v (written .1))
 
 pub preview-spec : {M : Type 1} → statement M

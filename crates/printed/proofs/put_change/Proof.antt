@@ -5,40 +5,57 @@ use Rattle.printed.proofs.put_change.Statement.{statement}
 use Rattle.printed.proofs.put_change.Tie as tie
 
 shared-slice-read-kind : tie.Need-shared-slice-read-kind
-shared-slice-read-kind c = place-inside _ _ (c .before .before .before .pre .0)
+shared-slice-read-kind c =
+    let at-start = c .before .before .before in
+    place-inside _ _ (at-start .pre .0)
 
 letter-of-requires : tie.Need-letter-of-requires
 letter-of-requires c κs = search needs
 
 put-numbers-requires : tie.Need-put-numbers-requires
-put-numbers-requires c κs = let p = c .before .before .before .before .before .before .pre in one-asks _ _ _ (p .0) (p .1) (c .before .if1 .taken)
+put-numbers-requires c κs =
+    let at-start = c .before .before .before .before .before .before in
+    let p = at-start .pre in one-asks _ _ _ (p .0) (p .1) (c .before .if1 .taken)
 
 same-length : tie.Need-same-length
 same-length c = search needs
 
 returns : tie.Need-returns
 returns c =
-    rw (one-line _ _ (c .before .before .before .before .before .letter-of .ensures) (c .before .before .before .before .if1 .taken)) (c .before .before .put-numbers .ensures)
+    let at-put-numbers = c .before .before in
+    let at-if1 = at-put-numbers .before .before in
+    let at-letter-of = at-if1 .before in
+    rw (one-line _ _ (at-letter-of .letter-of .ensures) (at-if1 .if1 .taken)) (at-put-numbers .put-numbers .ensures)
 
 put-numbers-two-requires : tie.Need-put-numbers-two-requires
-put-numbers-two-requires c κs = let p = c .before .before .before .before .before .before .before .pre in two-asks _ _ _ (p .0) (p .1) (c .before .if2 .taken)
+put-numbers-two-requires c κs =
+    let at-start = c .before .before .before .before .before .before .before in
+    let p = at-start .pre in two-asks _ _ _ (p .0) (p .1) (c .before .if2 .taken)
 
 same-length-2 : tie.Need-same-length-2
 same-length-2 c = search needs
 
 returns-2 : tie.Need-returns-2
 returns-2 c =
-    rw (two-line _ _ (c .before .before .before .before .before .before .letter-of .ensures) (c .before .before .before .before .if2 .taken)) (c .before .before .put-numbers-two .ensures)
+    let at-put-numbers-two = c .before .before in
+    let at-if2 = at-put-numbers-two .before .before in
+    let at-letter-of = at-if2 .before .before in
+    rw (two-line _ _ (at-letter-of .letter-of .ensures) (at-if2 .if2 .taken)) (at-put-numbers-two .put-numbers-two .ensures)
 
 put-position-requires : tie.Need-put-position-requires
-put-position-requires c κs = let p = c .before .before .before .before .before .before .before .before .pre in pair-asks _ _ _ (p .0) (p .1) (c .before .if3 .taken)
+put-position-requires c κs =
+    let at-start = c .before .before .before .before .before .before .before .before in
+    let p = at-start .pre in pair-asks _ _ _ (p .0) (p .1) (c .before .if3 .taken)
 
 same-length-3 : tie.Need-same-length-3
 same-length-3 c = search needs
 
 returns-3 : tie.Need-returns-3
 returns-3 c =
-    rw (pair-line _ _ (c .before .before .before .before .before .before .before .letter-of .ensures) (c .before .before .before .before .if3 .taken)) (c .before .before .put-position .ensures)
+    let at-put-position = c .before .before in
+    let at-if3 = at-put-position .before .before in
+    let at-letter-of = at-if3 .before .before .before in
+    rw (pair-line _ _ (at-letter-of .letter-of .ensures) (at-if3 .if3 .taken)) (at-put-position .put-position .ensures)
 
 returns-4 : tie.Need-returns-4
 returns-4 c = nothing-laid _ _ (c .before .before .if1 .left) (c .before .if2 .left) (c .if3 .left) _

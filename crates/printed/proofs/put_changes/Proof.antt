@@ -6,10 +6,14 @@ use Rattle.printed.proofs.put_changes.Statement.{statement}
 use Rattle.printed.proofs.put_changes.Tie as tie
 
 slice-aggregate-put-frames : tie.Need-slice-aggregate-put-frames
-slice-aggregate-put-frames c = sym (length-take-le _ _ (c .before .before .before .pre .0))
+slice-aggregate-put-frames c =
+    let at-start = c .before .before .before in
+    sym (length-take-le _ _ (at-start .pre .0))
 
 put-frames-requires : tie.Need-put-frames-requires
-put-frames-requires c κs = rw (length-take-le _ _ (c .before .before .before .before .pre .0)) (c .before .before .before .before .pre .1)
+put-frames-requires c κs =
+    let at-start = c .before .before .before .before in
+    rw (length-take-le _ _ (at-start .pre .0)) (at-start .pre .1)
 
 same-length : tie.Need-same-length
 same-length c = search needs

@@ -33,16 +33,25 @@ put-change-requires : tie.Need-put-change-requires Inv-loop μ-loop
 put-change-requires c κs = (omega (arith, c .before .before .loop .inv .ahead), simp (length-take, length-drop) (omega (arith, printing-room _ (c .before .before .loop .inv) (omega arith))))
 
 add-at : tie.Need-add-at Inv-loop μ-loop
-add-at c = omega (arith, printing-used _ (c .before .before .before .before .before .loop .inv) (omega arith) (c .before .before .put-change .ensures) refl)
+add-at c =
+    let at-put-change = c .before .before in
+    let at-loop = at-put-change .before .before .before in
+    omega (arith, printing-used _ (at-loop .loop .inv) (omega arith) (at-put-change .put-change .ensures) refl)
 
 frame-end-requires-2 : tie.Need-frame-end-requires-2 Inv-loop μ-loop
 frame-end-requires-2 c κs = search needs
 
 loop-less : tie.Need-loop-less Inv-loop μ-loop
-loop-less c = omega (arith, next-inside _ (c .before .before .before .before .before .before .loop .inv) (omega arith))
+loop-less c =
+    let at-loop = c .before .before .before .before .before .before in
+    omega (arith, next-inside _ (at-loop .loop .inv) (omega arith))
 
 loop-again : tie.Need-loop-again Inv-loop μ-loop
-loop-again c = printing-more _ (c .before .before .before .before .before .before .loop .inv) (c .before .before .before .before .before .loop-test .taken) (c .before .before .before .put-change .ensures) (c .frame-end2 .ensures)
+loop-again c =
+    let at-put-change = c .before .before .before in
+    let at-loop-test = at-put-change .before .before in
+    let at-loop = at-loop-test .before in
+    printing-more _ (at-loop .loop .inv) (at-loop-test .loop-test .taken) (at-put-change .put-change .ensures) (c .frame-end2 .ensures)
 
 same-length : tie.Need-same-length Inv-loop μ-loop
 same-length c = c .before .loop .inv .front .long

@@ -28,7 +28,11 @@ same-length : tie.Need-same-length
 same-length c = search needs
 
 returns : tie.Need-returns
-returns c = rw (← c .before .before .before .before .before .before .two-at .ensures, ← c .before .before .before .before .before .four-at .ensures) (c .before .before .put-line .ensures)
+returns c =
+    let at-put-line = c .before .before in
+    let at-four-at = at-put-line .before .before .before in
+    let at-two-at = at-four-at .before in
+    rw (← at-two-at .two-at .ensures, ← at-four-at .four-at .ensures) (at-put-line .put-line .ensures)
 
 pub put-numbers-spec : {M : Type 1} → statement M
 put-numbers-spec =

@@ -28,7 +28,11 @@ same-length : tie.Need-same-length
 same-length c = search needs
 
 returns : tie.Need-returns
-returns c = rw (← c .before .before .before .before .before .before .two-at .ensures, ← c .before .before .before .before .before .four-at .ensures) (c .before .before .put-line2 .ensures)
+returns c =
+    let at-put-line2 = c .before .before in
+    let at-four-at = at-put-line2 .before .before .before in
+    let at-two-at = at-four-at .before in
+    rw (← at-two-at .two-at .ensures, ← at-four-at .four-at .ensures) (at-put-line2 .put-line2 .ensures)
 
 pub put-numbers-two-spec : {M : Type 1} → statement M
 put-numbers-two-spec =

@@ -19,7 +19,10 @@ same-length : tie.Need-same-length
 same-length c = search needs
 
 returns : tie.Need-returns
-returns c = rw (← c .before .before .before .before .before .four-at .ensures) (c .before .before .put-line2 .ensures)
+returns c =
+    let at-put-line2 = c .before .before in
+    let at-four-at = at-put-line2 .before .before .before in
+    rw (← at-four-at .four-at .ensures) (at-put-line2 .put-line2 .ensures)
 
 pub put-position-spec : {M : Type 1} → statement M
 put-position-spec = tie.close (tie.spec add-four-at four-at-requires slice-aggregate-put-line2 put-line2-requires same-length returns)

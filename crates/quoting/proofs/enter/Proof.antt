@@ -54,10 +54,14 @@ mul-settle-upper-ends : tie.Need-mul-settle-upper-ends
 mul-settle-upper-ends c = let s = c .before .before .before .before .before .before .before .before .before .before .before .before .before .before .before .before .before .before .before .before .before .before .before .before .before .before .before .before .before .before in omega (arith, s .good, s .pre .1 .0 .most)
 
 sub-settle-upper-ends : tie.Need-sub-settle-upper-ends
-sub-settle-upper-ends c = omega (arith, c .before .before .before .before .before .before .before .before .before .before .before .before .before .before .before .before .before .before .before .before .before .before .before .before .before .before .before .before .before .before .pre .1 .0 .most)
+sub-settle-upper-ends c =
+    let at-start = c .before .before .before .before .before .before .before .before .before .before .before .before .before .before .before .before .before .before .before .before .before .before .before .before .before .before .before .before .before .before in
+    omega (arith, at-start .pre .1 .0 .most)
 
 part-settle-upper-ends-start : tie.Need-part-settle-upper-ends-start
-part-settle-upper-ends-start c = omega (arith, c .before .before .before .before .before .before .before .before .before .before .before .before .before .before .before .before .before .before .before .before .before .before .before .before .before .before .before .before .before .before .pre .1 .0 .most)
+part-settle-upper-ends-start c =
+    let at-start = c .before .before .before .before .before .before .before .before .before .before .before .before .before .before .before .before .before .before .before .before .before .before .before .before .before .before .before .before .before .before in
+    omega (arith, at-start .pre .1 .0 .most)
 
 part-settle-upper-ends-end : tie.Need-part-settle-upper-ends-end
 part-settle-upper-ends-end c = search needs
@@ -83,15 +87,22 @@ same-length-4 : tie.Need-same-length-4
 same-length-4 c = search needs
 
 same-length-5 : tie.Need-same-length-5
-same-length-5 c = omega (arith, c .before .before .before .before .before .before .before .before .before .before .before .before .before .before .before .before .before .before .before .before .before .before .before .write .kept)
+same-length-5 c =
+    let at-write = c .before .before .before .before .before .before .before .before .before .before .before .before .before .before .before .before .before .before .before .before .before .before .before in
+    omega (arith, at-write .write .kept)
 
 returns : tie.Need-returns
 returns c =
+    let at-settle-upper-ends = c .before .before .before in
+    let at-settle-lower-ends = at-settle-upper-ends .before .before .before .before .before in
+    let at-settle2 = at-settle-lower-ends .before .before .before .before in
+    let at-settle = at-settle2 .before .before .before .before .before .before in
+    let at-write = at-settle .before .before .before .before .before in
     let s = c .before .before .before .before .before .before .before .before .before .before .before .before .before .before .before .before .before .before .before .before .before .before .before .before .before .before .before .before .before .before .before .before .before .before .before .before in
     let v = entering s in
-    let written = c .before .before .before .before .before .before .before .before .before .before .before .before .before .before .before .before .before .before .before .before .before .before .before .write .ensures in
+    let written = at-write .write .ensures in
     quote-done _ v (written .0) (c .accept .ensures) (written .1)
-    (settled (book v) (s .pre .1 .0) (c .before .before .before .before .before .before .before .before .before .before .before .before .before .before .before .before .before .before .settle .ensures) (c .before .before .before .before .before .before .before .before .before .before .before .before .settle2 .ensures) (c .before .before .before .before .before .before .before .before .settle-lower-ends .ensures) (uppers-settled v (c .before .before .before .settle-upper-ends .ensures)))
+    (settled (book v) (s .pre .1 .0) (at-settle .settle .ensures) (at-settle2 .settle2 .ensures) (at-settle-lower-ends .settle-lower-ends .ensures) (uppers-settled v (at-settle-upper-ends .settle-upper-ends .ensures)))
 
 pub enter-spec : {M : Type 1} → statement M
 enter-spec =

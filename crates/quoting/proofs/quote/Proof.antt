@@ -37,7 +37,9 @@ slice-aggregate-find c = search needs
 
 find-requires : tie.Need-find-requires
 find-requires c κs =
-    let a = taken _ _ _ _ _ (accepted-number _ (c .before .before .before .before .before .judge-row .ensures) (c .before .before .before .enum-told .given .1)) .admitted in
+    let at-enum-told = c .before .before .before in
+    let at-judge-row = at-enum-told .before .before in
+    let a = taken _ _ _ _ _ (accepted-number _ (at-judge-row .judge-row .ensures) (at-enum-told .enum-told .given .1)) .admitted in
     findable a (omega (arith, bounded-held a))
 
 slice-aggregate-enter : tie.Need-slice-aggregate-enter
@@ -45,8 +47,11 @@ slice-aggregate-enter c = search needs
 
 enter-requires : tie.Need-enter-requires
 enter-requires c κs =
-    let accepted = accepted-number _ (c .before .before .before .before .before .before .before .before .before .before .before .before .before .judge-row .ensures) (c .before .before .before .before .before .before .before .before .before .before .before .enum-told .given .1) in
-    let found = c .before .before .before .before .before .before .before .find .ensures in
+    let at-find = c .before .before .before .before .before .before .before in
+    let at-enum-told = at-find .before .before .before .before in
+    let at-judge-row = at-enum-told .before .before in
+    let accepted = accepted-number _ (at-judge-row .judge-row .ensures) (at-enum-told .enum-told .given .1) in
+    let found = at-find .find .ensures in
     (accepted, (found .1, any-sound-if (found .0)))
 
 same-length-5 : tie.Need-same-length-5

@@ -6,7 +6,9 @@ use Rattle.row_starts.proofs.rewind.Statement.{statement}
 use Rattle.row_starts.proofs.rewind.Tie as tie
 
 returns : tie.Need-returns
-returns c = let p = c .before .before .before .before .before .pre in (record { bounded = omega (arith, c .if1 .taken); near = p .1 .0 .near }, λ ws r. r)
+returns c =
+    let at-start = c .before .before .before .before .before in
+    let p = at-start .pre in (record { bounded = omega (arith, c .if1 .taken); near = p .1 .0 .near }, λ ws r. r)
 
 cast-n : tie.Need-cast-n
 cast-n c = search needs
@@ -15,31 +17,49 @@ cast-d : tie.Need-cast-d
 cast-d c = search needs
 
 mul-shift : tie.Need-mul-shift
-mul-shift c = let p = c .before .before .before .before .before .before .before .before .pre in omega (arith, rows-inside (p .0) (p .1 .0) (p .1 .1) (c .before .before .before .if1 .left) .0)
+mul-shift c =
+    let at-if1 = c .before .before .before in
+    let at-start = at-if1 .before .before .before .before .before in
+    let p = at-start .pre in omega (arith, rows-inside (p .0) (p .1 .0) (p .1 .1) (at-if1 .if1 .left) .0)
 
 add-shift : tie.Need-add-shift
-add-shift c = let p = c .before .before .before .before .before .before .before .before .pre in omega (arith, rows-inside (p .0) (p .1 .0) (p .1 .1) (c .before .before .before .if1 .left) .0)
+add-shift c =
+    let at-if1 = c .before .before .before in
+    let at-start = at-if1 .before .before .before .before .before in
+    let p = at-start .pre in omega (arith, rows-inside (p .0) (p .1 .0) (p .1 .1) (at-if1 .if1 .left) .0)
 
 shift-requires : tie.Need-shift-requires
-shift-requires c κs = let p = c .before .before .before .before .before .before .before .before .pre in let i = rows-inside (p .0) (p .1 .0) (p .1 .1) (c .before .before .before .if1 .left) in (omega arith, omega (arith, i .0, p .0 .columns))
+shift-requires c κs =
+    let at-if1 = c .before .before .before in
+    let at-start = at-if1 .before .before .before .before .before in
+    let p = at-start .pre in let i = rows-inside (p .0) (p .1 .0) (p .1 .1) (at-if1 .if1 .left) in (omega arith, omega (arith, i .0, p .0 .columns))
 
 add-shift-2 : tie.Need-add-shift-2
 add-shift-2 c = search needs
 
 shift-requires-2 : tie.Need-shift-requires-2
-shift-requires-2 c κs = let p = c .before .before .before .before .before .before .before .before .before .before .before .before .pre in let i = rows-inside (p .0) (p .1 .0) (p .1 .1) (c .before .before .before .before .before .before .before .if1 .left) in (omega arith, omega (arith, i .1, p .0 .positions))
+shift-requires-2 c κs =
+    let at-if1 = c .before .before .before .before .before .before .before in
+    let at-start = at-if1 .before .before .before .before .before in
+    let p = at-start .pre in let i = rows-inside (p .0) (p .1 .0) (p .1 .1) (at-if1 .if1 .left) in (omega arith, omega (arith, i .1, p .0 .positions))
 
 add-shift-3 : tie.Need-add-shift-3
 add-shift-3 c = search needs
 
 shift-requires-3 : tie.Need-shift-requires-3
-shift-requires-3 c κs = let p = c .before .before .before .before .before .before .before .before .before .before .before .before .before .before .before .before .pre in let i = rows-inside (p .0) (p .1 .0) (p .1 .1) (c .before .before .before .before .before .before .before .before .before .before .before .if1 .left) in (omega arith, omega (arith, i .1, p .0 .lowerEnds))
+shift-requires-3 c κs =
+    let at-if1 = c .before .before .before .before .before .before .before .before .before .before .before in
+    let at-start = at-if1 .before .before .before .before .before in
+    let p = at-start .pre in let i = rows-inside (p .0) (p .1 .0) (p .1 .1) (at-if1 .if1 .left) in (omega arith, omega (arith, i .1, p .0 .lowerEnds))
 
 add-shift-4 : tie.Need-add-shift-4
 add-shift-4 c = search needs
 
 shift-requires-4 : tie.Need-shift-requires-4
-shift-requires-4 c κs = let p = c .before .before .before .before .before .before .before .before .before .before .before .before .before .before .before .before .before .before .before .before .pre in let i = rows-inside (p .0) (p .1 .0) (p .1 .1) (c .before .before .before .before .before .before .before .before .before .before .before .before .before .before .before .if1 .left) in (omega arith, omega (arith, i .1, p .0 .upperEnds))
+shift-requires-4 c κs =
+    let at-if1 = c .before .before .before .before .before .before .before .before .before .before .before .before .before .before .before in
+    let at-start = at-if1 .before .before .before .before .before in
+    let p = at-start .pre in let i = rows-inside (p .0) (p .1 .0) (p .1 .1) (at-if1 .if1 .left) in (omega arith, omega (arith, i .1, p .0 .upperEnds))
 
 same-length : tie.Need-same-length
 same-length c = search needs
@@ -55,9 +75,15 @@ same-length-4 c = search needs
 
 returns-2 : tie.Need-returns-2
 returns-2 c =
-    let p = c .before .before .before .before .before .before .before .before .before .before .before .before .before .before .before .before .before .before .before .before .before .before .before .pre in (
+    let at-shift4 = c .before .before in
+    let at-shift3 = at-shift4 .before .before .before .before in
+    let at-shift2 = at-shift3 .before .before .before .before in
+    let at-shift = at-shift2 .before .before .before .before in
+    let at-if1 = at-shift .before .before .before .before in
+    let at-start = at-if1 .before .before .before .before .before in
+    let p = at-start .pre in (
       record { bounded = omega arith; near = omega arith },
-      rewound (p .0) (p .1 .0) (p .1 .1) (c .before .before .before .before .before .before .before .before .before .before .before .before .before .before .before .before .before .before .if1 .left) (c .before .before .before .before .before .before .before .before .before .before .before .before .before .before .shift .ensures) (c .before .before .before .before .before .before .before .before .before .before .shift2 .ensures) (c .before .before .before .before .before .before .shift3 .ensures) (c .before .before .shift4 .ensures),
+      rewound (p .0) (p .1 .0) (p .1 .1) (at-if1 .if1 .left) (at-shift .shift .ensures) (at-shift2 .shift2 .ensures) (at-shift3 .shift3 .ensures) (at-shift4 .shift4 .ensures),
     )
 
 pub rewind-spec : {M : Type 1} → statement M

@@ -15,7 +15,9 @@ mul-t6 : tie.Need-mul-t6
 mul-t6 c = omega (arith, bounded-cells (c .before .before .args .head .dimensions) (c .before .before .pre .1), c .before .before .good, c .before .before .fits)
 
 add-t7 : tie.Need-add-t7
-add-t7 c = omega (arith, bounded-cells (c .before .before .before .args .head .dimensions) (c .before .before .before .pre .1), c .before .before .before .pre .0 .bounded, c .before .before .before .pre .0 .near, c .before .before .before .good, c .before .before .before .fits)
+add-t7 c =
+    let at-start = c .before .before .before in
+    omega (arith, bounded-cells (at-start .args .head .dimensions) (at-start .pre .1), at-start .pre .0 .bounded, at-start .pre .0 .near, at-start .good, at-start .fits)
 
 returns : tie.Need-returns
 returns c = search needs

@@ -45,7 +45,10 @@ chosen-requires : tie.Need-chosen-requires Inv-loop μ-loop
 chosen-requires c κs = search needs
 
 add-live : tie.Need-add-live Inv-loop μ-loop
-add-live c = omega (arith, live-fits (c .before .before .before .before .before .loop .inv) (c .before .before .before .before .loop-test .taken) (c .chosen .ensures))
+add-live c =
+    let at-loop-test = c .before .before .before .before in
+    let at-loop = at-loop-test .before in
+    omega (arith, live-fits (at-loop .loop .inv) (at-loop-test .loop-test .taken) (c .chosen .ensures))
 
 add-position : tie.Need-add-position Inv-loop μ-loop
 add-position c = search needs
@@ -57,7 +60,10 @@ loop-less : tie.Need-loop-less Inv-loop μ-loop
 loop-less c = search needs
 
 loop-again : tie.Need-loop-again Inv-loop μ-loop
-loop-again c = more (c .before .before .before .before .before .loop .inv) (c .before .before .before .before .loop-test .taken) _ _ _ _ refl refl refl (c .chosen .ensures)
+loop-again c =
+    let at-loop-test = c .before .before .before .before in
+    let at-loop = at-loop-test .before in
+    more (at-loop .loop .inv) (at-loop-test .loop-test .taken) _ _ _ _ refl refl refl (c .chosen .ensures)
 
 returns : tie.Need-returns Inv-loop μ-loop
 returns c = finish (c .before .before .loop .inv) (c .before .loop-test .left) _

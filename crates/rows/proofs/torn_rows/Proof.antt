@@ -22,20 +22,24 @@ window-start-requires c κs = search needs
 
 cast-first : tie.Need-cast-first
 cast-first c =
+    let at-torn-head = c .before .before in
     let entry = c .before .before .before .before .before .before in
-    let likely = head-likely _ (sym (c .before .before .torn-head .ensures) ∙ c .before .if1 .left) in
+    let likely = head-likely _ (sym (at-torn-head .torn-head .ensures) ∙ c .before .if1 .left) in
     omega (arith, c .window-start .ensures, likely-fits _ (entry .pre .0) likely)
 
 in-places-requires : tie.Need-in-places-requires
 in-places-requires c κs =
+    let at-torn-head = c .before .before in
     let entry = c .before .before .before .before .before .before in
-    let likely = head-likely _ (sym (c .before .before .torn-head .ensures) ∙ c .before .if1 .left) in
+    let likely = head-likely _ (sym (at-torn-head .torn-head .ensures) ∙ c .before .if1 .left) in
     omega (arith, c .window-start .ensures, likely .fills, likely-fits _ (entry .pre .0) likely)
 
 returns-2 : tie.Need-returns-2
 returns-2 c =
+    let at-if1 = c .before .before in
+    let at-torn-head = at-if1 .before in
     let entry = c .before .before .before .before .before .before .before in
-    by-places _ _ _ _ _ _ (entry .pre .0) (sym (c .before .before .before .torn-head .ensures) ∙ c .before .before .if1 .left) (c .before .window-start .ensures) (c .in-places .ensures)
+    by-places _ _ _ _ _ _ (entry .pre .0) (sym (at-torn-head .torn-head .ensures) ∙ at-if1 .if1 .left) (c .before .window-start .ensures) (c .in-places .ensures)
 
 pub torn-rows-spec : {M : Type 1} → statement M
 torn-rows-spec =

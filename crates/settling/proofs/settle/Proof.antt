@@ -13,17 +13,24 @@ cast-capacity : tie.Need-cast-capacity
 cast-capacity c = search needs
 
 mul-enter : tie.Need-mul-enter
-mul-enter c = omega (arith, sizes (c .before .before .before .before .before .pre .0))
+mul-enter c =
+    let at-start = c .before .before .before .before .before in
+    omega (arith, sizes (at-start .pre .0))
 
 mul-enter-2 : tie.Need-mul-enter-2
-mul-enter-2 c = omega (arith, sizes (c .before .before .before .before .before .pre .0))
+mul-enter-2 c =
+    let at-start = c .before .before .before .before .before in
+    omega (arith, sizes (at-start .pre .0))
 
 mul-enter-3 : tie.Need-mul-enter-3
-mul-enter-3 c = omega (arith, sizes (c .before .before .before .before .before .pre .0))
+mul-enter-3 c =
+    let at-start = c .before .before .before .before .before in
+    omega (arith, sizes (at-start .pre .0))
 
 enter-requires : tie.Need-enter-requires
 enter-requires c κs =
-    let p = c .before .before .before .before .before .pre in
+    let at-start = c .before .before .before .before .before in
+    let p = at-start .pre in
     let z = sizes (p .0) in
     (z .0, (z .1, (row-fits (p .0) (p .1), p .0 .long)))
 

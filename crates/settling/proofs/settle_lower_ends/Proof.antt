@@ -9,19 +9,28 @@ cast-rename : tie.Need-cast-rename
 cast-rename c = search needs
 
 rename-requires : tie.Need-rename-requires
-rename-requires c κs = named-within (c .before .before .before .pre) (any-unnamed (c .before .before .before .args .found .gone) _ _) refl
+rename-requires c κs =
+    let at-start = c .before .before .before in
+    named-within (at-start .pre) (any-unnamed (at-start .args .found .gone) _ _) refl
 
 slice-aggregate-settle : tie.Need-slice-aggregate-settle
 slice-aggregate-settle c = search needs
 
 settle-requires : tie.Need-settle-requires
-settle-requires c κs = (ready-same (c .before .before .before .before .before .before .before .before .pre) (c .before .before .before .before .rename .kept .0), refl)
+settle-requires c κs =
+    let at-rename = c .before .before .before .before in
+    let at-start = at-rename .before .before .before .before in
+    (ready-same (at-start .pre) (at-rename .rename .kept .0), refl)
 
 same-length : tie.Need-same-length
 same-length c = search needs
 
 returns : tie.Need-returns
-returns c = let moved = c .before .before .before .before .before .before .before .rename in lowers-put (c .before .before .before .before .before .before .before .before .before .before .before .pre) (any-unnamed _ _ _) (moved .ensures) _ (moved .kept .0) (c .before .before .settle .ensures)
+returns c =
+    let at-settle = c .before .before in
+    let at-rename = at-settle .before .before .before .before .before in
+    let at-start = at-rename .before .before .before .before in
+    let moved = at-rename .rename in lowers-put (at-start .pre) (any-unnamed _ _ _) (moved .ensures) _ (moved .kept .0) (at-settle .settle .ensures)
 
 pub settle-lower-ends-spec : {M : Type 1} → statement M
 settle-lower-ends-spec =

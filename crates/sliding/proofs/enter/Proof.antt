@@ -51,16 +51,22 @@ lay-behind-requires-2 : tie.Need-lay-behind-requires-2
 lay-behind-requires-2 c κs = let s = c .before .before .before .before .before .before .before .before .before .before .before .before .before .before .before .before .before .before .before .before .before .before .before .before .before in one-room (entering s) (s .pre .0) (s .pre .1 .0) (s .pre .1 .0 .positions)
 
 lay-lower-end-requires : tie.Need-lay-lower-end-requires
-lay-lower-end-requires c κs = let s = c .before .before .before .before .before .before .before .before .before .before .before .before .before .before .before .before .before .before .before .before .before .before .before .before .before .before .before .before .before in (cell-room (entering s) (s .pre .0) (s .pre .1 .0) (s .pre .1 .0 .lowerEnds), rw (c .before .before .before .before .before .before .before .before .before .before .before .before .named-before .ensures) (named-bounded (entering s) (s .pre .0) (s .pre .1 .0)))
+lay-lower-end-requires c κs =
+    let at-named-before = c .before .before .before .before .before .before .before .before .before .before .before .before in
+    let s = c .before .before .before .before .before .before .before .before .before .before .before .before .before .before .before .before .before .before .before .before .before .before .before .before .before .before .before .before .before in (cell-room (entering s) (s .pre .0) (s .pre .1 .0) (s .pre .1 .0 .lowerEnds), rw (at-named-before .named-before .ensures) (named-bounded (entering s) (s .pre .0) (s .pre .1 .0)))
 
 mul-lay-upper-end : tie.Need-mul-lay-upper-end
 mul-lay-upper-end c = let s = c .before .before .before .before .before .before .before .before .before .before .before .before .before .before .before .before .before .before .before .before .before .before .before .before .before .before .before .before .before .before .before .before in omega (arith, s .good, s .pre .1 .1 .1 .most)
 
 sub-lay-upper-end : tie.Need-sub-lay-upper-end
-sub-lay-upper-end c = omega (arith, c .before .before .before .before .before .before .before .before .before .before .before .before .before .before .before .before .before .before .before .before .before .before .before .before .before .before .before .before .before .before .before .before .pre .1 .1 .1 .most)
+sub-lay-upper-end c =
+    let at-start = c .before .before .before .before .before .before .before .before .before .before .before .before .before .before .before .before .before .before .before .before .before .before .before .before .before .before .before .before .before .before .before .before in
+    omega (arith, at-start .pre .1 .1 .1 .most)
 
 part-lay-upper-end-start : tie.Need-part-lay-upper-end-start
-part-lay-upper-end-start c = omega (arith, c .before .before .before .before .before .before .before .before .before .before .before .before .before .before .before .before .before .before .before .before .before .before .before .before .before .before .before .before .before .before .before .before .pre .1 .1 .1 .most)
+part-lay-upper-end-start c =
+    let at-start = c .before .before .before .before .before .before .before .before .before .before .before .before .before .before .before .before .before .before .before .before .before .before .before .before .before .before .before .before .before .before .before .before in
+    omega (arith, at-start .pre .1 .1 .1 .most)
 
 part-lay-upper-end-end : tie.Need-part-lay-upper-end-end
 part-lay-upper-end-end c = search needs
@@ -84,14 +90,22 @@ same-length-4 : tie.Need-same-length-4
 same-length-4 c = search needs
 
 same-length-5 : tie.Need-same-length-5
-same-length-5 c = omega (arith, c .before .before .before .before .before .before .before .before .before .before .before .before .before .before .before .before .before .before .before .before .before .before .before .before .before .write .kept)
+same-length-5 c =
+    let at-write = c .before .before .before .before .before .before .before .before .before .before .before .before .before .before .before .before .before .before .before .before .before .before .before .before .before in
+    omega (arith, at-write .write .kept)
 
 returns : tie.Need-returns
 returns c =
+    let at-lay-upper-end = c .before .before .before in
+    let at-lay-lower-end = at-lay-upper-end .before .before .before .before .before in
+    let at-lay-behind2 = at-lay-lower-end .before .before .before .before in
+    let at-lay-behind = at-lay-behind2 .before .before .before .before .before .before in
+    let at-named-before = at-lay-behind .before .before .before in
+    let at-write = at-named-before .before .before .before .before in
     let s = c .before .before .before .before .before .before .before .before .before .before .before .before .before .before .before .before .before .before .before .before .before .before .before .before .before .before .before .before .before .before .before .before .before .before .before .before .before .before in
-    let written = c .before .before .before .before .before .before .before .before .before .before .before .before .before .before .before .before .before .before .before .before .before .before .before .before .before .write .ensures in
-    slide-done _ (entering s) (s .pre .0) (s .pre .1 .0) (written .0) (c .accept .ensures) (written .1) (c .before .before .before .before .before .before .before .before .before .before .before .before .before .before .before .before .before .before .lay-behind .ensures) (c .before .before .before .before .before .before .before .before .before .before .before .before .lay-behind2 .ensures)
-    (rw (c .before .before .before .before .before .before .before .before .before .before .before .before .before .before .before .before .before .before .before .before .before .named-before .ensures) at (c .before .before .before .before .before .before .before .before .lay-lower-end .ensures)) (c .before .before .before .lay-upper-end .ensures)
+    let written = at-write .write .ensures in
+    slide-done _ (entering s) (s .pre .0) (s .pre .1 .0) (written .0) (c .accept .ensures) (written .1) (at-lay-behind .lay-behind .ensures) (at-lay-behind2 .lay-behind2 .ensures)
+    (rw (at-named-before .named-before .ensures) at (at-lay-lower-end .lay-lower-end .ensures)) (at-lay-upper-end .lay-upper-end .ensures)
 
 pub enter-spec : {M : Type 1} → statement M
 enter-spec =

@@ -18,7 +18,10 @@ same-length c = search needs
 
 returns : tie.Need-returns
 unfolding lowersLaid
-returns c = rw (c .before .before .before .before .before .before .before .rename .ensures) at (c .before .before .lay-behind .ensures)
+returns c =
+    let at-lay-behind = c .before .before in
+    let at-rename = at-lay-behind .before .before .before .before .before in
+    rw (at-rename .rename .ensures) at (at-lay-behind .lay-behind .ensures)
 
 pub lay-lower-end-spec : {M : Type 1} → statement M
 lay-lower-end-spec =

@@ -9,7 +9,9 @@ add-store-at : tie.Need-add-store-at
 add-store-at c = search needs
 
 store-at-requires : tie.Need-store-at-requires
-store-at-requires c κs = let p = c .before .before .before .before .pre in record { low = λ k l. omega (arith, p .0, p .1 .1 .low k l) }
+store-at-requires c κs =
+    let at-start = c .before .before .before .before in
+    let p = at-start .pre in record { low = λ k l. omega (arith, p .0, p .1 .1 .low k l) }
 
 slice-aggregate-lay-behind : tie.Need-slice-aggregate-lay-behind
 slice-aggregate-lay-behind c = search needs
@@ -22,7 +24,10 @@ same-length c = search needs
 
 returns : tie.Need-returns
 unfolding uppersLaid
-returns c = rw (c .before .before .before .before .before .before .before .store-at .ensures) at (c .before .before .lay-behind .ensures)
+returns c =
+    let at-lay-behind = c .before .before in
+    let at-store-at = at-lay-behind .before .before .before .before .before in
+    rw (at-store-at .store-at .ensures) at (at-lay-behind .lay-behind .ensures)
 
 pub lay-upper-end-spec : {M : Type 1} → statement M
 lay-upper-end-spec =

@@ -21,15 +21,21 @@ enum-told-2 : tie.Need-enum-told-2
 enum-told-2 c = search needs
 
 returns : tie.Need-returns
-returns c = slide-refused _ _ _ _ _ (reached-answers _ _ (c .before .before .before .before .before .before .before .before .before .pre .0) (c .before .before .judge-reached .ensures)) (c .enum-told2 .given .1)
+returns c =
+    let at-judge-reached = c .before .before in
+    let at-start = at-judge-reached .before .before .before .before .before .before .before in
+    slide-refused _ _ _ _ _ (reached-answers _ _ (at-start .pre .0) (at-judge-reached .judge-reached .ensures)) (c .enum-told2 .given .1)
 
 slice-aggregate-find-reached : tie.Need-slice-aggregate-find-reached
 slice-aggregate-find-reached c = search needs
 
 find-reached-requires : tie.Need-find-reached-requires
 find-reached-requires c κs =
-    let reached = c .before .before .before .before .before .before .before .before .before .before .before .before .pre .0 in
-    let a = taken _ _ _ _ _ (accepted-number _ (reached-answers _ _ reached (c .before .before .before .before .before .judge-reached .ensures)) (c .before .before .before .enum-told .given .1)) .admitted in
+    let at-enum-told = c .before .before .before in
+    let at-judge-reached = at-enum-told .before .before in
+    let at-start = at-judge-reached .before .before .before .before .before .before .before in
+    let reached = at-start .pre .0 in
+    let a = taken _ _ _ _ _ (accepted-number _ (reached-answers _ _ reached (at-judge-reached .judge-reached .ensures)) (at-enum-told .enum-told .given .1)) .admitted in
     (findable a (omega (arith, bounded-held a)), reached-sound _ reached (within a .some-capacity))
 
 slice-aggregate-enter : tie.Need-slice-aggregate-enter
@@ -37,9 +43,13 @@ slice-aggregate-enter c = search needs
 
 enter-requires : tie.Need-enter-requires
 enter-requires c κs =
-    let p = c .before .before .before .before .before .before .before .before .before .before .before .before .before .before .before .before .before .before .before .before .pre in
-    let accepted = accepted-number _ (reached-answers _ _ (p .0) (c .before .before .before .before .before .before .before .before .before .before .before .before .before .judge-reached .ensures)) (c .before .before .before .before .before .before .before .before .before .before .before .enum-told .given .1) in
-    let found = c .before .before .before .before .before .before .before .find-reached .ensures in
+    let at-find-reached = c .before .before .before .before .before .before .before in
+    let at-enum-told = at-find-reached .before .before .before .before in
+    let at-judge-reached = at-enum-told .before .before in
+    let at-start = at-judge-reached .before .before .before .before .before .before .before in
+    let p = at-start .pre in
+    let accepted = accepted-number _ (reached-answers _ _ (p .0) (at-judge-reached .judge-reached .ensures)) (at-enum-told .enum-told .given .1) in
+    let found = at-find-reached .find-reached .ensures in
     (p .0, (p .1, (accepted, found .1)))
 
 same-length : tie.Need-same-length

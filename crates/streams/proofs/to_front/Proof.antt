@@ -21,10 +21,16 @@ add-buffer : tie.Need-add-buffer Inv-loop μ-loop
 add-buffer c = omega (arith, c .before .before .pre)
 
 slice-read-buffer : tie.Need-slice-read-buffer Inv-loop μ-loop
-slice-read-buffer c = omega (arith, c .before .before .before .pre, c .before .before .loop .inv .long)
+slice-read-buffer c =
+    let at-loop = c .before .before in
+    let at-start = at-loop .before in
+    omega (arith, at-start .pre, at-loop .loop .inv .long)
 
 slice-write-buffer : tie.Need-slice-write-buffer Inv-loop μ-loop
-slice-write-buffer c = omega (arith, c .before .before .before .pre, c .before .before .loop .inv .long)
+slice-write-buffer c =
+    let at-loop = c .before .before in
+    let at-start = at-loop .before in
+    omega (arith, at-start .pre, at-loop .loop .inv .long)
 
 add-i : tie.Need-add-i Inv-loop μ-loop
 add-i c = omega arith

@@ -17,7 +17,8 @@ abbrev μ-loop : tie.MeasureT-loop
 
 loop-holds : tie.Need-loop-holds Inv-loop μ-loop
 loop-holds c =
-    let p = c .before .before .before .before .before .before .pre in
+    let at-start = c .before .before .before .before .before .before in
+    let p = at-start .pre in
     record {
       columns = refl;
       positions = refl;
@@ -33,18 +34,27 @@ plays-requires c κs = fits-as (c .loop .inv .text-long) (c .loop .inv .played .
 
 play-frame-requires : tie.Need-play-frame-requires Inv-loop μ-loop
 play-frame-requires c κs =
-    let i = c .before .before .before .before .before .before .before .before .loop .inv in
-    let room = lines-room (c .before .before .before .before .before .before .before .plays .ensures) (c .before .before .before .before .before .before .if1 .taken) in
+    let at-if1 = c .before .before .before .before .before .before in
+    let at-plays = at-if1 .before in
+    let at-loop = at-plays .before in
+    let i = at-loop .loop .inv in
+    let room = lines-room (at-plays .plays .ensures) (at-if1 .if1 .taken) in
     ((omega (arith, room, i .played .fits, i .text-long), i .played .inside), (i .tables-long, (i .played .starts, i .played .reached)))
 
 rewind-requires : tie.Need-rewind-requires Inv-loop μ-loop
 rewind-requires c κs =
-    let i = c .before .before .before .before .before .before .before .before .before .before .before .before .before .before .before .before .before .before .before .before .before .before .before .before .before .loop .inv in
-    let made = c .before .before .before .before .before .before .before .before .before .before .before .before .before .before .before .before .play-frame in
+    let at-play-frame = c .before .before .before .before .before .before .before .before .before .before .before .before .before .before .before .before in
+    let at-loop = at-play-frame .before .before .before .before .before .before .before .before .before in
+    let i = at-loop .loop .inv in
+    let made = at-play-frame .play-frame in
     (long-same (made .kept .1 .1 .0) (made .kept .1 .1 .1 .0) (made .kept .1 .1 .1 .1 .0) (made .kept .1 .1 .1 .1 .1 .0) (i .tables-long), (made .ensures .starts, made .ensures .opened))
 
 loop-less : tie.Need-loop-less Inv-loop μ-loop
-loop-less c = less-left (c .before .before .before .before .before .before .before .before .before .before .before .before .before .before .before .before .before .before .before .before .before .before .before .before .before .play-frame .ensures .advanced) (c .before .before .before .before .before .before .before .before .before .before .before .before .before .before .before .before .before .before .before .before .before .before .before .before .before .before .before .before .before .before .before .before .before .plays .ensures) (c .before .before .before .before .before .before .before .before .before .before .before .before .before .before .before .before .before .before .before .before .before .before .before .before .before .before .before .before .before .before .before .before .if1 .taken)
+loop-less c =
+    let at-play-frame = c .before .before .before .before .before .before .before .before .before .before .before .before .before .before .before .before .before .before .before .before .before .before .before .before .before in
+    let at-if1 = at-play-frame .before .before .before .before .before .before .before in
+    let at-plays = at-if1 .before in
+    less-left (at-play-frame .play-frame .ensures .advanced) (at-plays .plays .ensures) (at-if1 .if1 .taken)
 
 loop-again : tie.Need-loop-again Inv-loop μ-loop
 loop-again c =

@@ -14,13 +14,18 @@ returns-2 : tie.Need-returns-2
 returns-2 c = no-room (c .before .before .if1 .left) (c .if2 .taken)
 
 returns-3 : tie.Need-returns-3
-returns-3 c = some-room (c .before .before .before .if1 .left) (c .before .if2 .left) (rw (c .if3 .taken))
+returns-3 c =
+    let at-if1 = c .before .before .before in
+    some-room (at-if1 .if1 .left) (c .before .if2 .left) (rw (c .if3 .taken))
 
 ready-requires : tie.Need-ready-requires
 ready-requires c κs = search needs
 
 returns-4 : tie.Need-returns-4
-returns-4 c = some-room (c .before .before .before .before .if1 .left) (c .before .before .if2 .left) (rw (c .before .if3 .left) (c .ready .ensures))
+returns-4 c =
+    let at-if2 = c .before .before in
+    let at-if1 = at-if2 .before .before in
+    some-room (at-if1 .if1 .left) (at-if2 .if2 .left) (rw (c .before .if3 .left) (c .ready .ensures))
 
 pub plays-spec : {M : Type 1} → statement M
 plays-spec = tie.close (tie.spec returns sub-if2 returns-2 returns-3 ready-requires returns-4)

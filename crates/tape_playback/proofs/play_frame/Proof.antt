@@ -68,15 +68,23 @@ part-play-sliding-end-5 : tie.Need-part-play-sliding-end-5
 part-play-sliding-end-5 c = search needs
 
 play-sliding-requires : tie.Need-play-sliding-requires
-play-sliding-requires c κs = let p = c .before .before .before .before .before .before .before .before .before .before .before .before .before .before .before .pre in (simp (length-take, length-drop) (omega (arith, p .0 .0)), (parts-reached _ _ (p .1 .1 .1), parts-roomy _ _ (p .1 .0) (p .1 .1 .0)))
+play-sliding-requires c κs =
+    let at-start = c .before .before .before .before .before .before .before .before .before .before .before .before .before .before .before in
+    let p = at-start .pre in (simp (length-take, length-drop) (omega (arith, p .0 .0)), (parts-reached _ _ (p .1 .1 .1), parts-roomy _ _ (p .1 .0) (p .1 .1 .0)))
 
 slid-requires : tie.Need-slid-requires
-slid-requires c κs = (c .before .before .before .before .before .before .before .before .before .before .before .before .before .before .before .before .before .before .before .before .before .before .before .before .before .before .before .before .before .pre .1 .1 .0, left-bounded (c .before .before .before .before .before .before .before .before .before .before .before .before .before .play-sliding .ensures))
+slid-requires c κs =
+    let at-play-sliding = c .before .before .before .before .before .before .before .before .before .before .before .before .before in
+    let at-start = at-play-sliding .before .before .before .before .before .before .before .before .before .before .before .before .before .before .before .before in
+    (at-start .pre .1 .1 .0, left-bounded (at-play-sliding .play-sliding .ensures))
 
 add-now : tie.Need-add-now
 add-now c =
-    let made = c .before .before .before .before .before .before .before .before .before .before .before .before .before .before .before .play-sliding in
-    omega (arith, stepped-fits (made .ensures .stepped) (made .kept .1 .1 .1 .1 .1 .1 .1 .1 .1 .0), c .before .before .before .before .before .before .before .before .before .before .before .before .before .before .before .before .play-sliding-arg6 .given, c .before .before .before .before .before .before .before .before .before .before .before .before .before .before .before .before .before .before .before .before .before .before .before .before .before .before .before .before .before .before .before .pre .0 .0, c .before .before .before .before .before .before .before .before .before .before .before .before .before .before .before .before .before .before .before .before .before .before .before .before .before .before .before .before .before .before .before .good)
+    let at-play-sliding = c .before .before .before .before .before .before .before .before .before .before .before .before .before .before .before in
+    let at-play-sliding-arg6 = at-play-sliding .before in
+    let at-start = at-play-sliding-arg6 .before .before .before .before .before .before .before .before .before .before .before .before .before .before .before in
+    let made = at-play-sliding .play-sliding in
+    omega (arith, stepped-fits (made .ensures .stepped) (made .kept .1 .1 .1 .1 .1 .1 .1 .1 .1 .0), at-play-sliding-arg6 .play-sliding-arg6 .given, at-start .pre .0 .0, at-start .good)
 
 same-length : tie.Need-same-length
 same-length c = search needs
@@ -95,12 +103,15 @@ same-length-5 c = search needs
 
 returns : tie.Need-returns
 returns c =
-    let made = c .before .before .before .before .before .before .before .before .before .before .before .before .before .before .before .play-sliding in
-    let p = c .before .before .before .before .before .before .before .before .before .before .before .before .before .before .before .before .before .before .before .before .before .before .before .before .before .before .before .before .before .before .before .pre in
+    let at-play-sliding = c .before .before .before .before .before .before .before .before .before .before .before .before .before .before .before in
+    let at-play-sliding-arg6 = at-play-sliding .before in
+    let at-start = at-play-sliding-arg6 .before .before .before .before .before .before .before .before .before .before .before .before .before .before .before in
+    let made = at-play-sliding .play-sliding in
+    let p = at-start .pre in
     let begins = c .before .slid .ensures in
     record {
       advanced = stepped-on (made .ensures .stepped) (p .0 .1);
-      fits = omega (arith, stepped-fits (made .ensures .stepped) (made .kept .1 .1 .1 .1 .1 .1 .1 .1 .1 .0), c .before .before .before .before .before .before .before .before .before .before .before .before .before .before .before .before .play-sliding-arg6 .given, p .0 .0);
+      fits = omega (arith, stepped-fits (made .ensures .stepped) (made .kept .1 .1 .1 .1 .1 .1 .1 .1 .1 .0), at-play-sliding-arg6 .play-sliding-arg6 .given, p .0 .0);
       same = refl;
       starts = start-within (made .ensures) (p .1 .1 .0) begins;
       opened = start-opened (made .ensures) (p .1 .1 .0) begins;

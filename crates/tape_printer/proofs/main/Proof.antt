@@ -39,16 +39,24 @@ sub-turns : tie.Need-sub-turns Inv-loop μ-loop
 sub-turns c = search needs
 
 slice-aggregate-flush : tie.Need-slice-aggregate-flush Inv-loop μ-loop
-slice-aggregate-flush c = sym (c .before .before .before .before .loop .inv .text-long)
+slice-aggregate-flush c =
+    let at-loop = c .before .before .before .before in
+    sym (at-loop .loop .inv .text-long)
 
 flush-requires : tie.Need-flush-requires Inv-loop μ-loop
-flush-requires c κs = c .before .before .before .before .loop .inv .fits
+flush-requires c κs =
+    let at-loop = c .before .before .before .before in
+    at-loop .loop .inv .fits
 
 slice-aggregate-refill : tie.Need-slice-aggregate-refill Inv-loop μ-loop
-slice-aggregate-refill c = sym (c .before .before .before .before .before .before .loop .inv .tape-long)
+slice-aggregate-refill c =
+    let at-loop = c .before .before .before .before .before .before in
+    sym (at-loop .loop .inv .tape-long)
 
 refill-requires : tie.Need-refill-requires Inv-loop μ-loop
-refill-requires c κs = let i = c .before .before .before .before .before .before .loop .inv in let f = c .before .flush .ensures in (omega (arith, f .1, f .2, i .inside), omega (arith, f .2, i .come))
+refill-requires c κs =
+    let at-loop = c .before .before .before .before .before .before in
+    let i = at-loop .loop .inv in let f = c .before .flush .ensures in (omega (arith, f .1, f .2, i .inside), omega (arith, f .2, i .come))
 
 array-share-prefix-tape : tie.Need-array-share-prefix-tape Inv-loop μ-loop
 array-share-prefix-tape c = omega (arith, c .before .refill .ensures .2, c .before .refill .kept .1 .0)
@@ -57,37 +65,55 @@ slice-aggregate-play-piece : tie.Need-slice-aggregate-play-piece Inv-loop μ-loo
 slice-aggregate-play-piece c = simp length-take (omega (arith, c .before .before .refill .ensures .2, c .before .before .refill .kept .1 .0))
 
 slice-aggregate-play-piece-2 : tie.Need-slice-aggregate-play-piece-2 Inv-loop μ-loop
-slice-aggregate-play-piece-2 c = sym (c .before .before .before .before .before .before .before .before .before .before .loop .inv .columns)
+slice-aggregate-play-piece-2 c =
+    let at-loop = c .before .before .before .before .before .before .before .before .before .before in
+    sym (at-loop .loop .inv .columns)
 
 slice-aggregate-play-piece-3 : tie.Need-slice-aggregate-play-piece-3 Inv-loop μ-loop
-slice-aggregate-play-piece-3 c = sym (c .before .before .before .before .before .before .before .before .before .before .before .loop .inv .positions)
+slice-aggregate-play-piece-3 c =
+    let at-loop = c .before .before .before .before .before .before .before .before .before .before .before in
+    sym (at-loop .loop .inv .positions)
 
 slice-aggregate-play-piece-4 : tie.Need-slice-aggregate-play-piece-4 Inv-loop μ-loop
-slice-aggregate-play-piece-4 c = sym (c .before .before .before .before .before .before .before .before .before .before .before .before .loop .inv .lowerEnds)
+slice-aggregate-play-piece-4 c =
+    let at-loop = c .before .before .before .before .before .before .before .before .before .before .before .before in
+    sym (at-loop .loop .inv .lowerEnds)
 
 slice-aggregate-play-piece-5 : tie.Need-slice-aggregate-play-piece-5 Inv-loop μ-loop
-slice-aggregate-play-piece-5 c = sym (c .before .before .before .before .before .before .before .before .before .before .before .before .before .loop .inv .upperEnds)
+slice-aggregate-play-piece-5 c =
+    let at-loop = c .before .before .before .before .before .before .before .before .before .before .before .before .before in
+    sym (at-loop .loop .inv .upperEnds)
 
 slice-aggregate-play-piece-6 : tie.Need-slice-aggregate-play-piece-6 Inv-loop μ-loop
-slice-aggregate-play-piece-6 c = sym (c .before .before .before .before .before .before .before .before .before .before .before .before .before .before .before .loop .inv .text-long)
+slice-aggregate-play-piece-6 c =
+    let at-loop = c .before .before .before .before .before .before .before .before .before .before .before .before .before .before .before in
+    sym (at-loop .loop .inv .text-long)
 
 play-piece-requires : tie.Need-play-piece-requires Inv-loop μ-loop
 play-piece-requires c κs =
-    let i = c .before .before .before .before .before .before .before .before .before .before .before .before .before .before .before .loop .inv in
-    let f = c .before .before .before .before .before .before .before .before .before .before .flush .ensures in
-    let r = c .before .before .before .before .before .before .before .before .refill .ensures in (
-      (omega (arith, r .0, f .0), simp length-take (omega (arith, r .1, r .2, c .before .before .before .before .before .before .before .before .refill .kept .1 .0))),
+    let at-refill = c .before .before .before .before .before .before .before .before in
+    let at-flush = at-refill .before .before in
+    let at-loop = at-flush .before .before .before .before .before in
+    let i = at-loop .loop .inv in
+    let f = at-flush .flush .ensures in
+    let r = at-refill .refill .ensures in (
+      (omega (arith, r .0, f .0), simp length-take (omega (arith, r .1, r .2, at-refill .refill .kept .1 .0))),
       (slides-through i, (same-starts (r .3) (same-starts (f .3) (i .starts)), same-reached _ (r .3) (same-reached _ (f .3) (i .reached)))),
     )
 
 loop-less : tie.Need-loop-less Inv-loop μ-loop
-loop-less c = omega (arith, c .before .before .before .before .before .before .before .before .before .before .before .before .before .before .before .before .before .before .before .before .loop-test .taken)
+loop-less c =
+    let at-loop-test = c .before .before .before .before .before .before .before .before .before .before .before .before .before .before .before .before .before .before .before .before in
+    omega (arith, at-loop-test .loop-test .taken)
 
 loop-again : tie.Need-loop-again Inv-loop μ-loop
 loop-again c =
-    let i = c .before .before .before .before .before .before .before .before .before .before .before .before .before .before .before .before .before .before .before .before .before .loop .inv in
-    let r = c .before .before .before .before .before .before .before .before .before .before .before .before .before .before .refill in
-    let p = c .before .before .before .before .before .play-piece in
+    let at-play-piece = c .before .before .before .before .before in
+    let at-refill = at-play-piece .before .before .before .before .before .before .before .before .before in
+    let at-loop = at-refill .before .before .before .before .before .before .before in
+    let i = at-loop .loop .inv in
+    let r = at-refill .refill in
+    let p = at-play-piece .play-piece in
     record {
       columns = p .kept .1 .1 .0 ∙ i .columns;
       positions = p .kept .1 .1 .1 .0 ∙ i .positions;

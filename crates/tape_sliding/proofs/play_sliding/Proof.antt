@@ -17,16 +17,24 @@ cast-quote : tie.Need-cast-quote
 cast-quote c = search needs
 
 array-share-prefix-quote : tie.Need-array-share-prefix-quote
-array-share-prefix-quote c = let wish = c .before .before .before .before .wish-at .ensures in omega (arith, wish .six, wish .bounded _ (c .before .wanted .given .1))
+array-share-prefix-quote c =
+    let at-wish-at = c .before .before .before .before in
+    let wish = at-wish-at .wish-at .ensures in omega (arith, wish .six, wish .bounded _ (c .before .wanted .given .1))
 
 slice-aggregate-quote-sliding : tie.Need-slice-aggregate-quote-sliding
-slice-aggregate-quote-sliding c = let wish = c .before .before .before .before .before .wish-at .ensures in simp length-take (omega (arith, wish .six, wish .bounded _ (c .before .before .wanted .given .1)))
+slice-aggregate-quote-sliding c =
+    let at-wanted = c .before .before in
+    let at-wish-at = at-wanted .before .before .before in
+    let wish = at-wish-at .wish-at .ensures in simp length-take (omega (arith, wish .six, wish .bounded _ (at-wanted .wanted .given .1)))
 
 quote-sliding-requires : tie.Need-quote-sliding-requires
 quote-sliding-requires c κs = search needs
 
 put-quote-requires : tie.Need-put-quote-requires
-put-quote-requires c κs = (omega (arith, quote-fits (c .before .before .before .before .before .before .before .before .before .before .before .quote-sliding .ensures .quoted)), (omega arith, omega (arith, c .before .before .before .before .before .before .before .before .before .before .before .before .before .before .before .before .before .before .before .before .before .before .before .before .before .before .before .before .before .pre .0)))
+put-quote-requires c κs =
+    let at-quote-sliding = c .before .before .before .before .before .before .before .before .before .before .before in
+    let at-start = at-quote-sliding .before .before .before .before .before .before .before .before .before .before .before .before .before .before .before .before .before .before in
+    (omega (arith, quote-fits (at-quote-sliding .quote-sliding .ensures .quoted)), (omega arith, omega (arith, at-start .pre .0)))
 
 step-of-requires : tie.Need-step-of-requires
 step-of-requires c κs = search needs
@@ -54,9 +62,13 @@ same-length-5 c = search needs
 
 returns : tie.Need-returns
 returns c =
-    let slide = c .before .before .before .before .before .before .before .before .before .before .before .before .before .before .before .quote-sliding .ensures in
-    quote-slides _ _ _ _ _ _ _ (c .before .before .before .before .before .before .before .before .before .before .before .before .before .before .before .before .before .before .before .before .before .before .before .before .before .before .wish-at .ensures) (c .step-of .ensures) (c .before .before .before .before .before .before .before .before .before .before .before .before .before .before .before .before .before .before .before .before .before .before .before .wanted .given .1) slide
-    (c .before .before .before .put-quote .ensures _ _ _ _ _ (slide .quoted))
+    let at-put-quote = c .before .before .before in
+    let at-quote-sliding = at-put-quote .before .before .before .before .before .before .before .before .before .before .before .before in
+    let at-wanted = at-quote-sliding .before .before .before .before .before .before .before .before in
+    let at-wish-at = at-wanted .before .before .before in
+    let slide = at-quote-sliding .quote-sliding .ensures in
+    quote-slides _ _ _ _ _ _ _ (at-wish-at .wish-at .ensures) (c .step-of .ensures) (at-wanted .wanted .given .1) slide
+    (at-put-quote .put-quote .ensures _ _ _ _ _ (slide .quoted))
 
 same-length-6 : tie.Need-same-length-6
 same-length-6 c = search needs
@@ -74,7 +86,11 @@ same-length-10 : tie.Need-same-length-10
 same-length-10 c = search needs
 
 returns-2 : tie.Need-returns-2
-returns-2 c = other-slides _ _ _ _ _ _ _ (c .before .before .before .before .before .before .before .before .before .before .before .before .before .before .before .before .before .before .before .before .wish-at .ensures) (c .step-of2 .ensures) (c .before .before .before .before .before .before .before .before .before .before .before .before .before .before .before .before .before .before .match .keys2) (c .before .before .before .before .before .before .before .before .before .before .before .make-other .ensures)
+returns-2 c =
+    let at-make-other = c .before .before .before .before .before .before .before .before .before .before .before in
+    let at-match = at-make-other .before .before .before .before .before .before .before in
+    let at-wish-at = at-match .before .before in
+    other-slides _ _ _ _ _ _ _ (at-wish-at .wish-at .ensures) (c .step-of2 .ensures) (at-match .match .keys2) (at-make-other .make-other .ensures)
 
 pub play-sliding-spec : {M : Type 1} → statement M
 play-sliding-spec =

@@ -9,7 +9,9 @@ slice-reshare-prefix-ready : tie.Need-slice-reshare-prefix-ready
 slice-reshare-prefix-ready c = search needs
 
 slice-aggregate-ready : tie.Need-slice-aggregate-ready
-slice-aggregate-ready c = simp length-take (omega (arith, c .before .before .before .pre))
+slice-aggregate-ready c =
+    let at-start = c .before .before .before in
+    simp length-take (omega (arith, at-start .pre))
 
 ready-requires : tie.Need-ready-requires
 ready-requires c κs = search needs

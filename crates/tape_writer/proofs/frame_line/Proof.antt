@@ -40,13 +40,19 @@ same-length : tie.Need-same-length
 same-length c = search needs
 
 returns : tie.Need-returns
-returns c = (omega (arith, wrote-fits (c .before .before .before .before .before .before .«write-line» .ensures)), c .before .before .before .before .before .before .before .before .before .«with-room» .ensures .1)
+returns c =
+    let at-write-line = c .before .before .before .before .before .before in
+    let at-with-room = at-write-line .before .before .before in
+    (omega (arith, wrote-fits (at-write-line .«write-line» .ensures)), at-with-room .«with-room» .ensures .1)
 
 same-length-2 : tie.Need-same-length-2
 same-length-2 c = search needs
 
 returns-2 : tie.Need-returns-2
-returns-2 c = (omega (arith, wrote-fits (c .before .before .before .before .before .«write-line» .ensures)), c .before .before .before .before .before .before .before .before .«with-room» .ensures .1)
+returns-2 c =
+    let at-write-line = c .before .before .before .before .before in
+    let at-with-room = at-write-line .before .before .before in
+    (omega (arith, wrote-fits (at-write-line .«write-line» .ensures)), at-with-room .«with-room» .ensures .1)
 
 pub frame-line-spec : {M : Type 1} → statement M
 frame-line-spec =

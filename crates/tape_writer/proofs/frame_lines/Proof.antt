@@ -17,7 +17,9 @@ line-end-requires : tie.Need-line-end-requires Inv-loop μ-loop
 line-end-requires c κs = search needs
 
 loop-holds : tie.Need-loop-holds Inv-loop μ-loop
-loop-holds c = start (c .before .before .before .pre) (c .«line-end» .ensures)
+loop-holds c =
+    let at-start = c .before .before .before in
+    start (at-start .pre) (c .«line-end» .ensures)
 
 sub-frame-line : tie.Need-sub-frame-line Inv-loop μ-loop
 sub-frame-line c = omega arith
@@ -29,7 +31,9 @@ part-frame-line-end : tie.Need-part-frame-line-end Inv-loop μ-loop
 part-frame-line-end c = omega arith
 
 frame-line-requires : tie.Need-frame-line-requires Inv-loop μ-loop
-frame-line-requires c κs = c .before .before .before .loop .inv .gathered
+frame-line-requires c κs =
+    let at-loop = c .before .before .before in
+    at-loop .loop .inv .gathered
 
 add-place : tie.Need-add-place Inv-loop μ-loop
 add-place c = omega arith
@@ -41,7 +45,12 @@ loop-less : tie.Need-loop-less Inv-loop μ-loop
 loop-less c = omega (arith, c .«line-end2» .ensures)
 
 loop-again : tie.Need-loop-again Inv-loop μ-loop
-loop-again c = next (c .before .before .before .before .before .before .before .loop .inv) (c .before .before .before .before .before .before .«loop-test» .taken) (c .before .before .before .«frame-line» .ensures .0) (c .before .before .out .given) (c .«line-end2» .ensures)
+loop-again c =
+    let at-out = c .before .before in
+    let at-frame-line = at-out .before in
+    let at-loop-test = at-frame-line .before .before .before in
+    let at-loop = at-loop-test .before in
+    next (at-loop .loop .inv) (at-loop-test .«loop-test» .taken) (at-frame-line .«frame-line» .ensures .0) (at-out .out .given) (c .«line-end2» .ensures)
 
 sub-now : tie.Need-sub-now Inv-loop μ-loop
 sub-now c = omega arith

@@ -20,22 +20,30 @@ sub-turns : tie.Need-sub-turns Inv-loop μ-loop
 sub-turns c = search needs
 
 slice-aggregate-read-on : tie.Need-slice-aggregate-read-on Inv-loop μ-loop
-slice-aggregate-read-on c = sym (c .before .before .before .before .loop .inv .2)
+slice-aggregate-read-on c =
+    let at-loop = c .before .before .before .before in
+    sym (at-loop .loop .inv .2)
 
 slice-aggregate-read-on-2 : tie.Need-slice-aggregate-read-on-2 Inv-loop μ-loop
-slice-aggregate-read-on-2 c = sym (c .before .before .before .before .before .loop .inv .3)
+slice-aggregate-read-on-2 c =
+    let at-loop = c .before .before .before .before .before in
+    sym (at-loop .loop .inv .3)
 
 read-on-requires : tie.Need-read-on-requires Inv-loop μ-loop
-read-on-requires c κs = let i = c .before .before .before .before .before .loop .inv in (i .0, i .1, omega (arith, i .2))
+read-on-requires c κs =
+    let at-loop = c .before .before .before .before .before in
+    let i = at-loop .loop .inv in (i .0, i .1, omega (arith, i .2))
 
 loop-less : tie.Need-loop-less Inv-loop μ-loop
 loop-less c = search needs
 
 loop-again : tie.Need-loop-again Inv-loop μ-loop
 loop-again c =
-    let k = c .before .before .read-on .kept in
-    let e = c .before .before .read-on .ensures in
-    let i = c .before .before .before .before .before .before .before .before .loop .inv in
+    let at-read-on = c .before .before in
+    let at-loop = at-read-on .before .before .before .before .before .before in
+    let k = at-read-on .read-on .kept in
+    let e = at-read-on .read-on .ensures in
+    let i = at-loop .loop .inv in
     (omega (arith, e .0, k .1 .1 .0, i .3), e .1, k .1 .0 ∙ i .2, k .1 .1 .0 ∙ i .3)
 
 slice-aggregate-flush : tie.Need-slice-aggregate-flush Inv-loop μ-loop

@@ -42,7 +42,9 @@ frame-lines-requires : tie.Need-frame-lines-requires
 frame-lines-requires c κs = search needs
 
 sub-place : tie.Need-sub-place
-sub-place c = omega (arith, rw length-take at (c .before .before .before .«frame-lines» .ensures .1))
+sub-place c =
+    let at-frame-lines = c .before .before .before in
+    omega (arith, rw length-take at (at-frame-lines .«frame-lines» .ensures .1))
 
 kept-end-requires : tie.Need-kept-end-requires
 kept-end-requires c κs = search needs

@@ -25,16 +25,24 @@ put-number-requires : tie.Need-put-number-requires
 put-number-requires c κs = simp (length-take, length-drop, length-set) (omega arith)
 
 add-result : tie.Need-add-result
-add-result c = omega (arith, c .before .before .put-number .ensures .counted, at-most-ten (c .before .before .before .before .before .args .n))
+add-result c =
+    let at-put-number = c .before .before in
+    let at-start = at-put-number .before .before .before in
+    omega (arith, at-put-number .put-number .ensures .counted, at-most-ten (at-start .args .n))
 
 same-length : tie.Need-same-length
 unfolding field
 same-length c =
-    behind-first 32 _ {before = now (c .before .before .before .before .before .args .text)} (omega (arith, at-most-ten (c .before .before .before .before .before .args .n))) (c .before .before .put-number .ensures) .long
+    let at-put-number = c .before .before in
+    let at-start = at-put-number .before .before .before in
+    behind-first 32 _ {before = now (at-start .args .text)} (omega (arith, at-most-ten (at-start .args .n))) (at-put-number .put-number .ensures) .long
 
 returns : tie.Need-returns
 unfolding field
-returns c = of-front (behind-first 32 _ (omega (arith, at-most-ten (c .before .before .before .before .before .args .n))) (c .before .before .put-number .ensures))
+returns c =
+    let at-put-number = c .before .before in
+    let at-start = at-put-number .before .before .before in
+    of-front (behind-first 32 _ (omega (arith, at-most-ten (at-start .args .n))) (at-put-number .put-number .ensures))
 
 pub put-field-spec : {M : Type 1} → statement M
 put-field-spec =

@@ -36,12 +36,17 @@ part-put-field-end : tie.Need-part-put-field-end Inv-loop μ-loop
 part-put-field-end c = omega (arith, line-room _ _ (c .before .before .loop .inv))
 
 put-field-requires : tie.Need-put-field-requires Inv-loop μ-loop
-put-field-requires c κs = simp (length-take, length-drop) (omega (arith, line-room _ _ (c .before .before .before .loop .inv)))
+put-field-requires c κs =
+    let at-loop = c .before .before .before in
+    simp (length-take, length-drop) (omega (arith, line-room _ _ (at-loop .loop .inv)))
 
 add-at : tie.Need-add-at Inv-loop μ-loop
 add-at c =
-    let a = c .before .before .before .before .before .before .before .before .before .args in
-    omega (arith, length-set (now (a .text)) 0 (a .letter), line-room _ _ (c .before .before .before .before .before .before .loop .inv), laid-field _ (c .before .before .put-field .ensures))
+    let at-put-field = c .before .before in
+    let at-loop = at-put-field .before .before .before .before in
+    let at-start = at-loop .before .before .before in
+    let a = at-start .args in
+    omega (arith, length-set (now (a .text)) 0 (a .letter), line-room _ _ (at-loop .loop .inv), laid-field _ (at-put-field .put-field .ensures))
 
 add-i : tie.Need-add-i Inv-loop μ-loop
 add-i c = search needs
@@ -51,18 +56,24 @@ loop-less c = search needs
 
 loop-again : tie.Need-loop-again Inv-loop μ-loop
 loop-again c =
-    line-more _ _ (c .before .before .before .before .before .before .loop .inv) (c .before .before .before .before .before .loop-test .taken) (c .before .before .put-field .ensures)
+    let at-put-field = c .before .before in
+    let at-loop-test = at-put-field .before .before .before in
+    let at-loop = at-loop-test .before in
+    line-more _ _ (at-loop .loop .inv) (at-loop-test .loop-test .taken) (at-put-field .put-field .ensures)
 
 slice-write-text-2 : tie.Need-slice-write-text-2 Inv-loop μ-loop
 slice-write-text-2 c = omega (arith, line-room _ _ (c .before .loop .inv))
 
 add-result : tie.Need-add-result Inv-loop μ-loop
 add-result c =
-    let a = c .before .before .before .before .args in
+    let at-start = c .before .before .before .before in
+    let a = at-start .args in
     omega (arith, length-set (now (a .text)) 0 (a .letter), line-room _ _ (c .before .loop .inv))
 
 same-length : tie.Need-same-length Inv-loop μ-loop
-same-length c = line-finish _ _ {before = now (c .before .before .before .before .args .text)} (c .before .loop .inv) (c .loop-test .left) .long
+same-length c =
+    let at-start = c .before .before .before .before in
+    line-finish _ _ {before = now (at-start .args .text)} (c .before .loop .inv) (c .loop-test .left) .long
 
 returns : tie.Need-returns Inv-loop μ-loop
 returns c = of-front (line-finish _ _ (c .before .loop .inv) (c .loop-test .left))

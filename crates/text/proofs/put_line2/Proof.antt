@@ -25,20 +25,26 @@ put-line-requires c κs = simp (length-take, length-drop, length-set) (omega ari
 
 add-result : tie.Need-add-result
 add-result c =
-    let a = c .before .before .before .before .before .before .args in
-    omega (arith, c .before .before .put-line .ensures .counted, line-short (a .second) (now (a .numbers)))
+    let at-put-line = c .before .before in
+    let at-start = at-put-line .before .before .before .before in
+    let a = at-start .args in
+    omega (arith, at-put-line .put-line .ensures .counted, line-short (a .second) (now (a .numbers)))
 
 same-length : tie.Need-same-length
 unfolding line2
 same-length c =
-    let a = c .before .before .before .before .before .before .args in
-    behind-first _ _ {before = now (a .text)} (omega (arith, line2-short (a .first) (a .second) (now (a .numbers)))) (c .before .before .put-line .ensures) .long
+    let at-put-line = c .before .before in
+    let at-start = at-put-line .before .before .before .before in
+    let a = at-start .args in
+    behind-first _ _ {before = now (a .text)} (omega (arith, line2-short (a .first) (a .second) (now (a .numbers)))) (at-put-line .put-line .ensures) .long
 
 returns : tie.Need-returns
 unfolding line2
 returns c =
-    let a = c .before .before .before .before .before .before .args in
-    of-front (behind-first _ _ (omega (arith, line2-short (a .first) (a .second) (now (a .numbers)))) (c .before .before .put-line .ensures))
+    let at-put-line = c .before .before in
+    let at-start = at-put-line .before .before .before .before in
+    let a = at-start .args in
+    of-front (behind-first _ _ (omega (arith, line2-short (a .first) (a .second) (now (a .numbers)))) (at-put-line .put-line .ensures))
 
 pub put-line2-spec : {M : Type 1} → statement M
 put-line2-spec = tie.close (tie.spec slice-write-text sub-put-line part-put-line-start part-put-line-end put-line-requires add-result same-length returns)

@@ -26,13 +26,20 @@ same-length : tie.Need-same-length
 same-length c = search needs
 
 returns : tie.Need-returns
-returns c = rw (accepted-line _ (c .before .before .before .before .enum-told .given .1)) (c .before .before .put-desk-line .ensures)
+returns c =
+    let at-put-desk-line = c .before .before in
+    let at-enum-told = at-put-desk-line .before .before in
+    rw (accepted-line _ (at-enum-told .enum-told .given .1)) (at-put-desk-line .put-desk-line .ensures)
 
 same-length-2 : tie.Need-same-length-2
 same-length-2 c = search needs
 
 returns-2 : tie.Need-returns-2
-returns-2 c = rw (refused-line _ _ (c .before .before .before .before .before .before .before .answer .given .1) (c .before .before .before .before .before .number .ensures)) (c .before .before .put-line .ensures)
+returns-2 c =
+    let at-put-line = c .before .before in
+    let at-number = at-put-line .before .before .before in
+    let at-answer = at-number .before .before in
+    rw (refused-line _ _ (at-answer .answer .given .1) (at-number .number .ensures)) (at-put-line .put-line .ensures)
 
 pub put-answer-spec : {M : Type 1} → statement M
 put-answer-spec =

@@ -20,13 +20,19 @@ same-length : tie.Need-same-length
 same-length c = search needs
 
 returns : tie.Need-returns
-returns c = rw (one-line _ _ (c .before .before .before .before .enum-told .given .1)) (c .before .before .put-line .ensures)
+returns c =
+    let at-put-line = c .before .before in
+    let at-enum-told = at-put-line .before .before in
+    rw (one-line _ _ (at-enum-told .enum-told .given .1)) (at-put-line .put-line .ensures)
 
 same-length-2 : tie.Need-same-length-2
 same-length-2 c = search needs
 
 returns-2 : tie.Need-returns-2
-returns-2 c = rw (two-line _ _ (c .before .before .before .before .enum-told2 .given .1)) (c .before .before .put-line2 .ensures)
+returns-2 c =
+    let at-put-line2 = c .before .before in
+    let at-enum-told2 = at-put-line2 .before .before in
+    rw (two-line _ _ (at-enum-told2 .enum-told2 .given .1)) (at-put-line2 .put-line2 .ensures)
 
 pub put-desk-line-spec : {M : Type 1} → statement M
 put-desk-line-spec =

@@ -17,7 +17,9 @@ same-length : tie.Need-same-length
 same-length c = search needs
 
 returns : tie.Need-returns
-returns c = λ t t' ws bytes o. open-turned _ t ws bytes _ _ _ o (c .opened-head .ensures) (c .before .before .before .put-answer .ensures)
+returns c =
+    let at-put-answer = c .before .before .before in
+    λ t t' ws bytes o. open-turned _ t ws bytes _ _ _ o (c .opened-head .ensures) (at-put-answer .put-answer .ensures)
 
 pub put-opening-spec : {M : Type 1} → statement M
 put-opening-spec =

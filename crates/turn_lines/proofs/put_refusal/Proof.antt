@@ -17,7 +17,10 @@ same-length : tie.Need-same-length
 same-length c = search needs
 
 returns : tie.Need-returns
-returns c = λ t bytes. refusal-turned _ t _ bytes _ (c .before .before .before .before .before .number .ensures) (c .before .before .put-line .ensures)
+returns c =
+    let at-put-line = c .before .before in
+    let at-number = at-put-line .before .before .before in
+    λ t bytes. refusal-turned _ t _ bytes _ (at-number .number .ensures) (at-put-line .put-line .ensures)
 
 pub put-refusal-spec : {M : Type 1} → statement M
 put-refusal-spec =

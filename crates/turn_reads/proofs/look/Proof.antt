@@ -32,16 +32,23 @@ array-share-prefix-cells c =
     cells-room (made .last .1 .1 .1 .1 .1 .1 .0) (look-fits (made .ensures)) (made .kept .1 .1 .1 .1 .1 .1 .0)
 
 slice-aggregate-put-answer : tie.Need-slice-aggregate-put-answer
-slice-aggregate-put-answer c = simp (append-nil, length-take) (omega (arith, look-fits (c .before .before .before .look .ensures), c .before .before .before .look .kept .1 .1 .1 .1 .1 .1 .0))
+slice-aggregate-put-answer c =
+    let at-look = c .before .before .before in
+    simp (append-nil, length-take) (omega (arith, look-fits (at-look .look .ensures), at-look .look .kept .1 .1 .1 .1 .1 .1 .0))
 
 put-answer-requires : tie.Need-put-answer-requires
-put-answer-requires c κs = (omega arith, simp (append-nil, length-take) (omega (arith, look-fits (c .before .before .before .before .look .ensures))))
+put-answer-requires c κs =
+    let at-look = c .before .before .before .before in
+    (omega arith, simp (append-nil, length-take) (omega (arith, look-fits (at-look .look .ensures))))
 
 same-length : tie.Need-same-length
 same-length c = search needs
 
 returns : tie.Need-returns
-returns c = λ bytes. look-turned _ _ _ bytes _ (c .before .before .before .before .before .before .before .look .ensures) (c .before .before .put-answer .ensures)
+returns c =
+    let at-put-answer = c .before .before in
+    let at-look = at-put-answer .before .before .before .before .before in
+    λ bytes. look-turned _ _ _ bytes _ (at-look .look .ensures) (at-put-answer .put-answer .ensures)
 
 pub look-spec : {M : Type 1} → statement M
 look-spec =

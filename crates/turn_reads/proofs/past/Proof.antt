@@ -35,16 +35,23 @@ array-share-prefix-cells c =
     past-cells-room (made .last .1 .1 .1 .1 .1 .1 .1 .0) (past-fits (made .ensures)) (made .kept .1 .1 .1 .1 .1 .1 .1 .0)
 
 slice-aggregate-put-answer : tie.Need-slice-aggregate-put-answer
-slice-aggregate-put-answer c = simp (append-nil, length-take) (omega (arith, past-fits (c .before .before .before .past .ensures), c .before .before .before .past .kept .1 .1 .1 .1 .1 .1 .1 .0))
+slice-aggregate-put-answer c =
+    let at-past = c .before .before .before in
+    simp (append-nil, length-take) (omega (arith, past-fits (at-past .past .ensures), at-past .past .kept .1 .1 .1 .1 .1 .1 .1 .0))
 
 put-answer-requires : tie.Need-put-answer-requires
-put-answer-requires c κs = (omega arith, simp (append-nil, length-take) (omega (arith, past-fits (c .before .before .before .before .past .ensures))))
+put-answer-requires c κs =
+    let at-past = c .before .before .before .before in
+    (omega arith, simp (append-nil, length-take) (omega (arith, past-fits (at-past .past .ensures))))
 
 same-length : tie.Need-same-length
 same-length c = search needs
 
 returns : tie.Need-returns
-returns c = λ bytes. past-turned _ _ _ bytes _ _ (c .before .before .before .before .before .before .before .past .ensures) (c .before .before .put-answer .ensures)
+returns c =
+    let at-put-answer = c .before .before in
+    let at-past = at-put-answer .before .before .before .before .before in
+    λ bytes. past-turned _ _ _ bytes _ _ (at-past .past .ensures) (at-put-answer .put-answer .ensures)
 
 pub past-spec : {M : Type 1} → statement M
 past-spec =

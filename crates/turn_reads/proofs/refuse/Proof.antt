@@ -22,14 +22,20 @@ same-length c = search needs
 
 returns : tie.Need-returns
 unfolding refused
-returns c = λ t bytes. rw (c .before .before .before .before .before .wanted .given .1) (c .before .before .put-refusal .ensures t bytes)
+returns c =
+    let at-put-refusal = c .before .before in
+    let at-wanted = at-put-refusal .before .before .before in
+    λ t bytes. rw (at-wanted .wanted .given .1) (at-put-refusal .put-refusal .ensures t bytes)
 
 same-length-2 : tie.Need-same-length-2
 same-length-2 c = search needs
 
 returns-2 : tie.Need-returns-2
 unfolding refused
-returns-2 c = λ t bytes. rw (c .before .before .before .before .enum-told .given .1) (c .before .before .put-refusal2 .ensures t bytes)
+returns-2 c =
+    let at-put-refusal2 = c .before .before in
+    let at-enum-told = at-put-refusal2 .before .before in
+    λ t bytes. rw (at-enum-told .enum-told .given .1) (at-put-refusal2 .put-refusal2 .ensures t bytes)
 
 returns-3 : tie.Need-returns-3
 returns-3 c = λ t bytes. rw (nothing-refused _ _ (c .match .keys3)) (nothing-turned _ _ _ _ _)

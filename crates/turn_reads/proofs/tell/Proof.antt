@@ -34,20 +34,29 @@ same-length c = search needs
 
 returns : tie.Need-returns
 unfolding looked
-returns c = λ bytes. rw (c .before .before .before .before .before .wanted .given .1) (c .before .before .look .ensures bytes)
+returns c =
+    let at-look = c .before .before in
+    let at-wanted = at-look .before .before .before in
+    λ bytes. rw (at-wanted .wanted .given .1) (at-look .look .ensures bytes)
 
 same-length-2 : tie.Need-same-length-2
 same-length-2 c = search needs
 
 returns-2 : tie.Need-returns-2
 unfolding looked
-returns-2 c = λ bytes. rw (c .before .before .before .before .before .wanted2 .given .1) (c .before .before .past .ensures bytes)
+returns-2 c =
+    let at-past = c .before .before in
+    let at-wanted2 = at-past .before .before .before in
+    λ bytes. rw (at-wanted2 .wanted2 .given .1) (at-past .past .ensures bytes)
 
 same-length-3 : tie.Need-same-length-3
 same-length-3 c = search needs
 
 returns-3 : tie.Need-returns-3
-returns-3 c = λ bytes. rw (other-refused _ _ (c .before .before .before .before .match .keys3)) (c .before .before .refuse .ensures _ bytes)
+returns-3 c =
+    let at-refuse = c .before .before in
+    let at-match = at-refuse .before .before in
+    λ bytes. rw (other-refused _ _ (at-match .match .keys3)) (at-refuse .refuse .ensures _ bytes)
 
 pub tell-spec : {M : Type 1} → statement M
 tell-spec =

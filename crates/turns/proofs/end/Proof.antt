@@ -17,7 +17,10 @@ same-length : tie.Need-same-length
 same-length c = search needs
 
 returns : tie.Need-returns
-returns c = λ bytes. end-turned _ _ _ bytes _ _ (c .before .before .before .before .before .before .before .before .end .ensures) (c .before .before .put-answer .ensures)
+returns c =
+    let at-put-answer = c .before .before in
+    let at-end = at-put-answer .before .before .before .before .before .before in
+    λ bytes. end-turned _ _ _ bytes _ _ (at-end .end .ensures) (at-put-answer .put-answer .ensures)
 
 pub end-spec : {M : Type 1} → statement M
 end-spec =

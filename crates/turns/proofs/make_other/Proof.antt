@@ -52,7 +52,11 @@ same-length-5 c = search needs
 
 returns : tie.Need-returns
 unfolding unquoted
-returns c = rw (c .before .before .before .before .before .before .before .before .before .before .before .before .before .before .before .before .before .before .wanted .given .1) (c .before .before .put-opening .ensures _ _ _ _ (c .before .before .before .before .before .before .before .before .before .before .before .before .«open» .ensures))
+returns c =
+    let at-put-opening = c .before .before in
+    let at-open = at-put-opening .before .before .before .before .before .before .before .before .before .before in
+    let at-wanted = at-open .before .before .before .before .before .before in
+    rw (at-wanted .wanted .given .1) (at-put-opening .put-opening .ensures _ _ _ _ (at-open .«open» .ensures))
 
 same-length-6 : tie.Need-same-length-6
 same-length-6 c = search needs
@@ -73,7 +77,10 @@ same-length-11 : tie.Need-same-length-11
 same-length-11 c = search needs
 
 returns-2 : tie.Need-returns-2
-returns-2 c = rw (other-observed _ _ (c .before .before .before .before .before .before .before .before .before .before .before .match .keys2)) (c .before .before .before .before .observe .ensures)
+returns-2 c =
+    let at-observe = c .before .before .before .before in
+    let at-match = at-observe .before .before .before .before .before .before .before in
+    rw (other-observed _ _ (at-match .match .keys2)) (at-observe .observe .ensures)
 
 pub make-other-spec : {M : Type 1} → statement M
 make-other-spec =

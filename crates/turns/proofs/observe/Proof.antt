@@ -34,14 +34,20 @@ same-length-2 c = search needs
 
 returns : tie.Need-returns
 unfolding observed
-returns c = rw (c .before .before .before .before .before .before .before .before .wanted .given .1) (c .before .before .before .before .watch .ensures)
+returns c =
+    let at-watch = c .before .before .before .before in
+    let at-wanted = at-watch .before .before .before .before in
+    rw (at-wanted .wanted .given .1) (at-watch .watch .ensures)
 
 same-length-3 : tie.Need-same-length-3
 same-length-3 c = search needs
 
 returns-2 : tie.Need-returns-2
 unfolding observed
-returns-2 c = rw (c .before .before .before .before .before .wanted2 .given .1) (c .before .before .end .ensures _)
+returns-2 c =
+    let at-end = c .before .before in
+    let at-wanted2 = at-end .before .before .before in
+    rw (at-wanted2 .wanted2 .given .1) (at-end .end .ensures _)
 
 same-length-4 : tie.Need-same-length-4
 same-length-4 c = search needs
@@ -50,7 +56,10 @@ same-length-5 : tie.Need-same-length-5
 same-length-5 c = search needs
 
 returns-3 : tie.Need-returns-3
-returns-3 c = rw (other-paired _ _ (c .before .before .before .before .before .before .before .match .keys3)) (c .before .before .before .before .observe-pair .ensures)
+returns-3 c =
+    let at-observe-pair = c .before .before .before .before in
+    let at-match = at-observe-pair .before .before .before in
+    rw (other-paired _ _ (at-match .match .keys3)) (at-observe-pair .observe-pair .ensures)
 
 pub observe-spec : {M : Type 1} → statement M
 observe-spec =

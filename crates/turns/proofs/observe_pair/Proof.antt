@@ -34,20 +34,29 @@ same-length-2 c = search needs
 
 returns : tie.Need-returns
 unfolding pairObserved
-returns c = rw (c .before .before .before .before .before .before .before .before .wanted .given .1) (c .before .before .before .before .pair .ensures)
+returns c =
+    let at-pair = c .before .before .before .before in
+    let at-wanted = at-pair .before .before .before .before in
+    rw (at-wanted .wanted .given .1) (at-pair .pair .ensures)
 
 same-length-3 : tie.Need-same-length-3
 same-length-3 c = search needs
 
 returns-2 : tie.Need-returns-2
 unfolding pairObserved
-returns-2 c = rw (c .before .before .before .before .enum-told .given .1) (c .before .before .unpair .ensures _)
+returns-2 c =
+    let at-unpair = c .before .before in
+    let at-enum-told = at-unpair .before .before in
+    rw (at-enum-told .enum-told .given .1) (at-unpair .unpair .ensures _)
 
 same-length-4 : tie.Need-same-length-4
 same-length-4 c = search needs
 
 returns-3 : tie.Need-returns-3
-returns-3 c = rw (other-looked _ _ (c .before .before .before .before .match .keys3)) (c .before .before .tell .ensures _)
+returns-3 c =
+    let at-tell = c .before .before in
+    let at-match = at-tell .before .before in
+    rw (other-looked _ _ (at-match .match .keys3)) (at-tell .tell .ensures _)
 
 pub observe-pair-spec : {M : Type 1} → statement M
 observe-pair-spec =

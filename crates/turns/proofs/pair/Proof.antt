@@ -13,7 +13,9 @@ slice-aggregate-put-changed : tie.Need-slice-aggregate-put-changed
 slice-aggregate-put-changed c = search needs
 
 put-changed-requires : tie.Need-put-changed-requires
-put-changed-requires c κs = ((omega arith, omega (arith, pair-fits (c .before .before .before .before .before .before .pair .ensures))), (omega arith, omega arith))
+put-changed-requires c κs =
+    let at-pair = c .before .before .before .before .before .before in
+    ((omega arith, omega (arith, pair-fits (at-pair .pair .ensures))), (omega arith, omega arith))
 
 same-length : tie.Need-same-length
 same-length c = search needs
@@ -23,8 +25,10 @@ same-length-2 c = search needs
 
 returns : tie.Need-returns
 returns c =
-    let made = c .before .before .before .before .before .before .before .before .before .pair in
-    pair-turned _ _ _ _ _ _ (made .ensures) (c .before .before .put-changed .ensures)
+    let at-put-changed = c .before .before in
+    let at-pair = at-put-changed .before .before .before .before .before .before .before in
+    let made = at-pair .pair in
+    pair-turned _ _ _ _ _ _ (made .ensures) (at-put-changed .put-changed .ensures)
 
 pub pair-spec : {M : Type 1} → statement M
 pair-spec =

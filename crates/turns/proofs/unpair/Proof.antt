@@ -17,7 +17,10 @@ same-length : tie.Need-same-length
 same-length c = search needs
 
 returns : tie.Need-returns
-returns c = λ bytes. unpair-turned _ _ _ bytes (c .before .before .before .before .before .before .unpair .ensures) (c .before .before .put-answer .ensures)
+returns c =
+    let at-put-answer = c .before .before in
+    let at-unpair = at-put-answer .before .before .before .before in
+    λ bytes. unpair-turned _ _ _ bytes (at-unpair .unpair .ensures) (at-put-answer .put-answer .ensures)
 
 pub unpair-spec : {M : Type 1} → statement M
 unpair-spec =

@@ -13,7 +13,9 @@ slice-aggregate-put-changed : tie.Need-slice-aggregate-put-changed
 slice-aggregate-put-changed c = search needs
 
 put-changed-requires : tie.Need-put-changed-requires
-put-changed-requires c κs = ((omega arith, omega (arith, watch-fits (c .before .before .before .before .before .before .before .before .watch .ensures))), (omega arith, omega arith))
+put-changed-requires c κs =
+    let at-watch = c .before .before .before .before .before .before .before .before in
+    ((omega arith, omega (arith, watch-fits (at-watch .watch .ensures))), (omega arith, omega arith))
 
 same-length : tie.Need-same-length
 same-length c = search needs
@@ -23,8 +25,10 @@ same-length-2 c = search needs
 
 returns : tie.Need-returns
 returns c =
-    let made = c .before .before .before .before .before .before .before .before .before .before .before .watch in
-    watch-turned _ _ _ _ _ _ (made .ensures) (c .before .before .put-changed .ensures)
+    let at-put-changed = c .before .before in
+    let at-watch = at-put-changed .before .before .before .before .before .before .before .before .before in
+    let made = at-watch .watch in
+    watch-turned _ _ _ _ _ _ (made .ensures) (at-put-changed .put-changed .ensures)
 
 pub watch-spec : {M : Type 1} → statement M
 watch-spec =

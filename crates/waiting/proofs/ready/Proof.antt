@@ -22,8 +22,10 @@ sub-result c = search needs
 
 returns-2 : tie.Need-returns-2
 returns-2 c =
-    let a = c .before .before .before .before .args in
-    ready-inside (now (a .tape)) (a .place) (c .before .before .if1 .left) (c .body-length .ensures)
+    let at-if1 = c .before .before in
+    let at-start = at-if1 .before .before in
+    let a = at-start .args in
+    ready-inside (now (a .tape)) (a .place) (at-if1 .if1 .left) (c .body-length .ensures)
 
 pub ready-spec : {M : Type 1} → statement M
 ready-spec =

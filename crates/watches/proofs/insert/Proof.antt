@@ -44,12 +44,17 @@ loop-less c = omega arith
 
 loop-again : tie.Need-loop-again Inv-loop μ-loop
 unfolding goesHere
-loop-again c = rw (c .before .chosen .ensures, c .chosen2 .ensures) (more _ _ _ _ _ (c .before .before .before .loop .inv) (c .before .before .loop-test .taken))
+loop-again c =
+    let at-loop-test = c .before .before in
+    let at-loop = at-loop-test .before in
+    rw (c .before .chosen .ensures, c .chosen2 .ensures) (more _ _ _ _ _ (at-loop .loop .inv) (at-loop-test .loop-test .taken))
 
 returns : tie.Need-returns Inv-loop μ-loop
 returns c =
-    let p = c .before .before .before .pre in
-    rw (← (c .before .before .watch-of .ensures)) (finish _ _ _ _ _ (c .before .loop .inv) (p .capacity) (c .loop-test .left) (p .untorn) (p .free))
+    let at-watch-of = c .before .before in
+    let at-start = at-watch-of .before in
+    let p = at-start .pre in
+    rw (← (at-watch-of .watch-of .ensures)) (finish _ _ _ _ _ (c .before .loop .inv) (p .capacity) (c .loop-test .left) (p .untorn) (p .free))
 
 pub insert-spec : {M : Type 1} → statement M
 insert-spec =

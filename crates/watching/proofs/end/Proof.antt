@@ -28,7 +28,8 @@ remove-requires c κs = search needs
 returns-2 : tie.Need-returns-2
 unfolding endReply endWatches
 returns-2 c =
-    let e = c .before .before .before .judge-end .ensures in
+    let at-judge-end = c .before .before .before in
+    let e = at-judge-end .judge-end .ensures in
     let f = c .before .enum-told .given .1 in
     record { reply = accepted-reply e f _ refl refl; watches = accepted-left e f _ (c .remove .ensures) }
 

@@ -30,9 +30,11 @@ with-test-requires-3 c κs = search needs
 returns : tie.Need-returns
 unfolding watchfulAnswer watchAnswer
 returns c =
+    let at-with-test2 = c .before .before in
+    let at-full = at-with-test2 .before in
     let known = c .before .before .before .before in
     let new = tested _ _ _ (known .before .before .judge-watch-size .ensures) (known .before .find .ensures) (known .with-test .ensures) refl in
-    let free = tested _ _ _ new (c .before .before .before .full .ensures) (c .before .before .with-test2 .ensures) refl in
+    let free = tested _ _ _ new (at-full .full .ensures) (at-with-test2 .with-test2 .ensures) refl in
     tested _ _ _ free (c .before .short-output .ensures) (c .with-test3 .ensures) refl
 
 pub judge-watch-spec : {M : Type 1} → statement M

@@ -22,28 +22,44 @@ start-of-requires : tie.Need-start-of-requires
 start-of-requires c κs = watch-free _ _ _ _ _ _ (accepted-number _ (c .before .before .judge-watch .ensures) (c .enum-told .given .1)) .passed .whole .low-newest
 
 start-of-requires-2 : tie.Need-start-of-requires-2
-start-of-requires-2 c κs = watch-free _ _ _ _ _ _ (accepted-number _ (c .before .before .before .judge-watch .ensures) (c .before .enum-told .given .1)) .passed .whole .low-newest
+start-of-requires-2 c κs =
+    let at-judge-watch = c .before .before .before in
+    watch-free _ _ _ _ _ _ (accepted-number _ (at-judge-watch .judge-watch .ensures) (c .before .enum-told .given .1)) .passed .whole .low-newest
 
 cast-t17 : tie.Need-cast-t17
-cast-t17 c = let known = watch-free _ _ _ _ _ _ (accepted-number _ (c .before .before .before .before .judge-watch .ensures) (c .before .before .enum-told .given .1)) in omega (arith, known .range, known .passed .settings)
+cast-t17 c =
+    let at-enum-told = c .before .before in
+    let at-judge-watch = at-enum-told .before .before in
+    let known = watch-free _ _ _ _ _ _ (accepted-number _ (at-judge-watch .judge-watch .ensures) (at-enum-told .enum-told .given .1)) in omega (arith, known .range, known .passed .settings)
 
 write-joins-requires : tie.Need-write-joins-requires
 write-joins-requires c κs =
-    let known = watch-free _ _ _ _ _ _ (accepted-number _ (c .before .before .before .before .before .judge-watch .ensures) (c .before .before .before .enum-told .given .1)) in
-    rw (c .before .before .start-of .ensures) (watch-window _ _ _ known (c .before .start-of2 .ensures), joins-room _ _ _ known (c .before .start-of2 .ensures) _)
+    let at-start-of = c .before .before in
+    let at-enum-told = at-start-of .before in
+    let at-judge-watch = at-enum-told .before .before in
+    let known = watch-free _ _ _ _ _ _ (accepted-number _ (at-judge-watch .judge-watch .ensures) (at-enum-told .enum-told .given .1)) in
+    rw (at-start-of .start-of .ensures) (watch-window _ _ _ known (c .before .start-of2 .ensures), joins-room _ _ _ known (c .before .start-of2 .ensures) _)
 
 insert-requires : tie.Need-insert-requires
-insert-requires c κs = watch-free _ _ _ _ _ _ (accepted-number _ (c .before .before .before .before .before .before .before .before .judge-watch .ensures) (c .before .before .before .before .before .before .enum-told .given .1)) .vacant
+insert-requires c κs =
+    let at-enum-told = c .before .before .before .before .before .before in
+    let at-judge-watch = at-enum-told .before .before in
+    watch-free _ _ _ _ _ _ (accepted-number _ (at-judge-watch .judge-watch .ensures) (at-enum-told .enum-told .given .1)) .vacant
 
 same-length : tie.Need-same-length
 same-length c = search needs
 
 returns-2 : tie.Need-returns-2
 returns-2 c =
-    let e = c .before .before .before .before .before .before .before .before .before .judge-watch .ensures in
-    let f = c .before .before .before .before .before .before .before .enum-told .given .1 in
-    let written = rw (c .before .before .before .before .before .before .start-of .ensures) at (c .before .before .before .write-joins .ensures) in
-    watch-set _ _ _ _ _ _ e f (watch-free _ _ _ _ _ _ (accepted-number _ e f)) (c .before .before .before .before .before .start-of2 .ensures) (written .0) (written .1) (c .insert .ensures)
+    let at-write-joins = c .before .before .before in
+    let at-start-of2 = at-write-joins .before .before in
+    let at-start-of = at-start-of2 .before in
+    let at-enum-told = at-start-of .before in
+    let at-judge-watch = at-enum-told .before .before in
+    let e = at-judge-watch .judge-watch .ensures in
+    let f = at-enum-told .enum-told .given .1 in
+    let written = rw (at-start-of .start-of .ensures) at (at-write-joins .write-joins .ensures) in
+    watch-set _ _ _ _ _ _ e f (watch-free _ _ _ _ _ _ (accepted-number _ e f)) (at-start-of2 .start-of2 .ensures) (written .0) (written .1) (c .insert .ensures)
 
 pub watch-spec : {M : Type 1} → statement M
 watch-spec = tie.close (tie.spec judge-watch-requires enum-told enum-told-2 returns start-of-requires start-of-requires-2 cast-t17 write-joins-requires insert-requires same-length returns-2)

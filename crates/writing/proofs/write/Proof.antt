@@ -45,8 +45,9 @@ paired-room c = front-room (front c) (P (begin c)) (room (begin c))
 
 write-all-changes-requires : tie.Need-write-all-changes-requires
 write-all-changes-requires c κs =
-    let p = c .before .before .before .before .before .before .before .pre in
-    (p .0 .bounded, (p .0 .untorn, (p .0 .full, (p .0 .outdone, (p .1 .named, watched-room (c .before .before .before .before .before .before .before))))))
+    let at-start = c .before .before .before .before .before .before .before in
+    let p = at-start .pre in
+    (p .0 .bounded, (p .0 .untorn, (p .0 .full, (p .0 .outdone, (p .1 .named, watched-room (at-start))))))
 
 sub-write-pair-changes : tie.Need-sub-write-pair-changes
 sub-write-pair-changes c = omega (arith, paired-room (c .before .before))
@@ -65,8 +66,9 @@ write-pair-changes-requires c κs =
 
 add-result : tie.Need-add-result
 add-result c =
+    let at-write-pair-changes = c .before .before in
     let b = c .before .before .before .before .before .before in
-    omega (arith, paired-room b, front b .long, begin b .good, c .before .before .write-pair-changes .ensures .0)
+    omega (arith, paired-room b, front b .long, begin b .good, at-write-pair-changes .write-pair-changes .ensures .0)
 
 same-length : tie.Need-same-length
 same-length c = search needs
@@ -74,8 +76,9 @@ same-length c = search needs
 returns : tie.Need-returns
 unfolding changeBytes
 returns c =
+    let at-write-pair-changes = c .before .before in
     let b = c .before .before .before .before .before .before in
-    let v = front-more (front b) (P (begin b)) (room (begin b)) (c .before .before .write-pair-changes .ensures .0) (c .before .before .write-pair-changes .ensures .1) in
+    let v = front-more (front b) (P (begin b)) (room (begin b)) (at-write-pair-changes .write-pair-changes .ensures .0) (at-write-pair-changes .write-pair-changes .ensures .1) in
     (v .place, v .cells)
 
 pub write-spec : {M : Type 1} → statement M

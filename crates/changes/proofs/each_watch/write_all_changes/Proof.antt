@@ -15,10 +15,14 @@ abbrev μ-loop : tie.MeasureT-loop
 μ-loop head retired columns lower-ends upper-ends quote lower sound out₀ watches first at₀ i₀ out at i = 8 - i
 
 start-of-requires : tie.Need-start-of-requires Inv-loop μ-loop
-start-of-requires c κs = omega (arith, c .before .before .before .before .before .before .pre .1 .1 .0 .space)
+start-of-requires c κs =
+    let at-start = c .before .before .before .before .before .before in
+    omega (arith, at-start .pre .1 .1 .0 .space)
 
 loop-holds : tie.Need-loop-holds Inv-loop μ-loop
-loop-holds c = written-start _ _ _ _ _ _ (search needs) (c .before .before .before .before .before .before .before .pre .1 .1 .1 .1 .1)
+loop-holds c =
+    let at-start = c .before .before .before .before .before .before .before in
+    written-start _ _ _ _ _ _ (search needs) (at-start .pre .1 .1 .1 .1 .1)
 
 mul-write-watch : tie.Need-mul-write-watch Inv-loop μ-loop
 mul-write-watch c = search needs
@@ -36,10 +40,19 @@ part-write-watch-end : tie.Need-part-write-watch-end Inv-loop μ-loop
 part-write-watch-end c = search needs
 
 write-watch-requires : tie.Need-write-watch-requires Inv-loop μ-loop
-write-watch-requires c κs = let p = c .before .before .before .before .before .before .before .before .before .before .pre in (p .0, (watch-at _ _ (c .before .before .loop .i) (p .1 .0) (c .before .loop-test .taken), (c .before .before .before .start-of .ensures, (p .1 .1 .0, (p .1 .1 .1 .0, (p .1 .1 .1 .1 .0, written-rest (c .before .before .loop .inv) (c .before .loop-test .taken)))))))
+write-watch-requires c κs =
+    let at-loop = c .before .before in
+    let at-start-of = at-loop .before in
+    let at-start = at-start-of .before .before .before .before .before .before .before in
+    let p = at-start .pre in (p .0, (watch-at _ _ (at-loop .loop .i) (p .1 .0) (c .before .loop-test .taken), (at-start-of .start-of .ensures, (p .1 .1 .0, (p .1 .1 .1 .0, (p .1 .1 .1 .1 .0, written-rest (at-loop .loop .inv) (c .before .loop-test .taken)))))))
 
 add-at : tie.Need-add-at Inv-loop μ-loop
-add-at c = omega (arith, written-fits (c .before .before .before .before .before .loop .inv) (c .before .before .before .before .loop-test .taken), c .before .before .write-watch .ensures .0, c .before .before .before .before .before .loop .inv .laying .front .long, c .before .before .before .before .before .before .before .before .before .before .before .before .before .good)
+add-at c =
+    let at-write-watch = c .before .before in
+    let at-loop-test = at-write-watch .before .before in
+    let at-loop = at-loop-test .before in
+    let at-good = at-loop .before .before .before .before .before .before .before .before in
+    omega (arith, written-fits (at-loop .loop .inv) (at-loop-test .loop-test .taken), at-write-watch .write-watch .ensures .0, at-loop .loop .inv .laying .front .long, at-good .good)
 
 add-i : tie.Need-add-i Inv-loop μ-loop
 add-i c = search needs
@@ -48,7 +61,11 @@ loop-less : tie.Need-loop-less Inv-loop μ-loop
 loop-less c = search needs
 
 loop-again : tie.Need-loop-again Inv-loop μ-loop
-loop-again c = written-more (c .before .before .before .before .before .loop .inv) (c .before .before .before .before .loop-test .taken) (c .before .before .write-watch .ensures .0) (c .before .before .write-watch .ensures .1)
+loop-again c =
+    let at-write-watch = c .before .before in
+    let at-loop-test = at-write-watch .before .before in
+    let at-loop = at-loop-test .before in
+    written-more (at-loop .loop .inv) (at-loop-test .loop-test .taken) (at-write-watch .write-watch .ensures .0) (at-write-watch .write-watch .ensures .1)
 
 same-length : tie.Need-same-length Inv-loop μ-loop
 same-length c = c .before .loop .inv .laying .front .long

@@ -12,7 +12,9 @@ use Rattle.changes.proofs.each_watch.write_watch.Tie as tie
 
 returns : tie.Need-returns
 unfolding laid
-returns c = rw (watch-none (c .before .before .before .before .before .before .before .args .head) (now (c .before .before .before .before .before .before .before .args .lower-ends)) (rows (c .before .before .before .before .before .before .before .args .head .dimensions) (c .before .before .before .before .before .before .before .args .head .directions) (now (c .before .before .before .before .before .before .before .args .columns)) (now (c .before .before .before .before .before .before .before .args .upper-ends)) (now (c .before .before .before .before .before .before .before .args .quote))) (c .before .before .before .before .before .before .before .args .lower) (c .before .before .before .before .before .before .before .args .watch) (c .if1 .taken)) (refl, refl)
+returns c =
+    let at-start = c .before .before .before .before .before .before .before in
+    rw (watch-none (at-start .args .head) (now (at-start .args .lower-ends)) (rows (at-start .args .head .dimensions) (at-start .args .head .directions) (now (at-start .args .columns)) (now (at-start .args .upper-ends)) (now (at-start .args .quote))) (at-start .args .lower) (at-start .args .watch) (c .if1 .taken)) (refl, refl)
 
 size-of-requires : tie.Need-size-of-requires
 size-of-requires c κs = search needs
@@ -24,23 +26,30 @@ kinds-of-requires : tie.Need-kinds-of-requires
 kinds-of-requires c κs = search needs
 
 cast-write-changes : tie.Need-cast-write-changes
-cast-write-changes c = omega (arith, c .before .before .size-of .ensures, c .before .before .before .before .before .before .before .before .before .before .pre .0, c .before .before .before .before .before .before .before .before .before .before .pre .1 .0 .most)
+cast-write-changes c =
+    let at-size-of = c .before .before in
+    let at-start = at-size-of .before .before .before .before .before .before .before .before in
+    omega (arith, at-size-of .size-of .ensures, at-start .pre .0, at-start .pre .1 .0 .most)
 
 write-changes-requires : tie.Need-write-changes-requires
 write-changes-requires c κs =
-    let p = c .before .before .before .before .before .before .before .before .before .before .before .pre in
-    let n = c .before .before .before .size-of .ensures in
-    let w = c .before .before .shift-of .ensures in
-    let set : 0 < c .before .before .before .before .before .before .before .before .before .before .before .args .watch = omega (arith, c .before .before .before .before .if1 .left) in
-    let some : 0 < c .before .before .before .size-of .result = omega (arith, n, p .1 .0 .least set) in
-    let low : c .before .before .before .size-of .result ≤ c .before .before .before .before .before .before .before .before .before .before .before .args .head .capacity = omega (arith, n, p .1 .0 .most) in
+    let at-shift-of = c .before .before in
+    let at-size-of = at-shift-of .before in
+    let at-if1 = at-size-of .before in
+    let at-start = at-if1 .before .before .before .before .before .before .before in
+    let p = at-start .pre in
+    let n = at-size-of .size-of .ensures in
+    let w = at-shift-of .shift-of .ensures in
+    let set : 0 < at-start .args .watch = omega (arith, at-if1 .if1 .left) in
+    let some : 0 < at-size-of .size-of .result = omega (arith, n, p .1 .0 .least set) in
+    let low : at-size-of .size-of .result ≤ at-start .args .head .capacity = omega (arith, n, p .1 .0 .most) in
     rw (p .1 .1 .0) (
       ready-of (p .1 .1 .1 .0) _ some low w,
       (
         retired-of (p .1 .1 .1 .0) _ some low w _ (p .1 .1 .1 .1 .0),
         (
           p .1 .1 .1 .1 .1 .0,
-          rw (watch-some (c .before .before .before .before .before .before .before .before .before .before .before .args .head) (now (c .before .before .before .before .before .before .before .before .before .before .before .args .lower-ends)) (rows (c .before .before .before .before .before .before .before .before .before .before .before .args .head .dimensions) (c .before .before .before .before .before .before .before .before .before .before .before .args .head .directions) (now (c .before .before .before .before .before .before .before .before .before .before .before .args .columns)) (now (c .before .before .before .before .before .before .before .before .before .before .before .args .upper-ends)) (now (c .before .before .before .before .before .before .before .before .before .before .before .args .quote))) (c .before .before .before .before .before .before .before .before .before .before .before .args .lower) (c .before .before .before .before .before .before .before .before .before .before .before .args .watch) (c .before .before .before .before .if1 .left) n w (c .before .kinds-of .ensures)) at (p .1 .1 .1 .1 .1 .1),
+          rw (watch-some (at-start .args .head) (now (at-start .args .lower-ends)) (rows (at-start .args .head .dimensions) (at-start .args .head .directions) (now (at-start .args .columns)) (now (at-start .args .upper-ends)) (now (at-start .args .quote))) (at-start .args .lower) (at-start .args .watch) (at-if1 .if1 .left) n w (c .before .kinds-of .ensures)) at (p .1 .1 .1 .1 .1 .1),
         ),
       ),
     )
@@ -50,8 +59,14 @@ same-length c = search needs
 
 returns-2 : tie.Need-returns-2
 returns-2 c =
-    rw (watch-some (c .before .before .before .before .before .before .before .before .before .before .before .before .before .before .args .head) (now (c .before .before .before .before .before .before .before .before .before .before .before .before .before .before .args .lower-ends)) (rows (c .before .before .before .before .before .before .before .before .before .before .before .before .before .before .args .head .dimensions) (c .before .before .before .before .before .before .before .before .before .before .before .before .before .before .args .head .directions) (now (c .before .before .before .before .before .before .before .before .before .before .before .before .before .before .args .columns)) (now (c .before .before .before .before .before .before .before .before .before .before .before .before .before .before .args .upper-ends)) (now (c .before .before .before .before .before .before .before .before .before .before .before .before .before .before .args .quote))) (c .before .before .before .before .before .before .before .before .before .before .before .before .before .before .args .lower) (c .before .before .before .before .before .before .before .before .before .before .before .before .before .before .args .watch) (c .before .before .before .before .before .before .before .if1 .left) (c .before .before .before .before .before .before .size-of .ensures) (c .before .before .before .before .before .shift-of .ensures) (c .before .before .before .before .kinds-of .ensures))
-    (rw (c .before .before .before .before .before .before .before .before .before .before .before .before .before .before .pre .1 .1 .0) at (c .before .before .write-changes .ensures))
+    let at-write-changes = c .before .before in
+    let at-kinds-of = at-write-changes .before .before in
+    let at-shift-of = at-kinds-of .before in
+    let at-size-of = at-shift-of .before in
+    let at-if1 = at-size-of .before in
+    let at-start = at-if1 .before .before .before .before .before .before .before in
+    rw (watch-some (at-start .args .head) (now (at-start .args .lower-ends)) (rows (at-start .args .head .dimensions) (at-start .args .head .directions) (now (at-start .args .columns)) (now (at-start .args .upper-ends)) (now (at-start .args .quote))) (at-start .args .lower) (at-start .args .watch) (at-if1 .if1 .left) (at-size-of .size-of .ensures) (at-shift-of .shift-of .ensures) (at-kinds-of .kinds-of .ensures))
+    (rw (at-start .pre .1 .1 .0) at (at-write-changes .write-changes .ensures))
 
 pub write-watch-spec : {M : Type 1} → statement M
 write-watch-spec =

@@ -16,7 +16,9 @@ abbrev μ-loop : tie.MeasureT-loop
 μ-loop kind n retired lower-ends first shift out₀ at₀ k₀ out at k = length retired - k
 
 loop-holds : tie.Need-loop-holds Inv-loop μ-loop
-loop-holds c = leaving-start _ _ _ _ _ _ _ (c .before .before .before .pre .1 .1)
+loop-holds c =
+    let at-start = c .before .before .before in
+    leaving-start _ _ _ _ _ _ _ (at-start .pre .1 .1)
 
 mul-i : tie.Need-mul-i Inv-loop μ-loop
 mul-i c = search needs
@@ -31,20 +33,31 @@ cast-position : tie.Need-cast-position Inv-loop μ-loop
 cast-position c = omega (arith, c .shared-slice-known3 .given (c .before .before .loop .k))
 
 add-position : tie.Need-add-position Inv-loop μ-loop
-add-position c = omega (arith, c .before .before .before .before .before .before .pre .0, c .shared-slice-known3 .given (c .before .before .loop .k))
+add-position c =
+    let at-loop = c .before .before in
+    let at-start = at-loop .before .before .before .before in
+    omega (arith, at-start .pre .0, c .shared-slice-known3 .given (at-loop .loop .k))
 
 mul-leaves : tie.Need-mul-leaves Inv-loop μ-loop
-mul-leaves c = let low = c .before .before .before .before .before .before .pre .1 .0 .low _ (c .before .loop-test .taken) in search needs
+mul-leaves c =
+    let at-start = c .before .before .before .before .before .before in
+    let low = at-start .pre .1 .0 .low _ (c .before .loop-test .taken) in search needs
 
 shared-slice-read-leaves : tie.Need-shared-slice-read-leaves Inv-loop μ-loop
-shared-slice-read-leaves c = c .before .before .before .before .before .before .before .pre .1 .0 .low _ (c .before .before .loop-test .taken)
+shared-slice-read-leaves c =
+    let at-loop-test = c .before .before in
+    let at-start = at-loop-test .before .before .before .before .before in
+    at-start .pre .1 .0 .low _ (at-loop-test .loop-test .taken)
 
 add-k : tie.Need-add-k Inv-loop μ-loop
 add-k c = search needs
 
 -- a row that is dropped has room for its leave
 fits : (c : tie.Then1 Inv-loop μ-loop) → c .before .before .before .before .before .before .loop .at + 7 ≤ length (c .before .before .before .before .before .before .loop .out)
-fits c = leaving-fits _ _ _ _ _ (c .before .before .before .before .before .before .loop .inv) (c .before .before .before .before .before .loop-test .taken) refl (c .if1 .taken)
+fits c =
+    let at-loop-test = c .before .before .before .before .before in
+    let at-loop = at-loop-test .before in
+    leaving-fits _ _ _ _ _ (at-loop .loop .inv) (at-loop-test .loop-test .taken) refl (c .if1 .taken)
 
 sub-lay-change : tie.Need-sub-lay-change Inv-loop μ-loop
 sub-lay-change c = omega (arith, fits c)
@@ -66,13 +79,21 @@ loop-less c = search needs
 
 loop-again : tie.Need-loop-again Inv-loop μ-loop
 unfolding frame
-loop-again c = leaving-more _ _ _ _ _ (c .before .before .before .before .before .before .before .before .before .before .loop .inv) (c .before .before .before .before .before .before .before .before .before .loop-test .taken) refl (c .before .before .lay-change .ensures) (c .before .before .before .before .if1 .taken)
+loop-again c =
+    let at-lay-change = c .before .before in
+    let at-if1 = at-lay-change .before .before in
+    let at-loop-test = at-if1 .before .before .before .before .before in
+    let at-loop = at-loop-test .before in
+    leaving-more _ _ _ _ _ (at-loop .loop .inv) (at-loop-test .loop-test .taken) refl (at-lay-change .lay-change .ensures) (at-if1 .if1 .taken)
 
 loop-less-2 : tie.Need-loop-less-2 Inv-loop μ-loop
 loop-less-2 c = search needs
 
 loop-again-2 : tie.Need-loop-again-2 Inv-loop μ-loop
-loop-again-2 c = leaving-pass _ _ _ _ _ (c .before .before .before .before .before .before .loop .inv) (c .before .before .before .before .before .loop-test .taken) refl (c .if1 .left)
+loop-again-2 c =
+    let at-loop-test = c .before .before .before .before .before in
+    let at-loop = at-loop-test .before in
+    leaving-pass _ _ _ _ _ (at-loop .loop .inv) (at-loop-test .loop-test .taken) refl (c .if1 .left)
 
 same-length : tie.Need-same-length Inv-loop μ-loop
 same-length c = c .before .loop .inv .laying .front .long

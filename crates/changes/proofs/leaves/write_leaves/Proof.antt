@@ -49,7 +49,9 @@ others-room : (c : tie.After-write-fallen) → c .write-fallen .result + length 
 others-room c = front-room (front c) (R (start c)) (room (start c))
 
 write-fallen-requires : tie.Need-write-fallen-requires
-write-fallen-requires c κs = (c .before .before .before .before .before .pre .0, (c .before .before .before .before .before .pre .1 .0, fallen-room (c .before .before .before .before .before)))
+write-fallen-requires c κs =
+    let at-start = c .before .before .before .before .before in
+    (at-start .pre .0, (at-start .pre .1 .0, fallen-room (at-start)))
 
 sub-write-dropped : tie.Need-sub-write-dropped
 sub-write-dropped c = omega (arith, others-room (c .before .before))
@@ -61,16 +63,22 @@ part-write-dropped-end : tie.Need-part-write-dropped-end
 part-write-dropped-end c = search needs
 
 write-dropped-requires : tie.Need-write-dropped-requires
-write-dropped-requires c κs = (c .before .before .before .before .before .before .before .before .before .pre .1 .1 .0, (c .before .before .before .before .before .before .before .before .before .pre .1 .1 .1 .0, front-rest (front (c .before .before .before)) (R (start (c .before .before .before))) (room (start (c .before .before .before)))))
+write-dropped-requires c κs =
+    let at-start = c .before .before .before .before .before .before .before .before .before in
+    (at-start .pre .1 .1 .0, (at-start .pre .1 .1 .1 .0, front-rest (front (c .before .before .before)) (R (start (c .before .before .before))) (room (start (c .before .before .before)))))
 
 add-result : tie.Need-add-result
-add-result c = let b = (c .before .before .before .before .before .before) in omega (arith, others-room b, front b .long, start b .good, c .before .before .write-dropped .ensures .0)
+add-result c =
+    let at-write-dropped = c .before .before in
+    let b = (c .before .before .before .before .before .before) in omega (arith, others-room b, front b .long, start b .good, at-write-dropped .write-dropped .ensures .0)
 
 same-length : tie.Need-same-length
 same-length c = search needs
 
 returns : tie.Need-returns
-returns c = let b = (c .before .before .before .before .before .before) in let v = front-more (front b) (R (start b)) (room (start b)) (c .before .before .write-dropped .ensures .0) (c .before .before .write-dropped .ensures .1) in rw (both (start b)) (v .place, v .cells)
+returns c =
+    let at-write-dropped = c .before .before in
+    let b = (c .before .before .before .before .before .before) in let v = front-more (front b) (R (start b)) (room (start b)) (at-write-dropped .write-dropped .ensures .0) (at-write-dropped .write-dropped .ensures .1) in rw (both (start b)) (v .place, v .cells)
 
 pub write-leaves-spec : {M : Type 1} → statement M
 write-leaves-spec =

@@ -14,11 +14,15 @@ mul-result : tie.Need-mul-result
 mul-result c = let low = c .before .before .pre (c .if1 .left) in search needs
 
 shared-slice-read-result : tie.Need-shared-slice-read-result
-shared-slice-read-result c = c .before .before .before .pre (c .before .if1 .left)
+shared-slice-read-result c =
+    let at-start = c .before .before .before in
+    at-start .pre (c .before .if1 .left)
 
 returns-2 : tie.Need-returns-2
 unfolding mayGain live
-returns-2 c = rw (lt-ltb (c .before .before .before .args .shift .before) (c .before .before .before .args .shift .after) (c .before .if1 .left))
+returns-2 c =
+    let at-start = c .before .before .before in
+    rw (lt-ltb (at-start .args .shift .before) (at-start .args .shift .after) (c .before .if1 .left))
 
 pub may-gain-spec : {M : Type 1} → statement M
 may-gain-spec = tie.close (tie.spec returns mul-result shared-slice-read-result returns-2)

@@ -15,7 +15,9 @@ shared-slice-read-if1 c = search needs
 
 returns : tie.Need-returns
 unfolding stands
-returns c = rw (live-not (now (c .before .before .before .before .before .args .upper-ends)) (c .before .before .before .before .before .args .place) (c .if1 .taken))
+returns c =
+    let at-start = c .before .before .before .before .before in
+    rw (live-not (now (at-start .args .upper-ends)) (at-start .args .place) (c .if1 .taken))
 
 mul-compare : tie.Need-mul-compare
 mul-compare c = search needs
@@ -29,8 +31,10 @@ over-older-requires c κs = search needs
 returns-2 : tie.Need-returns-2
 unfolding stands
 returns-2 c =
-    let a = c .before .before .before .before .before .before .before .args in
-    rw (c .over-older .ensures, live-zero (now (a .upper-ends)) (a .place) (c .before .before .if1 .left), over-by (rows (a .d) (a .directions) (now (a .columns)) (now (a .upper-ends)) (now (a .quote))) (a .place) (c .before .compare .result) (c .before .compare .ensures))
+    let at-if1 = c .before .before in
+    let at-start = at-if1 .before .before .before .before .before in
+    let a = at-start .args in
+    rw (c .over-older .ensures, live-zero (now (a .upper-ends)) (a .place) (at-if1 .if1 .left), over-by (rows (a .d) (a .directions) (now (a .columns)) (now (a .upper-ends)) (now (a .quote))) (a .place) (c .before .compare .result) (c .before .compare .ensures))
 
 pub stands-spec : {M : Type 1} → statement M
 stands-spec =

@@ -91,13 +91,17 @@ fits : (c : tie.Else1) → both c .before .before .before .before .write-leaves 
 fits c = rw change-length at (front-room (second (both c)) (N (start2 (both c))) (all-room c))
 
 sub-place : tie.Need-sub-place
-sub-place c = c .before .before .before .before .before .before .before .pre .0 .starts
+sub-place c =
+    let at-start = c .before .before .before .before .before .before .before in
+    at-start .pre .0 .starts
 
 cast-place : tie.Need-cast-place
 cast-place c = search needs
 
 write-leaves-requires : tie.Need-write-leaves-requires
-write-leaves-requires c κs = let v = c .before .before .before .before .before .before .before .before .pre .0 in (λ moved. omega (arith, v .starts, v .ends, v .lower-room), (λ moved. omega (arith, v .starts, v .ends, v .fits .uppers), (omega (arith, v .cell), (retired-below _ _ v (c .before .before .before .before .before .before .before .before .pre .1 .0), rw (← parts (c .before .before .before .before .before .before .before .before)) (leaves-room (c .before .before .before .before .before .before .before .before))))))
+write-leaves-requires c κs =
+    let at-start = c .before .before .before .before .before .before .before .before in
+    let v = at-start .pre .0 in (λ moved. omega (arith, v .starts, v .ends, v .lower-room), (λ moved. omega (arith, v .starts, v .ends, v .fits .uppers), (omega (arith, v .cell), (retired-below _ _ v (at-start .pre .1 .0), rw (← parts (at-start)) (leaves-room (at-start))))))
 
 sub-write-row-joins : tie.Need-sub-write-row-joins
 sub-write-row-joins c = omega (arith, joins-room (c .before .before))
@@ -109,10 +113,14 @@ part-write-row-joins-end : tie.Need-part-write-row-joins-end
 part-write-row-joins-end c = search needs
 
 write-row-joins-requires : tie.Need-write-row-joins-requires
-write-row-joins-requires c κs = (c .before .before .before .before .before .before .before .before .before .before .before .before .pre .0, (refl, (c .before .before .before .before .before .before .before .before .before .before .before .before .pre .1 .1 .0, front-rest (front (c .before .before .before)) (J (start (c .before .before .before))) (rows-room (start (c .before .before .before))))))
+write-row-joins-requires c κs =
+    let at-start = c .before .before .before .before .before .before .before .before .before .before .before .before in
+    (at-start .pre .0, (refl, (at-start .pre .1 .1 .0, front-rest (front (c .before .before .before)) (J (start (c .before .before .before))) (rows-room (start (c .before .before .before))))))
 
 add-at : tie.Need-add-at
-add-at c = let b = (c .before .before .before .before .before .before) in omega (arith, joins-room b, front b .long, start b .good, c .before .before .write-row-joins .ensures .0)
+add-at c =
+    let at-write-row-joins = c .before .before in
+    let b = (c .before .before .before .before .before .before) in omega (arith, joins-room b, front b .long, start b .good, at-write-row-joins .write-row-joins .ensures .0)
 
 same-length : tie.Need-same-length
 same-length c = search needs
@@ -121,7 +129,9 @@ returns : tie.Need-returns
 returns c = let b = (c .before .before .before .before) in rw (unlisted-frames (start2 b) (c .if1 .taken)) (second b .place, second b .cells)
 
 add-lay-change : tie.Need-add-lay-change
-add-lay-change c = omega (arith, c .before .before .before .before .before .before .before .before .before .before .before .before .before .before .before .before .before .before .pre .0 .cell)
+add-lay-change c =
+    let at-start = c .before .before .before .before .before .before .before .before .before .before .before .before .before .before .before .before .before .before in
+    omega (arith, at-start .pre .0 .cell)
 
 sub-lay-change : tie.Need-sub-lay-change
 sub-lay-change c = omega (arith, fits (c .before))
@@ -143,7 +153,9 @@ same-length-2 c = search needs
 
 returns-2 : tie.Need-returns-2
 unfolding frame
-returns-2 c = let b = (c .before .before .before .before .before) in let v = front-more (second (both b)) (N (start2 (both b))) (all-room b) (sym (change-length (start2 (both b) .args .kinds .join) (start2 (both b) .args .n) (start2 (both b) .args .first + start2 (both b) .args .head .held))) (c .before .before .lay-change .ensures) in rw (listed-frames (start2 (both b)) (b .if1 .left)) (v .place, v .cells)
+returns-2 c =
+    let at-lay-change = c .before .before in
+    let b = (c .before .before .before .before .before) in let v = front-more (second (both b)) (N (start2 (both b))) (all-room b) (sym (change-length (start2 (both b) .args .kinds .join) (start2 (both b) .args .n) (start2 (both b) .args .first + start2 (both b) .args .head .held))) (at-lay-change .lay-change .ensures) in rw (listed-frames (start2 (both b)) (b .if1 .left)) (v .place, v .cells)
 
 pub write-changes-spec : {M : Type 1} → statement M
 write-changes-spec =

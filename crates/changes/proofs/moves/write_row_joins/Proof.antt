@@ -24,11 +24,15 @@ abbrev μ-loop : tie.MeasureT-loop
 μ-loop kind n head columns lower-ends upper-ends quote first place shift sound out₀ count d at₀ i₀ out at i = count - i
 
 may-gain-requires : tie.Need-may-gain-requires Inv-loop μ-loop
-may-gain-requires c κs = λ moved. omega (arith, c .before .before .before .before .before .pre .0 .starts, c .before .before .before .before .before .pre .0 .ends, c .before .before .before .before .before .pre .0 .fits .uppers, c .before .before .before .before .before .pre .1 .0)
+may-gain-requires c κs =
+    let at-start = c .before .before .before .before .before in
+    λ moved. omega (arith, at-start .pre .0 .starts, at-start .pre .0 .ends, at-start .pre .0 .fits .uppers, at-start .pre .1 .0)
 
 returns : tie.Need-returns Inv-loop μ-loop
 unfolding laid frames flat
-returns c = let none = sym (c .before .may-gain .ensures) ∙ not-true (c .before .may-gain .result) (c .if1 .taken) in rw (joins-none (held (c .before .before .before .before .before .before .before .args .first) (c .before .before .before .before .before .before .before .args .head .held) (now (c .before .before .before .before .before .before .before .args .lower-ends)) (rows (c .before .before .before .before .before .before .before .args .head .dimensions) (c .before .before .before .before .before .before .before .args .head .directions) (now (c .before .before .before .before .before .before .before .args .columns)) (now (c .before .before .before .before .before .before .before .args .upper-ends)) (now (c .before .before .before .before .before .before .before .args .quote)))) (c .before .before .before .before .before .before .before .args .shift) (c .before .before .before .before .before .before .before .pre .0) (c .before .before .before .before .before .before .before .args .sound) (c .before .before .before .before .before .before .before .pre .1 .1 .0) (rw (c .before .before .before .before .before .before .before .pre .1 .0) at none)) (refl, refl)
+returns c =
+    let at-start = c .before .before .before .before .before .before .before in
+    let none = sym (c .before .may-gain .ensures) ∙ not-true (c .before .may-gain .result) (c .if1 .taken) in rw (joins-none (held (at-start .args .first) (at-start .args .head .held) (now (at-start .args .lower-ends)) (rows (at-start .args .head .dimensions) (at-start .args .head .directions) (now (at-start .args .columns)) (now (at-start .args .upper-ends)) (now (at-start .args .quote)))) (at-start .args .shift) (at-start .pre .0) (at-start .args .sound) (at-start .pre .1 .1 .0) (rw (at-start .pre .1 .0) at none)) (refl, refl)
 
 cast-count : tie.Need-cast-count Inv-loop μ-loop
 cast-count c = search needs
@@ -37,32 +41,55 @@ cast-d : tie.Need-cast-d Inv-loop μ-loop
 cast-d c = search needs
 
 add-next-equal : tie.Need-add-next-equal Inv-loop μ-loop
-add-next-equal c = omega (arith, c .before .before .before .before .before .before .before .before .before .pre .0 .cell, c .before .before .before .before .before .before .before .before .before .pre .0 .starts, c .before .before .before .before .before .before .before .before .before .pre .0 .by-one, c .before .before .before .before .before .before .before .before .before .pre .0 .ends, c .before .before .before .before .before .before .before .before .before .pre .1 .0)
+add-next-equal c =
+    let at-start = c .before .before .before .before .before .before .before .before .before in
+    omega (arith, at-start .pre .0 .cell, at-start .pre .0 .starts, at-start .pre .0 .by-one, at-start .pre .0 .ends, at-start .pre .1 .0)
 
 next-equal-requires : tie.Need-next-equal-requires Inv-loop μ-loop
-next-equal-requires c κs = let moved = gain-moves _ _ (c .before .before .before .before .before .before .before .before .before .args .shift) _ (sym (c .before .before .before .may-gain .ensures) ∙ not-false (c .before .before .before .may-gain .result) (c .before .before .if1 .left)) in (omega (arith, c .before .before .before .before .before .before .before .before .before .pre .0 .starts, c .before .before .before .before .before .before .before .before .before .pre .0 .ends, c .before .before .before .before .before .before .before .before .before .pre .1 .0), c .before .before .before .before .before .before .before .before .before .pre .0 .lower-room)
+next-equal-requires c κs =
+    let at-if1 = c .before .before in
+    let at-may-gain = at-if1 .before in
+    let at-start = at-may-gain .before .before .before .before .before .before in
+    let moved = gain-moves _ _ (at-start .args .shift) _ (sym (at-may-gain .may-gain .ensures) ∙ not-false (at-may-gain .may-gain .result) (at-if1 .if1 .left)) in (omega (arith, at-start .pre .0 .starts, at-start .pre .0 .ends, at-start .pre .1 .0), at-start .pre .0 .lower-room)
 
 loop-holds : tie.Need-loop-holds Inv-loop μ-loop
-loop-holds c = joining-start (c .before .before .before .before .before .before .before .before .before .before .pre .0) _ (c .before .before .before .before .before .before .before .before .before .before .pre .1 .1 .1) (c .before .before .before .before .before .before .before .before .before .before .pre .1 .0) (gain-moves _ _ (c .before .before .before .before .before .before .before .before .before .before .args .shift) _ (sym (c .before .before .before .before .may-gain .ensures) ∙ not-false (c .before .before .before .before .may-gain .result) (c .before .before .before .if1 .left))) (c .next-equal .ensures)
+loop-holds c =
+    let at-if1 = c .before .before .before in
+    let at-may-gain = at-if1 .before in
+    let at-start = at-may-gain .before .before .before .before .before .before in
+    joining-start (at-start .pre .0) _ (at-start .pre .1 .1 .1) (at-start .pre .1 .0) (gain-moves _ _ (at-start .args .shift) _ (sym (at-may-gain .may-gain .ensures) ∙ not-false (at-may-gain .may-gain .result) (at-if1 .if1 .left))) (c .next-equal .ensures)
 
 cast-position : tie.Need-cast-position Inv-loop μ-loop
-cast-position c = let small = c .before .before .before .before .before .before .before .before .before .before .before .before .pre .0 .cell in search needs
+cast-position c =
+    let at-start = c .before .before .before .before .before .before .before .before .before .before .before .before in
+    let small = at-start .pre .0 .cell in search needs
 
 add-position : tie.Need-add-position Inv-loop μ-loop
-add-position c = omega (arith, c .before .before .before .before .before .before .before .before .before .before .before .before .pre .0 .cell, c .loop-test .taken)
+add-position c =
+    let at-start = c .before .before .before .before .before .before .before .before .before .before .before .before in
+    omega (arith, at-start .pre .0 .cell, c .loop-test .taken)
 
 stands-requires : tie.Need-stands-requires Inv-loop μ-loop
-stands-requires c κs = fits-less _ (c .loop-test .taken) (c .before .before .before .before .before .before .before .before .before .before .before .before .pre .0 .fits)
+stands-requires c κs =
+    let at-start = c .before .before .before .before .before .before .before .before .before .before .before .before in
+    fits-less _ (c .loop-test .taken) (at-start .pre .0 .fits)
 
 add-next-equal-2 : tie.Need-add-next-equal-2 Inv-loop μ-loop
 add-next-equal-2 c = search needs
 
 next-equal-requires-2 : tie.Need-next-equal-requires-2 Inv-loop μ-loop
-next-equal-requires-2 c κs = (omega (arith, c .before .loop-test .taken), c .before .before .before .before .before .before .before .before .before .before .before .before .before .pre .0 .lower-room)
+next-equal-requires-2 c κs =
+    let at-start = c .before .before .before .before .before .before .before .before .before .before .before .before .before in
+    (omega (arith, c .before .loop-test .taken), at-start .pre .0 .lower-room)
 
 -- a row that joins has room for its join
 fits : (c : tie.Then2 Inv-loop μ-loop) → c .before .before .before .before .loop .at + 7 ≤ length (c .before .before .before .before .loop .out)
-fits c = joining-fits (c .before .before .before .before .before .before .before .before .before .before .before .before .before .before .before .pre .0) (c .before .before .before .before .loop .inv) (c .before .before .before .loop-test .taken) (c .before .next-equal2 .ensures) (c .before .before .stands .ensures) (c .if2 .taken)
+fits c =
+    let at-stands = c .before .before in
+    let at-loop-test = at-stands .before in
+    let at-loop = at-loop-test .before in
+    let at-start = at-loop .before .before .before .before .before .before .before .before .before .before .before in
+    joining-fits (at-start .pre .0) (at-loop .loop .inv) (at-loop-test .loop-test .taken) (c .before .next-equal2 .ensures) (at-stands .stands .ensures) (c .if2 .taken)
 
 sub-lay-change : tie.Need-sub-lay-change Inv-loop μ-loop
 sub-lay-change c = omega (arith, fits c)
@@ -77,26 +104,49 @@ lay-change-requires : tie.Need-lay-change-requires Inv-loop μ-loop
 lay-change-requires c κs = simp (length-take, length-drop) (omega (arith, fits (c .before)))
 
 add-at : tie.Need-add-at Inv-loop μ-loop
-add-at c = omega (arith, fits (c .before .before .before .before), c .before .before .before .before .before .before .before .before .loop .inv .writing .laying .front .long, c .before .before .before .before .before .before .before .before .before .before .before .before .before .before .before .before .before .before .before .good)
+add-at c =
+    let at-loop = c .before .before .before .before .before .before .before .before in
+    let at-good = at-loop .before .before .before .before .before .before .before .before .before .before .before in
+    omega (arith, fits (c .before .before .before .before), at-loop .loop .inv .writing .laying .front .long, at-good .good)
 
 loop-less : tie.Need-loop-less Inv-loop μ-loop
-loop-less c = omega (arith, c .before .before .before .before .before .next-equal2 .ensures .passed .low, c .before .before .before .before .before .before .before .loop-test .taken)
+loop-less c =
+    let at-next-equal2 = c .before .before .before .before .before in
+    let at-loop-test = at-next-equal2 .before .before in
+    omega (arith, at-next-equal2 .next-equal2 .ensures .passed .low, at-loop-test .loop-test .taken)
 
 loop-again : tie.Need-loop-again Inv-loop μ-loop
 unfolding frame
-loop-again c = joining-more (c .before .before .before .before .before .before .before .before .before .before .before .before .before .before .before .before .before .before .before .pre .0) (c .before .before .before .before .before .before .before .before .loop .inv) (c .before .before .before .before .before .before .before .loop-test .taken) (c .before .before .before .before .before .next-equal2 .ensures) (c .before .before .before .before .before .before .stands .ensures) (c .before .before .lay-change .ensures) (c .before .before .before .before .if2 .taken)
+loop-again c =
+    let at-lay-change = c .before .before in
+    let at-if2 = at-lay-change .before .before in
+    let at-next-equal2 = at-if2 .before in
+    let at-stands = at-next-equal2 .before in
+    let at-loop-test = at-stands .before in
+    let at-loop = at-loop-test .before in
+    let at-start = at-loop .before .before .before .before .before .before .before .before .before .before .before in
+    joining-more (at-start .pre .0) (at-loop .loop .inv) (at-loop-test .loop-test .taken) (at-next-equal2 .next-equal2 .ensures) (at-stands .stands .ensures) (at-lay-change .lay-change .ensures) (at-if2 .if2 .taken)
 
 loop-less-2 : tie.Need-loop-less-2 Inv-loop μ-loop
-loop-less-2 c = omega (arith, c .before .next-equal2 .ensures .passed .low, c .before .before .before .loop-test .taken)
+loop-less-2 c =
+    let at-loop-test = c .before .before .before in
+    omega (arith, c .before .next-equal2 .ensures .passed .low, at-loop-test .loop-test .taken)
 
 loop-again-2 : tie.Need-loop-again-2 Inv-loop μ-loop
-loop-again-2 c = joining-pass (c .before .before .before .before .before .before .before .before .before .before .before .before .before .before .before .pre .0) (c .before .before .before .before .loop .inv) (c .before .before .before .loop-test .taken) (c .before .next-equal2 .ensures) (c .before .before .stands .ensures) (c .if2 .left)
+loop-again-2 c =
+    let at-stands = c .before .before in
+    let at-loop-test = at-stands .before in
+    let at-loop = at-loop-test .before in
+    let at-start = at-loop .before .before .before .before .before .before .before .before .before .before .before in
+    joining-pass (at-start .pre .0) (at-loop .loop .inv) (at-loop-test .loop-test .taken) (c .before .next-equal2 .ensures) (at-stands .stands .ensures) (c .if2 .left)
 
 same-length : tie.Need-same-length Inv-loop μ-loop
 same-length c = c .before .loop .inv .writing .laying .front .long
 
 returns-2 : tie.Need-returns-2 Inv-loop μ-loop
-returns-2 c = joining-all (c .before .before .before .before .before .before .before .before .before .before .before .before .pre .0) (c .before .loop .inv) (c .loop-test .left)
+returns-2 c =
+    let at-start = c .before .before .before .before .before .before .before .before .before .before .before .before in
+    joining-all (at-start .pre .0) (c .before .loop .inv) (c .loop-test .left)
 
 pub write-row-joins-spec : {M : Type 1} → statement M
 write-row-joins-spec =

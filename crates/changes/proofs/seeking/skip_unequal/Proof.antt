@@ -19,19 +19,33 @@ sub-loop : tie.Need-sub-loop Inv-loop μ-loop
 sub-loop c = omega (arith, c .loop .inv .high)
 
 any-equal-requires : tie.Need-any-equal-requires Inv-loop μ-loop
-any-equal-requires c κs = omega (arith, c .before .loop .inv .high, c .loop-test .taken, c .before .before .before .pre .1 .0)
+any-equal-requires c κs =
+    let at-start = c .before .before .before in
+    omega (arith, c .before .loop .inv .high, c .loop-test .taken, at-start .pre .1 .0)
 
 returns : tie.Need-returns Inv-loop μ-loop
-returns c = c .before .before .before .loop .inv
+returns c =
+    let at-loop = c .before .before .before in
+    at-loop .loop .inv
 
 add-i : tie.Need-add-i Inv-loop μ-loop
-add-i c = omega (arith, c .before .before .before .loop .inv .high, c .before .before .loop-test .taken)
+add-i c =
+    let at-loop-test = c .before .before in
+    let at-loop = at-loop-test .before in
+    omega (arith, at-loop .loop .inv .high, at-loop-test .loop-test .taken)
 
 loop-less : tie.Need-loop-less Inv-loop μ-loop
-loop-less c = omega (arith, c .before .before .before .loop .inv .high, c .before .before .loop-test .taken, c .before .before .before .before .before .pre .1 .1)
+loop-less c =
+    let at-loop-test = c .before .before in
+    let at-loop = at-loop-test .before in
+    let at-start = at-loop .before .before in
+    omega (arith, at-loop .loop .inv .high, at-loop-test .loop-test .taken, at-start .pre .1 .1)
 
 loop-again : tie.Need-loop-again Inv-loop μ-loop
-loop-again c = unequal-block _ _ _ _ (c .before .before .before .loop .inv) (c .before .before .loop-test .taken) (c .before .any-equal .ensures) (c .if1 .left)
+loop-again c =
+    let at-loop-test = c .before .before in
+    let at-loop = at-loop-test .before in
+    unequal-block _ _ _ _ (at-loop .loop .inv) (at-loop-test .loop-test .taken) (c .before .any-equal .ensures) (c .if1 .left)
 
 returns-2 : tie.Need-returns-2 Inv-loop μ-loop
 returns-2 c = c .before .loop .inv

@@ -20,7 +20,9 @@ above-three-requires-2 : tie.Need-above-three-requires-2
 above-three-requires-2 c κs = search needs
 
 add-result : tie.Need-add-result
-add-result c = omega (arith, bounded-of-desk One (c .before .before .before .before .args .watches), bounded-of-desk Two (c .before .before .before .before .args .watches))
+add-result c =
+    let at-start = c .before .before .before .before in
+    omega (arith, bounded-of-desk One (at-start .args .watches), bounded-of-desk Two (at-start .args .watches))
 
 returns : tie.Need-returns
 unfolding aboveShares

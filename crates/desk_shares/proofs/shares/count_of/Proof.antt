@@ -32,19 +32,28 @@ add-seen : tie.Need-add-seen Inv-loop μ-loop
 add-seen c = omega arith
 
 add-count : tie.Need-add-count Inv-loop μ-loop
-add-count c = omega (arith, bounded-counted _ _ _ _ (c .before .before .before .loop .inv) (c .before .before .loop-test .taken))
+add-count c =
+    let at-loop-test = c .before .before in
+    let at-loop = at-loop-test .before in
+    omega (arith, bounded-counted _ _ _ _ (at-loop .loop .inv) (at-loop-test .loop-test .taken))
 
 loop-less : tie.Need-loop-less Inv-loop μ-loop
 loop-less c = omega arith
 
 loop-again : tie.Need-loop-again Inv-loop μ-loop
-loop-again c = more-owned _ _ _ _ (c .before .before .before .loop .inv) (c .before .before .loop-test .taken) (sym (c .before .desk-of .ensures) ∙ c .if1 .taken)
+loop-again c =
+    let at-loop-test = c .before .before in
+    let at-loop = at-loop-test .before in
+    more-owned _ _ _ _ (at-loop .loop .inv) (at-loop-test .loop-test .taken) (sym (c .before .desk-of .ensures) ∙ c .if1 .taken)
 
 loop-less-2 : tie.Need-loop-less-2 Inv-loop μ-loop
 loop-less-2 c = omega arith
 
 loop-again-2 : tie.Need-loop-again-2 Inv-loop μ-loop
-loop-again-2 c = more-other _ _ _ _ (c .before .before .before .loop .inv) (c .before .before .loop-test .taken) (λ e. c .if1 .left (c .before .desk-of .ensures ∙ e))
+loop-again-2 c =
+    let at-loop-test = c .before .before in
+    let at-loop = at-loop-test .before in
+    more-other _ _ _ _ (at-loop .loop .inv) (at-loop-test .loop-test .taken) (λ e. c .if1 .left (c .before .desk-of .ensures ∙ e))
 
 returns : tie.Need-returns Inv-loop μ-loop
 returns c = finish-count _ _ _ _ _ (c .before .before .desk-number .ensures) (c .before .loop .inv) (c .loop-test .left)

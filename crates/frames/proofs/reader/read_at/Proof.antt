@@ -57,7 +57,8 @@ returns-5 c = whole _ _ (omega arith) (λ e. omega arith) _ _ _ (omega arith) (o
 
 quote-at-requires : tie.Need-quote-at-requires
 quote-at-requires c κs =
-    let args = c .before .before .before .before .before .before .before .before .args in
+    let at-start = c .before .before .before .before .before .before .before .before in
+    let args = at-start .args in
     let kind = getD (args .tape .now) (args .place) 0 in
     let some : 1 ≤ kind = low-quote kind (λ e. omega arith) in
     (some, (omega arith, omega (arith, quote-body kind some (omega arith))))

@@ -19,13 +19,18 @@ invalid-requires : tie.Need-invalid-requires
 invalid-requires c κs = search needs
 
 returns-3 : tie.Need-returns-3
-returns-3 c = c .invalid .ensures ∙ after-low _ _ (not-false _ (c .before .before .before .if1 .left)) (c .before .if3 .taken) (c .before .before .if2 .left)
+returns-3 c =
+    let at-if2 = c .before .before in
+    let at-if1 = at-if2 .before in
+    c .invalid .ensures ∙ after-low _ _ (not-false _ (at-if1 .if1 .left)) (c .before .if3 .taken) (at-if2 .if2 .left)
 
 invalid-requires-2 : tie.Need-invalid-requires-2
 invalid-requires-2 c κs = search needs
 
 returns-4 : tie.Need-returns-4
-returns-4 c = c .invalid2 .ensures ∙ after-high _ _ (not-false _ (c .before .before .before .before .if1 .left)) (c .before .if4 .taken)
+returns-4 c =
+    let at-if1 = c .before .before .before .before in
+    c .invalid2 .ensures ∙ after-high _ _ (not-false _ (at-if1 .if1 .left)) (c .before .if4 .taken)
 
 cast-grown : tie.Need-cast-grown
 cast-grown c = search needs
@@ -34,7 +39,10 @@ grown-requires : tie.Need-grown-requires
 grown-requires c κs = search needs
 
 returns-5 : tie.Need-returns-5
-returns-5 c = c .grown .ensures ∙ after-digit _ _ (not-false _ (c .before .before .before .before .if1 .left)) (c .before .before .if3 .left) (c .before .if4 .left)
+returns-5 c =
+    let at-if3 = c .before .before in
+    let at-if1 = at-if3 .before .before in
+    c .grown .ensures ∙ after-digit _ _ (not-false _ (at-if1 .if1 .left)) (at-if3 .if3 .left) (c .before .if4 .left)
 
 pub after-spec : {M : Type 1} → statement M
 after-spec =

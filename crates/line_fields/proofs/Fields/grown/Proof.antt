@@ -27,7 +27,10 @@ invalid-requires-3 : tie.Need-invalid-requires-3
 invalid-requires-3 c κs = search needs
 
 returns-3 : tie.Need-returns-3
-returns-3 c = c .invalid3 .ensures ∙ grown-zero _ _ (c .before .before .before .if1 .left) (c .before .before .if2 .left) (c .before .if3 .taken)
+returns-3 c =
+    let at-if2 = c .before .before in
+    let at-if1 = at-if2 .before in
+    c .invalid3 .ensures ∙ grown-zero _ _ (at-if1 .if1 .left) (at-if2 .if2 .left) (c .before .if3 .taken)
 
 extended-requires : tie.Need-extended-requires
 extended-requires c κs = search needs
@@ -36,7 +39,12 @@ invalid-requires-4 : tie.Need-invalid-requires-4
 invalid-requires-4 c κs = search needs
 
 returns-4 : tie.Need-returns-4
-returns-4 c = c .invalid4 .ensures ∙ grown-large _ _ (c .before .before .before .before .before .if1 .left) (c .before .before .before .before .if2 .left) (c .before .before .before .if3 .left) (c .before .before .extended .ensures) (c .before .if4 .taken)
+returns-4 c =
+    let at-extended = c .before .before in
+    let at-if3 = at-extended .before in
+    let at-if2 = at-if3 .before in
+    let at-if1 = at-if2 .before in
+    c .invalid4 .ensures ∙ grown-large _ _ (at-if1 .if1 .left) (at-if2 .if2 .left) (at-if3 .if3 .left) (at-extended .extended .ensures) (c .before .if4 .taken)
 
 cast-numbers : tie.Need-cast-numbers
 cast-numbers c = search needs
@@ -48,7 +56,11 @@ array-write-numbers : tie.Need-array-write-numbers
 array-write-numbers c = search needs
 
 returns-5 : tie.Need-returns-5
-returns-5 c = grown-next _ _ (c .before .before .before .before .if1 .left) (c .before .before .before .if2 .left) (c .before .before .if3 .left) (c .before .extended .ensures) (c .if4 .left)
+returns-5 c =
+    let at-if3 = c .before .before in
+    let at-if2 = at-if3 .before in
+    let at-if1 = at-if2 .before in
+    grown-next _ _ (at-if1 .if1 .left) (at-if2 .if2 .left) (at-if3 .if3 .left) (c .before .extended .ensures) (c .if4 .left)
 
 pub grown-spec : {M : Type 1} → statement M
 grown-spec =

@@ -43,9 +43,11 @@ cast-n c = search needs
 
 add-n : tie.Need-add-n Inv-loop μ-loop
 add-n c =
-    let known = c .before .before .before .args in
-    let small = byte-small (ltb (getD (known .lower-ends .now) (c .before .before .loop .i) 0) (known .c)) in
-    omega (arith, small, c .before .before .loop .inv .counted .bounded, c .before .before .before .pre .starts)
+    let at-loop = c .before .before in
+    let at-start = at-loop .before in
+    let known = at-start .args in
+    let small = byte-small (ltb (getD (known .lower-ends .now) (at-loop .loop .i) 0) (known .c)) in
+    omega (arith, small, at-loop .loop .inv .counted .bounded, at-start .pre .starts)
 
 add-i : tie.Need-add-i Inv-loop μ-loop
 add-i c = search needs

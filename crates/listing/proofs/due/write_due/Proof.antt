@@ -52,43 +52,75 @@ add-i c = search needs
 
 -- a position that is due has room for its cells
 fits : (c : tie.Then1 Inv-loop μ-loop) → c .before .before .before .loop .at + 2 ≤ length (c .before .before .before .loop .out)
-fits c = writing-fits (c .before .before .before .loop .inv .writing) (c .before .before .loop-test .taken) (due-inside _ _ _ _ _ (c .before .before .before .loop .inv .reached)) (c .if1 .taken)
+fits c =
+    let at-loop-test = c .before .before in
+    let at-loop = at-loop-test .before in
+    writing-fits (at-loop .loop .inv .writing) (at-loop-test .loop-test .taken) (due-inside _ _ _ _ _ (at-loop .loop .inv .reached)) (c .if1 .taken)
 
 mul-out : tie.Need-mul-out Inv-loop μ-loop
-mul-out c = omega (arith, fits c, c .before .before .before .loop .inv .reached, c .before .before .before .before .pre .1 .0, c .before .before .before .before .pre .1 .1 .0)
+mul-out c =
+    let at-loop = c .before .before .before in
+    let at-start = at-loop .before in
+    omega (arith, fits c, at-loop .loop .inv .reached, at-start .pre .1 .0, at-start .pre .1 .1 .0)
 
 slice-write-out : tie.Need-slice-write-out Inv-loop μ-loop
-slice-write-out c = omega (arith, fits c, c .before .before .before .loop .inv .reached, c .before .before .before .before .pre .1 .0, c .before .before .before .before .pre .1 .1 .0)
+slice-write-out c =
+    let at-loop = c .before .before .before in
+    let at-start = at-loop .before in
+    omega (arith, fits c, at-loop .loop .inv .reached, at-start .pre .1 .0, at-start .pre .1 .1 .0)
 
 add-out : tie.Need-add-out Inv-loop μ-loop
-add-out c = omega (arith, fits c, c .before .before .before .loop .inv .reached, c .before .before .before .before .pre .1 .0, c .before .before .before .before .pre .1 .1 .0)
+add-out c =
+    let at-loop = c .before .before .before in
+    let at-start = at-loop .before in
+    omega (arith, fits c, at-loop .loop .inv .reached, at-start .pre .1 .0, at-start .pre .1 .1 .0)
 
 add-out-2 : tie.Need-add-out-2 Inv-loop μ-loop
-add-out-2 c = omega (arith, fits c, c .before .before .before .loop .inv .reached, c .before .before .before .before .pre .1 .0, c .before .before .before .before .pre .1 .1 .0)
+add-out-2 c =
+    let at-loop = c .before .before .before in
+    let at-start = at-loop .before in
+    omega (arith, fits c, at-loop .loop .inv .reached, at-start .pre .1 .0, at-start .pre .1 .1 .0)
 
 sub-out : tie.Need-sub-out Inv-loop μ-loop
-sub-out c = omega (arith, fits c, c .before .before .before .loop .inv .reached, c .before .before .before .before .pre .1 .0, c .before .before .before .before .pre .1 .1 .0)
+sub-out c =
+    let at-loop = c .before .before .before in
+    let at-start = at-loop .before in
+    omega (arith, fits c, at-loop .loop .inv .reached, at-start .pre .1 .0, at-start .pre .1 .1 .0)
 
 add-out-3 : tie.Need-add-out-3 Inv-loop μ-loop
-add-out-3 c = omega (arith, fits c, c .before .before .before .loop .inv .reached, c .before .before .before .before .pre .1 .0, c .before .before .before .before .pre .1 .1 .0)
+add-out-3 c =
+    let at-loop = c .before .before .before in
+    let at-start = at-loop .before in
+    omega (arith, fits c, at-loop .loop .inv .reached, at-start .pre .1 .0, at-start .pre .1 .1 .0)
 
 mul-out-2 : tie.Need-mul-out-2 Inv-loop μ-loop
-mul-out-2 c = omega (arith, fits c, c .before .before .before .loop .inv .reached, c .before .before .before .before .pre .1 .0, c .before .before .before .before .pre .1 .1 .0)
+mul-out-2 c =
+    let at-loop = c .before .before .before in
+    let at-start = at-loop .before in
+    omega (arith, fits c, at-loop .loop .inv .reached, at-start .pre .1 .0, at-start .pre .1 .1 .0)
 
 slice-write-out-2 : tie.Need-slice-write-out-2 Inv-loop μ-loop
-slice-write-out-2 c = simp length-set (omega (arith, fits c, c .before .before .before .loop .inv .reached, c .before .before .before .before .pre .1 .0, c .before .before .before .before .pre .1 .1 .0))
+slice-write-out-2 c =
+    let at-loop = c .before .before .before in
+    let at-start = at-loop .before in
+    simp length-set (omega (arith, fits c, at-loop .loop .inv .reached, at-start .pre .1 .0, at-start .pre .1 .1 .0))
 
 add-at : tie.Need-add-at Inv-loop μ-loop
-add-at c = omega (arith, fits c, c .before .before .before .loop .inv .reached, c .before .before .before .before .pre .1 .0, c .before .before .before .before .pre .1 .1 .0)
+add-at c =
+    let at-loop = c .before .before .before in
+    let at-start = at-loop .before in
+    omega (arith, fits c, at-loop .loop .inv .reached, at-start .pre .1 .0, at-start .pre .1 .1 .0)
 
 loop-less : tie.Need-loop-less Inv-loop μ-loop
 loop-less c = search needs
 
 loop-again : tie.Need-loop-again Inv-loop μ-loop
 loop-again c =
+    let at-loop-test = c .before .before in
+    let at-loop = at-loop-test .before in
     record {
-      reached = omega (arith, c .before .before .before .loop .inv .reached);
-      writing = writing-two (c .before .before .before .loop .inv .writing) (c .before .before .loop-test .taken) (due-inside _ _ _ _ _ (c .before .before .before .loop .inv .reached)) _ _ refl (c .if1 .taken);
+      reached = omega (arith, at-loop .loop .inv .reached);
+      writing = writing-two (at-loop .loop .inv .writing) (at-loop-test .loop-test .taken) (due-inside _ _ _ _ _ (at-loop .loop .inv .reached)) _ _ refl (c .if1 .taken);
     }
 
 loop-less-2 : tie.Need-loop-less-2 Inv-loop μ-loop
@@ -96,9 +128,11 @@ loop-less-2 c = search needs
 
 loop-again-2 : tie.Need-loop-again-2 Inv-loop μ-loop
 loop-again-2 c =
+    let at-loop-test = c .before .before in
+    let at-loop = at-loop-test .before in
     record {
-      reached = omega (arith, c .before .before .before .loop .inv .reached);
-      writing = writing-pass (c .before .before .before .loop .inv .writing) (c .before .before .loop-test .taken) (due-inside _ _ _ _ _ (c .before .before .before .loop .inv .reached)) (c .if1 .left);
+      reached = omega (arith, at-loop .loop .inv .reached);
+      writing = writing-pass (at-loop .loop .inv .writing) (at-loop-test .loop-test .taken) (due-inside _ _ _ _ _ (at-loop .loop .inv .reached)) (c .if1 .left);
     }
 
 same-length : tie.Need-same-length Inv-loop μ-loop

@@ -16,7 +16,10 @@ fields-from-requires c κs = search needs
 
 returns : tie.Need-returns
 unfolding nothing
-returns c = read-none _ (c .before .before .before .fields-place .result) (c .if1 .taken) (c .before .before .fields-from .ensures)
+returns c =
+    let at-fields-from = c .before .before in
+    let at-fields-place = at-fields-from .before in
+    read-none _ (at-fields-place .fields-place .result) (c .if1 .taken) (at-fields-from .fields-from .ensures)
 
 shared-slice-read-sign-of : tie.Need-shared-slice-read-sign-of
 shared-slice-read-sign-of c = search needs
@@ -29,8 +32,9 @@ message-of-requires c κs = search needs
 
 returns-2 : tie.Need-returns-2
 returns-2 c =
+    let at-if1 = c .before .before .before in
     let read = c .before .before .before .before .before in
-    read-some _ (c .before .before .before .if1 .left) (read .before .before .marked .ensures) (read .before .fields-place .ensures) (c .before .sign-of .ensures)
+    read-some _ (at-if1 .if1 .left) (read .before .before .marked .ensures) (read .before .fields-place .ensures) (c .before .sign-of .ensures)
     (read .fields-from .ensures) (c .«message-of» .ensures)
 
 pub read-line-spec : {M : Type 1} → statement M

@@ -13,7 +13,10 @@ same-length : tie.Need-same-length
 same-length c = search needs
 
 returns : tie.Need-returns
-returns c = rw (← c .before .before .before .before .before .read-line .ensures) (c .before .before .write .ensures)
+returns c =
+    let at-write = c .before .before in
+    let at-read-line = at-write .before .before .before in
+    rw (← at-read-line .read-line .ensures) (at-write .write .ensures)
 
 pub write-line-spec : {M : Type 1} → statement M
 write-line-spec = tie.close (tie.spec read-line-requires write-requires same-length returns)

@@ -25,47 +25,72 @@ abbrev μ-loop : tie.MeasureT-loop
 
 returns : tie.Need-returns Inv-loop μ-loop
 unfolding laid frames flat
-returns c = rw (nothing-gained (c .before .before .before .before .before .args .first) (now (c .before .before .before .before .before .args .lower-ends)) (now (c .before .before .before .before .before .args .upper-ends)) (c .before .before .before .before .before .args .start) (c .before .before .before .before .before .args .end) (c .before .before .before .before .before .args .gains) (c .before .before .before .before .before .pre .1 .0) (c .if1 .taken)) (refl, refl)
+returns c =
+    let at-start = c .before .before .before .before .before in
+    rw (nothing-gained (at-start .args .first) (now (at-start .args .lower-ends)) (now (at-start .args .upper-ends)) (at-start .args .start) (at-start .args .end) (at-start .args .gains) (at-start .pre .1 .0) (c .if1 .taken)) (refl, refl)
 
 sub-to : tie.Need-sub-to Inv-loop μ-loop
-sub-to c = let v = c .before .before .before .before .before .before .pre .0 in omega (arith, v .starts, v .forth, v .near)
+sub-to c =
+    let at-start = c .before .before .before .before .before .before in
+    let v = at-start .pre .0 in omega (arith, v .starts, v .forth, v .near)
 
 cast-to : tie.Need-cast-to Inv-loop μ-loop
 cast-to c = search needs
 
 sub-next-equal : tie.Need-sub-next-equal Inv-loop μ-loop
-sub-next-equal c = let v = c .before .before .before .before .before .before .before .pre .0 in omega (arith, v .starts, v .forth, v .near)
+sub-next-equal c =
+    let at-start = c .before .before .before .before .before .before .before in
+    let v = at-start .pre .0 in omega (arith, v .starts, v .forth, v .near)
 
 cast-next-equal : tie.Need-cast-next-equal Inv-loop μ-loop
 cast-next-equal c = search needs
 
 next-equal-requires : tie.Need-next-equal-requires Inv-loop μ-loop
-next-equal-requires c κs = let v = c .before .before .before .before .before .before .before .pre .0 in (omega (arith, v .starts, v .forth, v .near), omega (arith, v .starts, v .forth, v .near, v .lower-room))
+next-equal-requires c κs =
+    let at-start = c .before .before .before .before .before .before .before in
+    let v = at-start .pre .0 in (omega (arith, v .starts, v .forth, v .near), omega (arith, v .starts, v .forth, v .near, v .lower-room))
 
 loop-holds : tie.Need-loop-holds Inv-loop μ-loop
-loop-holds c = let v = c .before .before .before .before .before .before .before .before .pre .0 in seeking-start _ (suc (c .before .before .before .before .before .before .before .before .args .end .before) - c .before .before .before .before .before .before .before .before .args .start .after) (places-are (c .before .before .before .before .before .before .before .before .args .first) (now (c .before .before .before .before .before .before .before .before .args .lower-ends)) (now (c .before .before .before .before .before .before .before .before .args .upper-ends)) (c .before .before .before .before .before .before .before .before .args .start) (c .before .before .before .before .before .before .before .before .args .end) v) (rw (gained-are (c .before .before .before .before .before .before .before .before .args .first) (now (c .before .before .before .before .before .before .before .before .args .lower-ends)) (now (c .before .before .before .before .before .before .before .before .args .upper-ends)) (c .before .before .before .before .before .before .before .before .args .start) (c .before .before .before .before .before .before .before .before .args .end) (c .before .before .before .before .before .before .before .before .args .gains) (c .before .before .before .if1 .left)) at (c .before .before .before .before .before .before .before .before .pre .1 .1)) (unequal-none _ _ _ _ (omega (arith, v .starts, v .forth, v .near))) (c .next-equal .ensures)
+loop-holds c =
+    let at-if1 = c .before .before .before in
+    let at-start = at-if1 .before .before .before .before .before in
+    let v = at-start .pre .0 in seeking-start _ (suc (at-start .args .end .before) - at-start .args .start .after) (places-are (at-start .args .first) (now (at-start .args .lower-ends)) (now (at-start .args .upper-ends)) (at-start .args .start) (at-start .args .end) v) (rw (gained-are (at-start .args .first) (now (at-start .args .lower-ends)) (now (at-start .args .upper-ends)) (at-start .args .start) (at-start .args .end) (at-start .args .gains) (at-if1 .if1 .left)) at (at-start .pre .1 .1)) (unequal-none _ _ _ _ (omega (arith, v .starts, v .forth, v .near))) (c .next-equal .ensures)
 
 cast-position : tie.Need-cast-position Inv-loop μ-loop
-cast-position c = let small = c .before .before .before .before .before .before .before .before .before .before .pre .0 .cell in search needs
+cast-position c =
+    let at-start = c .before .before .before .before .before .before .before .before .before .before in
+    let small = at-start .pre .0 .cell in search needs
 
 add-position : tie.Need-add-position Inv-loop μ-loop
-add-position c = let v = c .before .before .before .before .before .before .before .before .before .before .pre .0 in omega (arith, v .starts, v .forth, v .near, v .cell, c .loop-test .taken)
+add-position c =
+    let at-start = c .before .before .before .before .before .before .before .before .before .before in
+    let v = at-start .pre .0 in omega (arith, v .starts, v .forth, v .near, v .cell, c .loop-test .taken)
 
 mul-upper : tie.Need-mul-upper Inv-loop μ-loop
-mul-upper c = let v = c .before .before .before .before .before .before .before .before .before .before .pre .0 in omega (arith, v .cell, c .loop-test .taken)
+mul-upper c =
+    let at-start = c .before .before .before .before .before .before .before .before .before .before in
+    let v = at-start .pre .0 in omega (arith, v .cell, c .loop-test .taken)
 
 shared-slice-read-upper : tie.Need-shared-slice-read-upper Inv-loop μ-loop
-shared-slice-read-upper c = let v = c .before .before .before .before .before .before .before .before .before .before .before .pre .0 in omega (arith, v .starts, v .forth, v .near, v .upper-room, c .before .loop-test .taken)
+shared-slice-read-upper c =
+    let at-start = c .before .before .before .before .before .before .before .before .before .before .before in
+    let v = at-start .pre .0 in omega (arith, v .starts, v .forth, v .near, v .upper-room, c .before .loop-test .taken)
 
 add-next-equal : tie.Need-add-next-equal Inv-loop μ-loop
 add-next-equal c = search needs
 
 next-equal-requires-2 : tie.Need-next-equal-requires-2 Inv-loop μ-loop
-next-equal-requires-2 c κs = let v = c .before .before .before .before .before .before .before .before .before .before .before .before .pre .0 in (omega (arith, c .before .before .loop-test .taken), omega (arith, v .starts, v .forth, v .near, v .lower-room))
+next-equal-requires-2 c κs =
+    let at-loop-test = c .before .before in
+    let at-start = at-loop-test .before .before .before .before .before .before .before .before .before .before in
+    let v = at-start .pre .0 in (omega (arith, at-loop-test .loop-test .taken), omega (arith, v .starts, v .forth, v .near, v .lower-room))
 
 -- a row that joins has room for its join
 fits : (c : tie.Then2 Inv-loop μ-loop) → c .before .before .before .before .before .loop .at + 5 ≤ length (c .before .before .before .before .before .loop .out)
-fits c = seeking-fits (position-length pairJoinKind) (c .before .before .before .before .before .loop .inv) (c .before .before .before .before .loop-test .taken) (c .before .next-equal2 .ensures) refl (c .if2 .taken)
+fits c =
+    let at-loop-test = c .before .before .before .before in
+    let at-loop = at-loop-test .before in
+    seeking-fits (position-length pairJoinKind) (at-loop .loop .inv) (at-loop-test .loop-test .taken) (c .before .next-equal2 .ensures) refl (c .if2 .taken)
 
 sub-lay-position : tie.Need-sub-lay-position Inv-loop μ-loop
 sub-lay-position c = omega (arith, fits c)
@@ -80,26 +105,46 @@ lay-position-requires : tie.Need-lay-position-requires Inv-loop μ-loop
 lay-position-requires c κs = simp (length-take, length-drop) (omega (arith, fits (c .before)))
 
 add-at : tie.Need-add-at Inv-loop μ-loop
-add-at c = omega (arith, fits (c .before .before .before .before), c .before .before .before .before .before .before .before .before .before .loop .inv .writing .laying .front .long, c .before .before .before .before .before .before .before .before .before .before .before .before .before .before .before .before .before .before .good)
+add-at c =
+    let at-loop = c .before .before .before .before .before .before .before .before .before in
+    let at-good = at-loop .before .before .before .before .before .before .before .before .before in
+    omega (arith, fits (c .before .before .before .before), at-loop .loop .inv .writing .laying .front .long, at-good .good)
 
 loop-less : tie.Need-loop-less Inv-loop μ-loop
-loop-less c = omega (arith, c .before .before .before .before .before .next-equal2 .ensures .passed .low, c .before .before .before .before .before .before .before .before .loop-test .taken)
+loop-less c =
+    let at-next-equal2 = c .before .before .before .before .before in
+    let at-loop-test = at-next-equal2 .before .before .before in
+    omega (arith, at-next-equal2 .next-equal2 .ensures .passed .low, at-loop-test .loop-test .taken)
 
 loop-again : tie.Need-loop-again Inv-loop μ-loop
 unfolding frame
-loop-again c = seeking-more (position-length pairJoinKind) (c .before .before .before .before .before .before .before .before .before .loop .inv) (c .before .before .before .before .before .before .before .before .loop-test .taken) (c .before .before .before .before .before .next-equal2 .ensures) refl (c .before .before .lay-position .ensures) (c .before .before .before .before .if2 .taken)
+loop-again c =
+    let at-lay-position = c .before .before in
+    let at-if2 = at-lay-position .before .before in
+    let at-next-equal2 = at-if2 .before in
+    let at-loop-test = at-next-equal2 .before .before .before in
+    let at-loop = at-loop-test .before in
+    seeking-more (position-length pairJoinKind) (at-loop .loop .inv) (at-loop-test .loop-test .taken) (at-next-equal2 .next-equal2 .ensures) refl (at-lay-position .lay-position .ensures) (at-if2 .if2 .taken)
 
 loop-less-2 : tie.Need-loop-less-2 Inv-loop μ-loop
-loop-less-2 c = omega (arith, c .before .next-equal2 .ensures .passed .low, c .before .before .before .before .loop-test .taken)
+loop-less-2 c =
+    let at-loop-test = c .before .before .before .before in
+    omega (arith, c .before .next-equal2 .ensures .passed .low, at-loop-test .loop-test .taken)
 
 loop-again-2 : tie.Need-loop-again-2 Inv-loop μ-loop
-loop-again-2 c = seeking-pass (position-length pairJoinKind) (c .before .before .before .before .before .loop .inv) (c .before .before .before .before .loop-test .taken) (c .before .next-equal2 .ensures) refl (c .if2 .left)
+loop-again-2 c =
+    let at-loop-test = c .before .before .before .before in
+    let at-loop = at-loop-test .before in
+    seeking-pass (position-length pairJoinKind) (at-loop .loop .inv) (at-loop-test .loop-test .taken) (c .before .next-equal2 .ensures) refl (c .if2 .left)
 
 same-length : tie.Need-same-length Inv-loop μ-loop
 same-length c = c .before .loop .inv .writing .laying .front .long
 
 returns-2 : tie.Need-returns-2 Inv-loop μ-loop
-returns-2 c = rw (gained-are (c .before .before .before .before .before .before .before .before .before .before .args .first) (now (c .before .before .before .before .before .before .before .before .before .before .args .lower-ends)) (now (c .before .before .before .before .before .before .before .before .before .before .args .upper-ends)) (c .before .before .before .before .before .before .before .before .before .before .args .start) (c .before .before .before .before .before .before .before .before .before .before .args .end) (c .before .before .before .before .before .before .before .before .before .before .args .gains) (c .before .before .before .before .before .if1 .left)) (seeking-all (suc (c .before .before .before .before .before .before .before .before .before .before .args .end .before) - c .before .before .before .before .before .before .before .before .before .before .args .start .after) (places-are (c .before .before .before .before .before .before .before .before .before .before .args .first) (now (c .before .before .before .before .before .before .before .before .before .before .args .lower-ends)) (now (c .before .before .before .before .before .before .before .before .before .before .args .upper-ends)) (c .before .before .before .before .before .before .before .before .before .before .args .start) (c .before .before .before .before .before .before .before .before .before .before .args .end) (c .before .before .before .before .before .before .before .before .before .before .pre .0)) (c .before .loop .inv) (c .loop-test .left))
+returns-2 c =
+    let at-if1 = c .before .before .before .before .before in
+    let at-start = at-if1 .before .before .before .before .before in
+    rw (gained-are (at-start .args .first) (now (at-start .args .lower-ends)) (now (at-start .args .upper-ends)) (at-start .args .start) (at-start .args .end) (at-start .args .gains) (at-if1 .if1 .left)) (seeking-all (suc (at-start .args .end .before) - at-start .args .start .after) (places-are (at-start .args .first) (now (at-start .args .lower-ends)) (now (at-start .args .upper-ends)) (at-start .args .start) (at-start .args .end) (at-start .pre .0)) (c .before .loop .inv) (c .loop-test .left))
 
 pub write-gained-spec : {M : Type 1} → statement M
 write-gained-spec =

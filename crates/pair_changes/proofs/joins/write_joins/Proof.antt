@@ -48,7 +48,9 @@ last-room : (c : tie.After-write-gained) → c .write-gained .result + length (E
 last-room c = front-room (front c) (E (begin c)) (room (begin c))
 
 write-gained-requires : tie.Need-write-gained-requires
-write-gained-requires c κs = (c .before .before .before .before .pre .0, (c .before .before .before .before .pre .1 .0, gained-room (c .before .before .before .before)))
+write-gained-requires c κs =
+    let at-start = c .before .before .before .before in
+    (at-start .pre .0, (at-start .pre .1 .0, gained-room (at-start)))
 
 sub-enters : tie.Need-sub-enters
 sub-enters c = search needs
@@ -75,13 +77,17 @@ write-one-requires : tie.Need-write-one-requires
 write-one-requires c κs = let b = c .before .before .before .before .before .before in front-rest (front b) (E (begin b)) (room (begin b))
 
 add-result : tie.Need-add-result
-add-result c = let b = c .before .before .before .before .before .before .before .before .before in omega (arith, last-room b, front b .long, begin b .good, c .before .before .write-one .ensures .0)
+add-result c =
+    let at-write-one = c .before .before in
+    let b = c .before .before .before .before .before .before .before .before .before in omega (arith, last-room b, front b .long, begin b .good, at-write-one .write-one .ensures .0)
 
 same-length : tie.Need-same-length
 same-length c = search needs
 
 returns : tie.Need-returns
-returns c = let b = c .before .before .before .before .before .before .before .before .before in let v = front-more (front b) (E (begin b)) (room (begin b)) (c .before .before .write-one .ensures .0) (c .before .before .write-one .ensures .1) in rw (both (begin b)) (v .place, v .cells)
+returns c =
+    let at-write-one = c .before .before in
+    let b = c .before .before .before .before .before .before .before .before .before in let v = front-more (front b) (E (begin b)) (room (begin b)) (at-write-one .write-one .ensures .0) (at-write-one .write-one .ensures .1) in rw (both (begin b)) (v .place, v .cells)
 
 pub write-joins-spec : {M : Type 1} → statement M
 write-joins-spec =

@@ -22,7 +22,9 @@ add-result : tie.Need-add-result
 add-result c = search needs
 
 sub-result : tie.Need-sub-result
-sub-result c = let late = late-low (c .before .before .before .before .args .first) (now (c .before .before .before .before .args .lower-ends)) (c .before .before .before .before .args .start) (c .before .before .before .before .args .end) (c .before .before .before .before .args .sound) (c .if1 .taken) in omega (arith, c .before .before .before .before .pre .0)
+sub-result c =
+    let at-start = c .before .before .before .before in
+    let late = late-low (at-start .args .first) (now (at-start .args .lower-ends)) (at-start .args .start) (at-start .args .end) (at-start .args .sound) (c .if1 .taken) in omega (arith, at-start .pre .0)
 
 cast-result : tie.Need-cast-result
 cast-result c = search needs

@@ -23,39 +23,59 @@ abbrev μ-loop : tie.MeasureT-loop
 μ-loop lower-ends upper-ends first from start end out₀ to at₀ i₀ out at i = to - i
 
 sub-to : tie.Need-sub-to Inv-loop μ-loop
-sub-to c = let v = c .before .before .before .before .pre .0 in omega (arith, v .starts, v .forth, v .near)
+sub-to c =
+    let at-start = c .before .before .before .before in
+    let v = at-start .pre .0 in omega (arith, v .starts, v .forth, v .near)
 
 cast-to : tie.Need-cast-to Inv-loop μ-loop
 cast-to c = search needs
 
 next-equal-requires : tie.Need-next-equal-requires Inv-loop μ-loop
-next-equal-requires c κs = let v = c .before .before .before .before .pre .0 in (c .before .before .before .before .pre .1 .0 .high, omega (arith, v .starts, v .forth, v .near, v .upper-room))
+next-equal-requires c κs =
+    let at-start = c .before .before .before .before in
+    let v = at-start .pre .0 in (at-start .pre .1 .0 .high, omega (arith, v .starts, v .forth, v .near, v .upper-room))
 
 loop-holds : tie.Need-loop-holds Inv-loop μ-loop
 unfolding dropped
-loop-holds c = seeking-start _ (suc (c .before .before .before .before .before .args .end .before) - c .before .before .before .before .before .args .start .after) (places-are (c .before .before .before .before .before .args .first) (now (c .before .before .before .before .before .args .lower-ends)) (now (c .before .before .before .before .before .args .upper-ends)) (c .before .before .before .before .before .args .start) (c .before .before .before .before .before .args .end) (c .before .before .before .before .before .pre .0)) (c .before .before .before .before .before .pre .1 .1) (c .before .before .before .before .before .pre .1 .0) (c .next-equal .ensures)
+loop-holds c =
+    let at-start = c .before .before .before .before .before in
+    seeking-start _ (suc (at-start .args .end .before) - at-start .args .start .after) (places-are (at-start .args .first) (now (at-start .args .lower-ends)) (now (at-start .args .upper-ends)) (at-start .args .start) (at-start .args .end) (at-start .pre .0)) (at-start .pre .1 .1) (at-start .pre .1 .0) (c .next-equal .ensures)
 
 cast-position : tie.Need-cast-position Inv-loop μ-loop
-cast-position c = let small = c .before .before .before .before .before .before .before .pre .0 .cell in search needs
+cast-position c =
+    let at-start = c .before .before .before .before .before .before .before in
+    let small = at-start .pre .0 .cell in search needs
 
 add-position : tie.Need-add-position Inv-loop μ-loop
-add-position c = let v = c .before .before .before .before .before .before .before .pre .0 in omega (arith, v .starts, v .forth, v .near, v .cell, c .loop-test .taken)
+add-position c =
+    let at-start = c .before .before .before .before .before .before .before in
+    let v = at-start .pre .0 in omega (arith, v .starts, v .forth, v .near, v .cell, c .loop-test .taken)
 
 mul-leaves : tie.Need-mul-leaves Inv-loop μ-loop
-mul-leaves c = let v = c .before .before .before .before .before .before .before .pre .0 in omega (arith, v .cell, c .loop-test .taken)
+mul-leaves c =
+    let at-start = c .before .before .before .before .before .before .before in
+    let v = at-start .pre .0 in omega (arith, v .cell, c .loop-test .taken)
 
 shared-slice-read-leaves : tie.Need-shared-slice-read-leaves Inv-loop μ-loop
-shared-slice-read-leaves c = let v = c .before .before .before .before .before .before .before .before .pre .0 in omega (arith, v .starts, v .forth, v .near, v .lower-room, c .before .loop-test .taken)
+shared-slice-read-leaves c =
+    let at-start = c .before .before .before .before .before .before .before .before in
+    let v = at-start .pre .0 in omega (arith, v .starts, v .forth, v .near, v .lower-room, c .before .loop-test .taken)
 
 add-next-equal : tie.Need-add-next-equal Inv-loop μ-loop
 add-next-equal c = search needs
 
 next-equal-requires-2 : tie.Need-next-equal-requires-2 Inv-loop μ-loop
-next-equal-requires-2 c κs = let v = c .before .before .before .before .before .before .before .before .before .pre .0 in (omega (arith, c .before .before .loop-test .taken), omega (arith, v .starts, v .forth, v .near, v .upper-room))
+next-equal-requires-2 c κs =
+    let at-loop-test = c .before .before in
+    let at-start = at-loop-test .before .before .before .before .before .before .before in
+    let v = at-start .pre .0 in (omega (arith, at-loop-test .loop-test .taken), omega (arith, v .starts, v .forth, v .near, v .upper-room))
 
 -- a row that leaves has room for its leave
 fits : (c : tie.Then1 Inv-loop μ-loop) → c .before .before .before .before .before .loop .at + 5 ≤ length (c .before .before .before .before .before .loop .out)
-fits c = seeking-fits (position-length pairLeaveKind) (c .before .before .before .before .before .loop .inv) (c .before .before .before .before .loop-test .taken) (c .before .next-equal2 .ensures) refl (c .if1 .taken)
+fits c =
+    let at-loop-test = c .before .before .before .before in
+    let at-loop = at-loop-test .before in
+    seeking-fits (position-length pairLeaveKind) (at-loop .loop .inv) (at-loop-test .loop-test .taken) (c .before .next-equal2 .ensures) refl (c .if1 .taken)
 
 sub-lay-position : tie.Need-sub-lay-position Inv-loop μ-loop
 sub-lay-position c = omega (arith, fits c)
@@ -70,27 +90,46 @@ lay-position-requires : tie.Need-lay-position-requires Inv-loop μ-loop
 lay-position-requires c κs = simp (length-take, length-drop) (omega (arith, fits (c .before)))
 
 add-at : tie.Need-add-at Inv-loop μ-loop
-add-at c = omega (arith, fits (c .before .before .before .before), c .before .before .before .before .before .before .before .before .before .loop .inv .writing .laying .front .long, c .before .before .before .before .before .before .before .before .before .before .before .before .before .before .before .good)
+add-at c =
+    let at-loop = c .before .before .before .before .before .before .before .before .before in
+    let at-good = at-loop .before .before .before .before .before .before in
+    omega (arith, fits (c .before .before .before .before), at-loop .loop .inv .writing .laying .front .long, at-good .good)
 
 loop-less : tie.Need-loop-less Inv-loop μ-loop
-loop-less c = omega (arith, c .before .before .before .before .before .next-equal2 .ensures .passed .low, c .before .before .before .before .before .before .before .before .loop-test .taken)
+loop-less c =
+    let at-next-equal2 = c .before .before .before .before .before in
+    let at-loop-test = at-next-equal2 .before .before .before in
+    omega (arith, at-next-equal2 .next-equal2 .ensures .passed .low, at-loop-test .loop-test .taken)
 
 loop-again : tie.Need-loop-again Inv-loop μ-loop
 unfolding frame
-loop-again c = seeking-more (position-length pairLeaveKind) (c .before .before .before .before .before .before .before .before .before .loop .inv) (c .before .before .before .before .before .before .before .before .loop-test .taken) (c .before .before .before .before .before .next-equal2 .ensures) refl (c .before .before .lay-position .ensures) (c .before .before .before .before .if1 .taken)
+loop-again c =
+    let at-lay-position = c .before .before in
+    let at-if1 = at-lay-position .before .before in
+    let at-next-equal2 = at-if1 .before in
+    let at-loop-test = at-next-equal2 .before .before .before in
+    let at-loop = at-loop-test .before in
+    seeking-more (position-length pairLeaveKind) (at-loop .loop .inv) (at-loop-test .loop-test .taken) (at-next-equal2 .next-equal2 .ensures) refl (at-lay-position .lay-position .ensures) (at-if1 .if1 .taken)
 
 loop-less-2 : tie.Need-loop-less-2 Inv-loop μ-loop
-loop-less-2 c = omega (arith, c .before .next-equal2 .ensures .passed .low, c .before .before .before .before .loop-test .taken)
+loop-less-2 c =
+    let at-loop-test = c .before .before .before .before in
+    omega (arith, c .before .next-equal2 .ensures .passed .low, at-loop-test .loop-test .taken)
 
 loop-again-2 : tie.Need-loop-again-2 Inv-loop μ-loop
-loop-again-2 c = seeking-pass (position-length pairLeaveKind) (c .before .before .before .before .before .loop .inv) (c .before .before .before .before .loop-test .taken) (c .before .next-equal2 .ensures) refl (c .if1 .left)
+loop-again-2 c =
+    let at-loop-test = c .before .before .before .before in
+    let at-loop = at-loop-test .before in
+    seeking-pass (position-length pairLeaveKind) (at-loop .loop .inv) (at-loop-test .loop-test .taken) (c .before .next-equal2 .ensures) refl (c .if1 .left)
 
 same-length : tie.Need-same-length Inv-loop μ-loop
 same-length c = c .before .loop .inv .writing .laying .front .long
 
 returns : tie.Need-returns Inv-loop μ-loop
 unfolding dropped
-returns c = seeking-all (suc (c .before .before .before .before .before .before .before .args .end .before) - c .before .before .before .before .before .before .before .args .start .after) (places-are (c .before .before .before .before .before .before .before .args .first) (now (c .before .before .before .before .before .before .before .args .lower-ends)) (now (c .before .before .before .before .before .before .before .args .upper-ends)) (c .before .before .before .before .before .before .before .args .start) (c .before .before .before .before .before .before .before .args .end) (c .before .before .before .before .before .before .before .pre .0)) (c .before .loop .inv) (c .loop-test .left)
+returns c =
+    let at-start = c .before .before .before .before .before .before .before in
+    seeking-all (suc (at-start .args .end .before) - at-start .args .start .after) (places-are (at-start .args .first) (now (at-start .args .lower-ends)) (now (at-start .args .upper-ends)) (at-start .args .start) (at-start .args .end) (at-start .pre .0)) (c .before .loop .inv) (c .loop-test .left)
 
 pub write-dropped-spec : {M : Type 1} → statement M
 write-dropped-spec =

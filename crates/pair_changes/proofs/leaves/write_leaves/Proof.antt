@@ -62,13 +62,17 @@ write-dropped-requires : tie.Need-write-dropped-requires
 write-dropped-requires c κs = let b = c .before .before .before in (begin b .pre .0, (begin b .pre .1 .0, front-rest (front b) (D (begin b)) (room (begin b))))
 
 add-result : tie.Need-add-result
-add-result c = let b = c .before .before .before .before .before .before in omega (arith, others-room b, front b .long, begin b .good, c .before .before .write-dropped .ensures .0)
+add-result c =
+    let at-write-dropped = c .before .before in
+    let b = c .before .before .before .before .before .before in omega (arith, others-room b, front b .long, begin b .good, at-write-dropped .write-dropped .ensures .0)
 
 same-length : tie.Need-same-length
 same-length c = search needs
 
 returns : tie.Need-returns
-returns c = let b = c .before .before .before .before .before .before in let v = front-more (front b) (D (begin b)) (room (begin b)) (c .before .before .write-dropped .ensures .0) (c .before .before .write-dropped .ensures .1) in rw (both (begin b)) (v .place, v .cells)
+returns c =
+    let at-write-dropped = c .before .before in
+    let b = c .before .before .before .before .before .before in let v = front-more (front b) (D (begin b)) (room (begin b)) (at-write-dropped .write-dropped .ensures .0) (at-write-dropped .write-dropped .ensures .1) in rw (both (begin b)) (v .place, v .cells)
 
 pub write-leaves-spec : {M : Type 1} → statement M
 write-leaves-spec =

@@ -18,10 +18,15 @@ mul-upper : tie.Need-mul-upper
 mul-upper c = search needs
 
 shared-slice-read-upper : tie.Need-shared-slice-read-upper
-shared-slice-read-upper c = omega (arith, c .before .before .before .before .pre .0, c .before .before .before .before .pre .1 (c .before .before .if1 .left))
+shared-slice-read-upper c =
+    let at-if1 = c .before .before in
+    let at-start = at-if1 .before .before in
+    omega (arith, at-start .pre .0, at-start .pre .1 (at-if1 .if1 .left))
 
 returns-2 : tie.Need-returns-2
-returns-2 c = falls-is _ _ _ _ (c .before .before .before .if1 .left)
+returns-2 c =
+    let at-if1 = c .before .before .before in
+    falls-is _ _ _ _ (at-if1 .if1 .left)
 
 pub falls-spec : {M : Type 1} → statement M
 falls-spec =

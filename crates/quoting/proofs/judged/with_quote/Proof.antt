@@ -22,7 +22,9 @@ with-test-requires-3 c κs = search needs
 
 returns : tie.Need-returns
 returns c =
-    let two = tested-again _ _ _ (c .before .before .before .before .with-test .ensures) (c .before .before .with-test2 .ensures) refl in
+    let at-with-test2 = c .before .before in
+    let at-with-test = at-with-test2 .before .before in
+    let two = tested-again _ _ _ (at-with-test .with-test .ensures) (at-with-test2 .with-test2 .ensures) refl in
     tested-again _ _ _ two (rw (c .before .short-output .ensures) at (c .with-test3 .ensures)) refl
 
 pub with-quote-spec : {M : Type 1} → statement M

@@ -17,16 +17,23 @@ cast-quote : tie.Need-cast-quote
 cast-quote c = search needs
 
 array-share-prefix-quote : tie.Need-array-share-prefix-quote
-array-share-prefix-quote c = let wish = c .before .before .before .before .wish-at .ensures in omega (arith, wish .six, wish .bounded _ (c .before .wanted .given .1))
+array-share-prefix-quote c =
+    let at-wish-at = c .before .before .before .before in
+    let wish = at-wish-at .wish-at .ensures in omega (arith, wish .six, wish .bounded _ (c .before .wanted .given .1))
 
 slice-aggregate-quote : tie.Need-slice-aggregate-quote
-slice-aggregate-quote c = let wish = c .before .before .before .before .before .wish-at .ensures in simp length-take (omega (arith, wish .six, wish .bounded _ (c .before .before .wanted .given .1)))
+slice-aggregate-quote c =
+    let at-wanted = c .before .before in
+    let at-wish-at = at-wanted .before .before .before in
+    let wish = at-wish-at .wish-at .ensures in simp length-take (omega (arith, wish .six, wish .bounded _ (at-wanted .wanted .given .1)))
 
 quote-requires : tie.Need-quote-requires
 quote-requires c κs = search needs
 
 put-quote-requires : tie.Need-put-quote-requires
-put-quote-requires c κs = (omega (arith, quote-fits (c .before .before .before .before .before .before .before .before .before .before .before .quote3 .ensures)), (omega arith, omega arith))
+put-quote-requires c κs =
+    let at-quote3 = c .before .before .before .before .before .before .before .before .before .before .before in
+    (omega (arith, quote-fits (at-quote3 .quote3 .ensures)), (omega arith, omega arith))
 
 step-of-requires : tie.Need-step-of-requires
 step-of-requires c κs = search needs
@@ -50,7 +57,11 @@ same-length-4 : tie.Need-same-length-4
 same-length-4 c = search needs
 
 returns : tie.Need-returns
-returns c = quote-played _ _ _ _ _ _ _ (c .before .before .before .before .before .before .before .before .before .before .before .before .before .before .before .before .before .before .before .before .before .before .before .before .wish-at .ensures) (c .step-of .ensures) (c .before .before .before .before .before .before .before .before .before .before .before .before .before .before .before .before .before .before .before .before .before .wanted .given .1) (c .before .put-quote .ensures _ _ _ _ _ (c .before .before .before .before .before .before .before .before .before .before .before .before .before .quote3 .ensures))
+returns c =
+    let at-quote3 = c .before .before .before .before .before .before .before .before .before .before .before .before .before in
+    let at-wanted = at-quote3 .before .before .before .before .before .before .before .before in
+    let at-wish-at = at-wanted .before .before .before in
+    quote-played _ _ _ _ _ _ _ (at-wish-at .wish-at .ensures) (c .step-of .ensures) (at-wanted .wanted .given .1) (c .before .put-quote .ensures _ _ _ _ _ (at-quote3 .quote3 .ensures))
 
 same-length-5 : tie.Need-same-length-5
 same-length-5 c = search needs
@@ -65,7 +76,11 @@ same-length-8 : tie.Need-same-length-8
 same-length-8 c = search needs
 
 returns-2 : tie.Need-returns-2
-returns-2 c = other-played _ _ _ _ _ _ _ (c .before .before .before .before .before .before .before .before .before .before .before .before .before .before .before .before .before .before .wish-at .ensures) (c .step-of2 .ensures) (c .before .before .before .before .before .before .before .before .before .before .before .before .before .before .before .before .match .keys2) (c .before .before .before .before .before .before .before .before .before .make-other .ensures)
+returns-2 c =
+    let at-make-other = c .before .before .before .before .before .before .before .before .before in
+    let at-match = at-make-other .before .before .before .before .before .before .before in
+    let at-wish-at = at-match .before .before in
+    other-played _ _ _ _ _ _ _ (at-wish-at .wish-at .ensures) (c .step-of2 .ensures) (at-match .match .keys2) (at-make-other .make-other .ensures)
 
 pub play-spec : {M : Type 1} → statement M
 play-spec =
