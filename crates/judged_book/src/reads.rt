@@ -86,17 +86,8 @@ pub fn find(worked: Worked, desk: Desk, n: u32) {
 pub fn tell(head: Head, n: u32) {
     let next = head.after_quote(head.live, head.held);
     let paired = head.after_watch(n, n);
-    if paired.torn_pair() {
-        return;
-    }
-    if head.window_start(n) <= Head::MAX_POSITION as u64 {
-        let numbers = [
-            n,
-            head.window_start(n) as u32,
-            next.newest,
-            paired.n1,
-            paired.n2,
-        ];
-        print(b'H', &numbers);
+    let start = head.window_start(n);
+    if start <= Head::MAX_POSITION as u64 && !paired.torn_pair() {
+        print(b'H', &[n, start as u32, next.newest, paired.n1, paired.n2]);
     }
 }

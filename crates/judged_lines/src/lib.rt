@@ -1,23 +1,11 @@
 // Lines of print that say what a call answered: numbers or cells behind a letter, with the changes that it made, or a
 // refusal's number.
-ghost use Prim.Native.Nat.{_+_, _*_, _≤_};
-ghost use lib.ListN.{length};
 use head::Answer;
 use head::Desk;
 use head::Refusal;
 use head::Reply;
 use head::Verdict;
 use libc::STDOUT_FILENO;
-
-// Lays a desk's line at the start of the text: desk two's has a 2 behind its letter. Returns how many bytes.
-fn put_desk_line(desk: Desk, letter: u8, numbers: &[u32], text: &mut [u8]) -> usize
-    requires { ⌜ 3 + 11 * length (now numbers) ≤ length (now text) ⌝ }
-{
-    match desk {
-        Desk::One => text::put_line(letter, numbers, text),
-        Desk::Two => text::put_line2(letter, b'2', numbers, text),
-    }
-}
 
 // Prints the first n bytes of a text.
 fn print_text(text: &[u8], n: usize) {
@@ -26,12 +14,20 @@ fn print_text(text: &[u8], n: usize) {
     }
 }
 
-// Prints a desk's line of at most eleven numbers.
+// Prints a desk's line of at most eleven numbers: desk two's has a 2 behind its letter.
 fn print_by(desk: Desk, letter: u8, numbers: &[u32]) {
     let mut line = [0u8; 128];
     if numbers.len() <= 11 {
-        let n = put_desk_line(desk, letter, numbers, &mut line);
-        print_text(&line, n);
+        match desk {
+            Desk::One => {
+                let n = text::put_line(letter, numbers, &mut line);
+                print_text(&line, n);
+            }
+            Desk::Two => {
+                let n = text::put_line2(letter, b'2', numbers, &mut line);
+                print_text(&line, n);
+            }
+        }
     }
 }
 
