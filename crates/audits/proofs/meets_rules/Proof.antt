@@ -23,9 +23,8 @@ cast-count c = search needs
 
 right-ends-requires : tie.Need-right-ends-requires
 right-ends-requires c κs =
-    let at-if1 = c .before .before .before in
     let passed = c .before .before .before .before in
-    let untorn = sym (passed .torn-rows .ensures) ∙ at-if1 .if1 .left in
+    let untorn = sym (passed .torn-rows .ensures) ∙ c .before .before .before .if1 .left in
     let some = passed .before .before .before .before .before .pre .0 in
     let rows = held-fits _ _ _ _ some untorn in
     let cells = columns-fit _ _ _ _ some untorn in

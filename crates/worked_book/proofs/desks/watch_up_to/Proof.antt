@@ -17,8 +17,8 @@ loop-holds c = search needs
 add-n : tie.Need-add-n Inv-loop μ-loop
 add-n c = search needs
 
-watch-requires : tie.Need-watch-requires Inv-loop μ-loop
-watch-requires c κs = search needs
+set-requires : tie.Need-set-requires Inv-loop μ-loop
+set-requires c κs = search needs
 
 loop-less : tie.Need-loop-less Inv-loop μ-loop
 loop-less c = search needs
@@ -32,4 +32,4 @@ returns c = search needs
 pub watch-up-to-spec : {M : Type 1} → statement M
 watch-up-to-spec =
     tie.close
-    (tie.spec Inv-loop μ-loop loop-holds add-n watch-requires loop-less loop-again returns)
+    (tie.spec Inv-loop μ-loop loop-holds add-n set-requires loop-less loop-again returns)

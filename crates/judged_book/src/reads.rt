@@ -1,11 +1,12 @@
-// Calls on a book that only read its tables, as a host makes them: each is made, its answer is judged, and what it says
-// is printed.
+// Calls that only read a book, each judged and printed, and what its head tells of itself.
 use crate::Worked;
+use head::Desk;
 use head::Head;
 use judged_lines::print;
-use judged_lines::print_refusal;
-use refusals::Answer;
-use replies::Verdict;
+use judged_lines::print_due;
+use judged_lines::print_found;
+use judged_lines::print_list;
+use judged_lines::print_verdict;
 
 // Looks at the list of n, and prints it, or the refusal.
 pub fn look(worked: Worked, n: u32) {
@@ -13,7 +14,7 @@ pub fn look(worked: Worked, n: u32) {
     let positions = worked.positions;
     let lower_ends = worked.lower_ends;
     let upper_ends = worked.upper_ends;
-    let mut cells = [0u32; 9];
+    let mut cells = [n; 10];
     let reply = book::look(
         worked.head,
         n,
@@ -23,20 +24,7 @@ pub fn look(worked: Worked, n: u32) {
         &upper_ends,
         &mut cells[1..],
     );
-    let answer = reply.answer;
-    let count = reply.count;
-    match answer {
-        Answer::Accepted => {
-            cells[0] = n;
-            if count <= 8 {
-                let end = count + 1;
-                print(b'L', &cells[..end]);
-            }
-        }
-        Answer::Refused(_) => {
-            print_refusal(answer);
-        }
-    }
+    print_list(reply, b'L', &cells, 1);
 }
 
 // Looks at the past list of n1 and n2, and prints it, or the refusal.
@@ -45,7 +33,7 @@ pub fn past(worked: Worked, n1: u32, n2: u32) {
     let positions = worked.positions;
     let lower_ends = worked.lower_ends;
     let upper_ends = worked.upper_ends;
-    let mut cells = [0u32; 10];
+    let mut cells = [n1, n2, 0, 0, 0, 0, 0, 0, 0, 0];
     let reply = book::past(
         worked.head,
         n1,
@@ -56,21 +44,25 @@ pub fn past(worked: Worked, n1: u32, n2: u32) {
         &upper_ends,
         &mut cells[2..],
     );
-    let answer = reply.answer;
-    let count = reply.count;
-    match answer {
-        Answer::Accepted => {
-            cells[0] = n1;
-            cells[1] = n2;
-            if count <= 8 {
-                let end = count + 2;
-                print(b'P', &cells[..end]);
-            }
-        }
-        Answer::Refused(_) => {
-            print_refusal(answer);
-        }
-    }
+    print_list(reply, b'P', &cells, 2);
+}
+
+// Asks what is due, and prints two numbers for each row, its position and after how many quotes it joins; or the
+// refusal.
+pub fn due(worked: Worked, cells: &mut [u32]) {
+    let columns = worked.columns;
+    let positions = worked.positions;
+    let lower_ends = worked.lower_ends;
+    let upper_ends = worked.upper_ends;
+    let reply = book::due(
+        worked.head,
+        &columns,
+        &positions,
+        &lower_ends,
+        &upper_ends,
+        cells,
+    );
+    print_due(reply, cells);
 }
 
 // Prints what the audit says: 1 for yes, 0 for no, or the refusal.
@@ -80,14 +72,13 @@ pub fn audit(worked: Worked) {
     let lower_ends = worked.lower_ends;
     let upper_ends = worked.upper_ends;
     let verdict = audits::audit(worked.head, &columns, &positions, &lower_ends, &upper_ends);
-    match verdict {
-        Verdict::Yes => print(b'A', &[1]),
-        Verdict::No => print(b'A', &[0]),
-        Verdict::Refused(refusal) => {
-            let number = [refusal.number()];
-            print(b'R', &number);
-        }
-    }
+    print_verdict(verdict);
+}
+
+// Prints whether a desk watches n: n, then 1 or 0.
+pub fn find(worked: Worked, desk: Desk, n: u32) {
+    let records = worked.records;
+    print_found(desk, n, by_value::find_record(records, desk, n));
 }
 
 // What the head tells of itself: the first position of the window of n, the next position, and the pair of n and n, if
@@ -95,17 +86,8 @@ pub fn audit(worked: Worked) {
 pub fn tell(head: Head, n: u32) {
     let next = head.after_quote(head.live, head.held);
     let paired = head.after_watch(n, n);
-    if paired.torn_pair() {
-        return;
-    }
-    if head.window_start(n) <= Head::MAX_POSITION as u64 {
-        let numbers = [
-            n,
-            head.window_start(n) as u32,
-            next.newest,
-            paired.n1,
-            paired.n2,
-        ];
-        print(b'H', &numbers);
+    let start = head.window_start(n);
+    if start <= Head::MAX_POSITION as u64 && !paired.torn_pair() {
+        print(b'H', &[n, start as u32, next.newest, paired.n1, paired.n2]);
     }
 }

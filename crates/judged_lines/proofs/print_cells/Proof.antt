@@ -1,9 +1,9 @@
--- `print_rows` meets its contract: what is printed is a part of the cells.
+-- `print_cells` meets its contract: what is printed is a part of the cells.
 use lib.ListN.{length-take}
 use native.Mathlib.Omega.{arith}
 use borrow.Author.Needs.{needs}
-use Rattle.judged_watches.proofs.print_rows.Statement.{statement}
-use Rattle.judged_watches.proofs.print_rows.Tie as tie
+use Rattle.judged_lines.proofs.print_cells.Statement.{statement}
+use Rattle.judged_lines.proofs.print_cells.Tie as tie
 
 add-end : tie.Need-add-end
 add-end c = search needs
@@ -23,6 +23,6 @@ returns-2 c = search needs
 returns-3 : tie.Need-returns-3
 returns-3 c = search needs
 
-pub print-rows-spec : {M : Type 1} → statement M
-print-rows-spec =
+pub print-cells-spec : {M : Type 1} → statement M
+print-cells-spec =
     tie.close (tie.spec add-end slice-aggregate-print print-requires returns returns-2 returns-3)
