@@ -1,2 +1,2 @@
 -- What the calls hand back, and its machine value.
-pub mod MadeValues
+pub mod RecordReplies

@@ -8,7 +8,7 @@ use head::Watch;
 use replies::Reply;
 
 // What a call that may change the records hands back: its reply, and the records.
-pub struct Made {
+pub struct RecordReply {
     pub reply: Reply,
     pub records: [Watch; 8],
 }
@@ -23,7 +23,7 @@ pub fn open(
     lower_ends: &mut [u32],
     upper_ends: &mut [u32],
     records: [Watch; 8],
-) -> Made
+) -> RecordReply
     ensures { λ r. ⌜ Opened dimensions capacity directions
         (tables (now (columns .entry)) (now (positions .entry)) (now («lower_ends» .entry)) (now («upper_ends» .entry)))
         (watched records) (r .reply)
@@ -41,7 +41,7 @@ pub fn open(
         upper_ends,
         &mut held,
     );
-    Made {
+    RecordReply {
         reply,
         records: held,
     }
@@ -58,7 +58,7 @@ pub fn watch(
     upper_ends: &[u32],
     records: [Watch; 8],
     out: &mut [u8],
-) -> Made
+) -> RecordReply
     ensures { λ r. ⌜ Watched head desk n
         (tables (now (columns .entry)) (now (positions .entry)) (now («lower_ends» .entry)) (now («upper_ends» .entry)))
         (watched records) (now (out .entry)) (r .reply) (watched (r .records)) (now (out .exit)) ⌝ }
@@ -75,7 +75,7 @@ pub fn watch(
         &mut held,
         out,
     );
-    Made {
+    RecordReply {
         reply,
         records: held,
     }
@@ -91,7 +91,7 @@ pub fn end(
     lower_ends: &[u32],
     upper_ends: &[u32],
     records: [Watch; 8],
-) -> Made
+) -> RecordReply
     ensures { λ r. ⌜ Ended head desk n
         (tables (now (columns .entry)) (now (positions .entry)) (now («lower_ends» .entry)) (now («upper_ends» .entry)))
         (watched records) (r .reply) (watched (r .records)) ⌝ }
@@ -107,7 +107,7 @@ pub fn end(
         upper_ends,
         &mut held,
     );
-    Made {
+    RecordReply {
         reply,
         records: held,
     }

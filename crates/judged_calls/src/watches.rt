@@ -1,5 +1,5 @@
 // The calls on a book's watches and on its pair.
-use changed_by_value::Made;
+use changed_by_value::RecordReply;
 use head::Desk;
 use head::Head;
 use head::Watch;
@@ -26,7 +26,7 @@ fn make(
     upper_ends: &[u32],
     records: [Watch; 8],
     out: &mut [u8],
-) -> Made {
+) -> RecordReply {
     match call {
         Call::Watch(desk, n) => changed_by_value::watch(
             head,
@@ -61,11 +61,11 @@ fn make(
                 records,
                 out,
             );
-            Made { reply, records }
+            RecordReply { reply, records }
         }
         Call::Unpair => {
             let reply = by_value::unpair(head, columns, positions, lower_ends, upper_ends, records);
-            Made { reply, records }
+            RecordReply { reply, records }
         }
     }
 }

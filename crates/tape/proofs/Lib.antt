@@ -1,4 +1,4 @@
 -- The laws of the crate.
 pub mod Plays
 pub mod Reached
-pub mod Made
+pub mod Prints

@@ -52,9 +52,9 @@ use Rattle.watch_records.specs.Records.{watched}
 use Rattle.watch_records.proofs.Lending.{at-name}
 use Rattle.shared_records.proofs.Machines.{machines, spelled}
 use Rattle.by_value.proofs.LocalRecords.{recorded, recorded-tells, lends-records, records-back}
-use Rattle.changed_by_value.proofs.MadeValues.{made, made-value, is-made}
-use Rattle.changed_by_value.proofs.Made as Md
-use Rattle.changed_by_value.proofs.Made.Laws as Md′
+use Rattle.changed_by_value.proofs.RecordReplies.{recordReply, record-reply-value, is-record-reply}
+use Rattle.changed_by_value.proofs.RecordReply as Md
+use Rattle.changed_by_value.proofs.RecordReply.Laws as Md′
 use Rattle.book.proofs.open as callee
 use Rattle.book.proofs.open.Symbol as callee-def
 use Rattle.book.proofs.open.Symbol.{name as #book·open}
@@ -130,10 +130,10 @@ module _ {M : Type 1} (𝓤 : URA M) (H : Heap 𝓤) (A : Atoms 𝓤) (W : Given
   abbrev Left : List ℕ → List ℕ → List ℕ → List ℕ → List (Item 𝓤)
   Left columns-last positions-last lowerEnds-last upperEnds-last = ‵ (flft κ₀ q₀) ∷ ‵ (flft κ₁ q₁) ∷ ‵ (flft κ₂ q₂) ∷ ‵ (flft κ₃ q₃) ∷ ‵ (finally u32 (columns .name) columns-last) ∷ ‵ (finally u32 (positions .name) positions-last) ∷ ‵ (finally u32 (lowerEnds .name) lowerEnds-last) ∷ ‵ (finally u32 (upperEnds .name) upperEnds-last) ∷ []
 
-  exits : (columns-last : List ℕ) (positions-last : List ℕ) (lowerEnds-last : List ℕ) (upperEnds-last : List ℕ) (j : Reply) (after : List Watch) → Is R.the-row j (machines j) → Is (Array T.the-row 8) after (recorded after) → length columns-last ≡ length (columns .now) → length positions-last ≡ length (positions .now) → length lowerEnds-last ≡ length (lowerEnds .now) → length upperEnds-last ≡ length (upperEnds .now) → Opened dimensions capacity directions lent (watched records) j (lent-tables columns-last positions-last lowerEnds-last upperEnds-last) (watched after) → ent 𝓤 (⋆ 𝓤 H A (Left columns-last positions-last lowerEnds-last upperEnds-last)) (Post (made-value j after))
+  exits : (columns-last : List ℕ) (positions-last : List ℕ) (lowerEnds-last : List ℕ) (upperEnds-last : List ℕ) (j : Reply) (after : List Watch) → Is R.the-row j (machines j) → Is (Array T.the-row 8) after (recorded after) → length columns-last ≡ length (columns .now) → length positions-last ≡ length (positions .now) → length lowerEnds-last ≡ length (lowerEnds .now) → length upperEnds-last ≡ length (upperEnds .now) → Opened dimensions capacity directions lent (watched records) j (lent-tables columns-last positions-last lowerEnds-last upperEnds-last) (watched after) → ent 𝓤 (⋆ 𝓤 H A (Left columns-last positions-last lowerEnds-last upperEnds-last)) (Post (record-reply-value j after))
   exits columns-last positions-last lowerEnds-last upperEnds-last j after is is-after columns-len positions-len lowerEnds-len upperEnds-len kept =
-      qed W (Left columns-last positions-last lowerEnds-last upperEnds-last) ∵ suffices ! _ (ends-at 𝓤 H A f.ended stayed (f.clauses 𝓤 H A mem run) W bound (made-value j after) (made j after) (tt, (tt, (tt, (columns-last, (positions-last, (lowerEnds-last, (upperEnds-last, (tt, tt)))))))) (tt, (tt, (tt, (columns-len, (positions-len, (lowerEnds-len, (upperEnds-len, (tt, tt))))))))) $ says ! kept $
-      nothing ! $ move ! (4 ∷ 0 ∷ []) $ join ! $ move ! (3 ∷ 0 ∷ []) $ join ! $ move ! (2 ∷ 0 ∷ []) $ join ! $ move ! (1 ∷ 0 ∷ []) $ join ! $ frame ! $ nothing ! $ nothing ! $ fjoin ! $ move ! (4 ∷ 0 ∷ []) $ fjoin ! $ move ! (3 ∷ 0 ∷ []) $ fjoin ! $ move ! (2 ∷ 0 ∷ []) $ fjoin ! $ move ! (1 ∷ 0 ∷ []) $ fjoin ! $ nothing ! $ fjoin ! $ nothing ! $ fjoin ! $ nothing ! $ fjoin ! $ frame ! $ owned ! Md.the-row (Is Md.the-row) ((LL.makes Md.the-type Md′.the-plain) 𝓤 H A) (made j after) _ (is-made j after is is-after) $ done !
+      qed W (Left columns-last positions-last lowerEnds-last upperEnds-last) ∵ suffices ! _ (ends-at 𝓤 H A f.ended stayed (f.clauses 𝓤 H A mem run) W bound (record-reply-value j after) (recordReply j after) (tt, (tt, (tt, (columns-last, (positions-last, (lowerEnds-last, (upperEnds-last, (tt, tt)))))))) (tt, (tt, (tt, (columns-len, (positions-len, (lowerEnds-len, (upperEnds-len, (tt, tt))))))))) $ says ! kept $
+      nothing ! $ move ! (4 ∷ 0 ∷ []) $ join ! $ move ! (3 ∷ 0 ∷ []) $ join ! $ move ! (2 ∷ 0 ∷ []) $ join ! $ move ! (1 ∷ 0 ∷ []) $ join ! $ frame ! $ nothing ! $ nothing ! $ fjoin ! $ move ! (4 ∷ 0 ∷ []) $ fjoin ! $ move ! (3 ∷ 0 ∷ []) $ fjoin ! $ move ! (2 ∷ 0 ∷ []) $ fjoin ! $ move ! (1 ∷ 0 ∷ []) $ fjoin ! $ nothing ! $ fjoin ! $ nothing ! $ fjoin ! $ nothing ! $ fjoin ! $ frame ! $ owned ! Md.the-row (Is Md.the-row) ((LL.makes Md.the-type Md′.the-plain) 𝓤 H A) (recordReply j after) _ (is-record-reply j after is is-after) $ done !
 
   module _ (dimensions-fits : dimensions < 2 ^ 32) (capacity-fits : capacity < 2 ^ 32) (directions-fits : directions < 2 ^ 32) (columns-fits : length (columns .now) < 2 ^ 64) (positions-fits : length (positions .now) < 2 ^ 64) (lowerEnds-fits : length (lowerEnds .now) < 2 ^ 64) (upperEnds-fits : length (upperEnds .now) < 2 ^ 64) (is-records : Is (Array T.the-row 8) records (recorded records))
       (C : Calls 𝓤 H) (Λ : Loops 𝓤 H) (fm : FmC 𝓤 H (W .laws) C) (known : Triple 𝓤 (C #book·open) (Callee 𝓤 H A mem run)) where
@@ -170,7 +170,7 @@ module _ {M : Type 1} (𝓤 : URA M) (H : Heap 𝓤) (A : Atoms 𝓤) (W : Given
         -- ν ends, and they come back
         move ! (0 ∷ []) $ split ! $ move ! (1 ∷ []) $ split ! $ move ! (1 ∷ []) $ split ! $ move ! (1 ∷ []) $ split ! $ move ! (1 ∷ []) $ split ! $ move ! (1 ∷ []) $ move ! (1 ∷ []) $ lft-end ! tt $ move ! (0 ∷ 11 ∷ 6 ∷ []) $ records-back ! tt l₉ records (zs .1 .1 .1 .1 .1 .1 .1 .0) eight (λ is-after.
         assigns ! (of-opd ! (load ! (from ! (stop !)) (look ! 0 refl))) (from ! (stop !)) (init ! 13 refl (array-typed T.the-row (LL.lawful T.the-type T′.the-laws 𝓤 H A W .typed) 8 (zs .1 .1 .1 .1 .1 .1 .1 .0) _ is-after .0)) $
-        assigns ! (agg ! (and-then ! (load ! (from ! (stop !)) (look ! 35 refl)) (and-then ! (load ! (from ! (stop !)) (look ! 13 refl)) (no-more !)))) (from ! (stop !)) (init ! 54 refl (LL.lawful Md.the-type Md′.the-laws 𝓤 H A W .typed (made j (zs .1 .1 .1 .1 .1 .1 .1 .0)) _ (is-made j (zs .1 .1 .1 .1 .1 .1 .1 .0) (spelled j c has) is-after) .0)) $
+        assigns ! (agg ! (and-then ! (load ! (from ! (stop !)) (look ! 35 refl)) (and-then ! (load ! (from ! (stop !)) (look ! 13 refl)) (no-more !)))) (from ! (stop !)) (init ! 54 refl (LL.lawful Md.the-type Md′.the-laws 𝓤 H A W .typed (recordReply j (zs .1 .1 .1 .1 .1 .1 .1 .0)) _ (is-record-reply j (zs .1 .1 .1 .1 .1 .1 .1 .0) (spelled j c has) is-after) .0)) $
         returns ! (look ! 54 refl) $ forget ! 13 refl $ forget ! 15 refl $ forget ! 17 refl $ forget ! 19 refl $ forget ! 21 refl $ forget ! 23 refl $ forget ! 25 refl $ forget ! 27 refl $ forget ! 29 refl $ forget ! 31 refl $ forget ! 33 refl $ forget ! 35 refl $ forget ! 0 refl $ forget ! 38 refl $ forget ! 40 refl $ forget ! 42 refl $ forget ! 44 refl $ forget ! 46 refl $ forget ! 48 refl $ forget ! 50 refl $ forget ! 52 refl $ forget ! 54 refl $
         move ! (54 ∷ 55 ∷ []) $ free1 ! $ move ! (52 ∷ 53 ∷ []) $ free1 ! $ move ! (50 ∷ 51 ∷ []) $ free1 ! $ move ! (48 ∷ 49 ∷ []) $ free1 ! $ move ! (46 ∷ 47 ∷ []) $ free1 ! $ move ! (44 ∷ 45 ∷ []) $ free1 ! $ move ! (42 ∷ 43 ∷ []) $ free1 ! $ move ! (40 ∷ 41 ∷ []) $ free1 ! $ move ! (38 ∷ 39 ∷ []) $ free1 ! $ move ! (0 ∷ 37 ∷ []) $ free1 ! $ move ! (34 ∷ 35 ∷ []) $ free1 ! $ move ! (32 ∷ 33 ∷ []) $ free1 ! $ move ! (30 ∷ 31 ∷ []) $ free1 ! $ move ! (28 ∷ 29 ∷ []) $ free1 ! $ move ! (26 ∷ 27 ∷ []) $ free1 ! $ move ! (24 ∷ 25 ∷ []) $ free1 ! $ move ! (22 ∷ 23 ∷ []) $ free1 ! $ move ! (20 ∷ 21 ∷ []) $ free1 ! $ move ! (18 ∷ 19 ∷ []) $ free1 ! $ move ! (16 ∷ 17 ∷ []) $ free1 ! $ move ! (14 ∷ 15 ∷ []) $ free1 ! $ move ! (12 ∷ 13 ∷ []) $ free1 ! $ free0 ! $
         keep ! (4 ∷ 3 ∷ 2 ∷ 1 ∷ 8 ∷ 7 ∷ 6 ∷ 5 ∷ []) $ by ! (exits (zs .1 .1 .1 .0) (zs .1 .1 .1 .1 .0) (zs .1 .1 .1 .1 .1 .0) (zs .1 .1 .1 .1 .1 .1 .0) j (zs .1 .1 .1 .1 .1 .1 .1 .0) (spelled j c has) is-after columns-same positions-same lowerEnds-same upperEnds-same kept))))))))))))))))))))))))))))))))))))

@@ -60,9 +60,9 @@ use Rattle.watch_records.proofs.DeskValues.{desk-value, desk-values, is-desk}
 use Rattle.watch_records.proofs.Lending.{at-name}
 use Rattle.shared_records.proofs.Machines.{headed, machines, spelled}
 use Rattle.by_value.proofs.LocalRecords.{recorded, recorded-tells, lends-records, records-back}
-use Rattle.changed_by_value.proofs.MadeValues.{made, made-value, is-made}
-use Rattle.changed_by_value.proofs.Made as Md
-use Rattle.changed_by_value.proofs.Made.Laws as Md′
+use Rattle.changed_by_value.proofs.RecordReplies.{recordReply, record-reply-value, is-record-reply}
+use Rattle.changed_by_value.proofs.RecordReply as Md
+use Rattle.changed_by_value.proofs.RecordReply.Laws as Md′
 use Rattle.changed_records.proofs.watch as callee
 use Rattle.changed_records.proofs.watch.Symbol as callee-def
 use Rattle.changed_records.proofs.watch.Symbol.{name as #changed_records·watch}
@@ -138,10 +138,10 @@ module _ {M : Type 1} (𝓤 : URA M) (H : Heap 𝓤) (A : Atoms 𝓤) (W : Given
   abbrev Left : List ℕ → List (Item 𝓤)
   Left out-last = ‵ (flft κ₀ q₀) ∷ ‵ (flft κ₁ q₁) ∷ ‵ (flft κ₂ q₂) ∷ ‵ (flft κ₃ q₃) ∷ ‵ (flft κ₄ q₄) ∷ ‵ (finally u8 (out .name) out-last) ∷ []
 
-  exits : (out-last : List ℕ) (j : Reply) (after : List Watch) → Is R.the-row j (machines j) → Is (Array T.the-row 8) after (recorded after) → length out-last ≡ length (out .now) → Watched head desk n lent (watched records) (out .now) j (watched after) out-last → ent 𝓤 (⋆ 𝓤 H A (Left out-last)) (Post (made-value j after))
+  exits : (out-last : List ℕ) (j : Reply) (after : List Watch) → Is R.the-row j (machines j) → Is (Array T.the-row 8) after (recorded after) → length out-last ≡ length (out .now) → Watched head desk n lent (watched records) (out .now) j (watched after) out-last → ent 𝓤 (⋆ 𝓤 H A (Left out-last)) (Post (record-reply-value j after))
   exits out-last j after is is-after out-len kept =
-      qed W (Left out-last) ∵ suffices ! _ (ends-at 𝓤 H A f.ended stayed (f.clauses 𝓤 H A mem run) W bound (made-value j after) (made j after) (tt, (tt, (tt, (tt, (tt, (tt, (tt, (tt, (out-last, tt))))))))) (tt, (tt, (tt, (tt, (tt, (tt, (tt, (tt, (out-len, tt)))))))))) $ says ! kept $
-      nothing ! $ move ! (5 ∷ 0 ∷ []) $ join ! $ move ! (4 ∷ 0 ∷ []) $ join ! $ move ! (3 ∷ 0 ∷ []) $ join ! $ move ! (2 ∷ 0 ∷ []) $ join ! $ move ! (1 ∷ 0 ∷ []) $ join ! $ frame ! $ nothing ! $ move ! (1 ∷ 0 ∷ []) $ fjoin ! $ nothing ! $ fjoin ! $ nothing ! $ fjoin ! $ nothing ! $ fjoin ! $ nothing ! $ fjoin ! $ nothing ! $ fjoin ! $ nothing ! $ fjoin ! $ nothing ! $ fjoin ! $ nothing ! $ fjoin ! $ frame ! $ owned ! Md.the-row (Is Md.the-row) ((LL.makes Md.the-type Md′.the-plain) 𝓤 H A) (made j after) _ (is-made j after is is-after) $ done !
+      qed W (Left out-last) ∵ suffices ! _ (ends-at 𝓤 H A f.ended stayed (f.clauses 𝓤 H A mem run) W bound (record-reply-value j after) (recordReply j after) (tt, (tt, (tt, (tt, (tt, (tt, (tt, (tt, (out-last, tt))))))))) (tt, (tt, (tt, (tt, (tt, (tt, (tt, (tt, (out-len, tt)))))))))) $ says ! kept $
+      nothing ! $ move ! (5 ∷ 0 ∷ []) $ join ! $ move ! (4 ∷ 0 ∷ []) $ join ! $ move ! (3 ∷ 0 ∷ []) $ join ! $ move ! (2 ∷ 0 ∷ []) $ join ! $ move ! (1 ∷ 0 ∷ []) $ join ! $ frame ! $ nothing ! $ move ! (1 ∷ 0 ∷ []) $ fjoin ! $ nothing ! $ fjoin ! $ nothing ! $ fjoin ! $ nothing ! $ fjoin ! $ nothing ! $ fjoin ! $ nothing ! $ fjoin ! $ nothing ! $ fjoin ! $ nothing ! $ fjoin ! $ nothing ! $ fjoin ! $ frame ! $ owned ! Md.the-row (Is Md.the-row) ((LL.makes Md.the-type Md′.the-plain) 𝓤 H A) (recordReply j after) _ (is-record-reply j after is is-after) $ done !
 
   module _ (is-head : Is Hd.the-row head (headed head)) (n-fits : n < 2 ^ 32) (columns-fits : length (columns .now) < 2 ^ 64) (positions-fits : length (positions .now) < 2 ^ 64) (lowerEnds-fits : length (lowerEnds .now) < 2 ^ 64) (upperEnds-fits : length (upperEnds .now) < 2 ^ 64) (is-records : Is (Array T.the-row 8) records (recorded records)) (out-fits : length (out .now) < 2 ^ 64)
       (C : Calls 𝓤 H) (Λ : Loops 𝓤 H) (fm : FmC 𝓤 H (W .laws) C) (known : Triple 𝓤 (C #changed_records·watch) (Callee 𝓤 H A mem run)) where
@@ -172,7 +172,7 @@ module _ {M : Type 1} (𝓤 : URA M) (H : Heap 𝓤) (A : Atoms 𝓤) (W : Given
         -- ν ends, and they come back
         move ! (0 ∷ []) $ split ! $ move ! (1 ∷ []) $ split ! $ move ! (1 ∷ []) $ split ! $ move ! (1 ∷ []) $ split ! $ move ! (1 ∷ []) $ split ! $ move ! (1 ∷ []) $ split ! $ move ! (1 ∷ []) $ move ! (2 ∷ []) $ lft-end ! tt $ move ! (0 ∷ 9 ∷ 8 ∷ []) $ records-back ! tt l₁₀ records (zs .1 .1 .1 .1 .1 .1 .1 .0) eight (λ is-after.
         assigns ! (of-opd ! (load ! (from ! (stop !)) (look ! 0 refl))) (from ! (stop !)) (init ! 11 refl (array-typed T.the-row (LL.lawful T.the-type T′.the-laws 𝓤 H A W .typed) 8 (zs .1 .1 .1 .1 .1 .1 .1 .0) _ is-after .0)) $
-        assigns ! (agg ! (and-then ! (load ! (from ! (stop !)) (look ! 21 refl)) (and-then ! (load ! (from ! (stop !)) (look ! 11 refl)) (no-more !)))) (from ! (stop !)) (init ! 42 refl (LL.lawful Md.the-type Md′.the-laws 𝓤 H A W .typed (made j (zs .1 .1 .1 .1 .1 .1 .1 .0)) _ (is-made j (zs .1 .1 .1 .1 .1 .1 .1 .0) (spelled j c has) is-after) .0)) $
+        assigns ! (agg ! (and-then ! (load ! (from ! (stop !)) (look ! 21 refl)) (and-then ! (load ! (from ! (stop !)) (look ! 11 refl)) (no-more !)))) (from ! (stop !)) (init ! 42 refl (LL.lawful Md.the-type Md′.the-laws 𝓤 H A W .typed (recordReply j (zs .1 .1 .1 .1 .1 .1 .1 .0)) _ (is-record-reply j (zs .1 .1 .1 .1 .1 .1 .1 .0) (spelled j c has) is-after) .0)) $
         returns ! (look ! 42 refl) $ forget ! 11 refl $ forget ! 13 refl $ forget ! 15 refl $ forget ! 17 refl $ forget ! 19 refl $ forget ! 21 refl $ forget ! 0 refl $ forget ! 24 refl $ forget ! 26 refl $ forget ! 28 refl $ forget ! 30 refl $ forget ! 32 refl $ forget ! 34 refl $ forget ! 36 refl $ forget ! 38 refl $ forget ! 40 refl $ forget ! 42 refl $
         move ! (42 ∷ 43 ∷ []) $ free1 ! $ move ! (40 ∷ 41 ∷ []) $ free1 ! $ move ! (38 ∷ 39 ∷ []) $ free1 ! $ move ! (36 ∷ 37 ∷ []) $ free1 ! $ move ! (34 ∷ 35 ∷ []) $ free1 ! $ move ! (32 ∷ 33 ∷ []) $ free1 ! $ move ! (30 ∷ 31 ∷ []) $ free1 ! $ move ! (28 ∷ 29 ∷ []) $ free1 ! $ move ! (26 ∷ 27 ∷ []) $ free1 ! $ move ! (24 ∷ 25 ∷ []) $ free1 ! $ move ! (0 ∷ 23 ∷ []) $ free1 ! $ move ! (20 ∷ 21 ∷ []) $ free1 ! $ move ! (18 ∷ 19 ∷ []) $ free1 ! $ move ! (16 ∷ 17 ∷ []) $ free1 ! $ move ! (14 ∷ 15 ∷ []) $ free1 ! $ move ! (12 ∷ 13 ∷ []) $ free1 ! $ move ! (10 ∷ 11 ∷ []) $ free1 ! $ free0 ! $
         keep ! (5 ∷ 4 ∷ 3 ∷ 2 ∷ 1 ∷ 6 ∷ []) $ by ! (exits (zs .1 .1 .1 .1 .1 .1 .1 .1 .0) j (zs .1 .1 .1 .1 .1 .1 .1 .0) (spelled j c has) is-after out-same kept))))))))))))))))))))))))))))

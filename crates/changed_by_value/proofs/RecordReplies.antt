@@ -12,15 +12,15 @@ use Rattle.head.specs.declared.Watch.{Watch}
 use Rattle.replies.proofs.Reply as R
 use Rattle.head.proofs.Watch as T
 use Rattle.shared_records.proofs.Machines.{machines}
-use Rattle.changed_by_value.specs.declared.Made.{Made}
-use Rattle.changed_by_value.proofs.Made as Md
+use Rattle.changed_by_value.specs.declared.RecordReply.{RecordReply}
+use Rattle.changed_by_value.proofs.RecordReply as Md
 use Rattle.by_value.proofs.LocalRecords.{recorded}
 
-abbrev pub made : Reply → List Watch → Made
-made reply records = record { reply = reply; records = records }
+abbrev pub recordReply : Reply → List Watch → RecordReply
+recordReply reply records = record { reply = reply; records = records }
 
-abbrev pub made-value : Reply → List Watch → Val
-made-value reply records = vstruct (vcons (only (machines reply)) (vcons (only (recorded records)) vnil))
+abbrev pub record-reply-value : Reply → List Watch → Val
+record-reply-value reply records = vstruct (vcons (only (machines reply)) (vcons (only (recorded records)) vnil))
 
 each-in : (xs : List Watch) (us : List Val) → shadow (each Watch (T.the-row .own) xs us) → shadow (each (T.the-field .row .Denot) (T.the-field .row .own) (map (T.the-field .into) xs) us)
 each-in [] [] s = s
@@ -31,5 +31,5 @@ each-in (x ∷ xs) (u ∷ us) s = (s .0, each-in xs us (s .1))
 in-field : (xs : List Watch) (vs : List Val) → Is (Array T.the-row 8) xs vs → Is (Array (T.the-field .row) 8) (map (T.the-field .into) xs) vs
 in-field xs vs p = (p .0, ((p .1 .0 .0, length-map xs (T.the-field .into) ∙ p .1 .0 .1), each-in xs (p .0) (p .1 .1)))
 
-pub is-made : (reply : Reply) (records : List Watch) → Is R.the-row reply (machines reply) → Is (Array T.the-row 8) records (recorded records) → Is Md.the-row (made reply records) (made-value reply records ∷ [])
-is-made reply records is each-is = ((machines reply, (recorded records, tt)), (refl, (is, (in-field records (recorded records) each-is, tt))))
+pub is-record-reply : (reply : Reply) (records : List Watch) → Is R.the-row reply (machines reply) → Is (Array T.the-row 8) records (recorded records) → Is Md.the-row (recordReply reply records) (record-reply-value reply records ∷ [])
+is-record-reply reply records is each-is = ((machines reply, (recorded records, tt)), (refl, (is, (in-field records (recorded records) each-is, tt))))
