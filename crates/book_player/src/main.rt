@@ -1,12 +1,16 @@
 // The book player: makes the calls that the lines of standard input ask for on real buffers, and prints what was seen
 // of each.
+use player_calls::write;
 use player_input::Cursor;
 use player_input::next_line;
 use player_output::Print;
-use player_output::flush;
 use player_print::print_line;
+use player_print::print_tables;
+use player_reads::read;
+use player_reads::set;
 use player_state::State;
-use player_turns::play;
+use player_state::begin;
+use player_state::poke;
 use sizes::CHANGE_BYTES;
 use sizes::COLUMN_CELLS;
 use sizes::PLACES;
@@ -17,47 +21,34 @@ const PIECE: usize = 65536;
 fn main() {
     let mut columns = [0u32; COLUMN_CELLS];
     let mut positions = [0u32; PLACES];
-    let mut lower_ends = [0u32; PLACES];
-    let mut upper_ends = [0u32; PLACES];
+    let mut lower = [0u32; PLACES];
+    let mut upper = [0u32; PLACES];
     let mut out = [0u8; CHANGE_BYTES];
-    let mut cells = [0u32; CHANGE_BYTES];
+    let mut list = [0u32; CHANGE_BYTES];
+    let mut input = [0u8; PIECE];
     let mut text = [0u8; PIECE];
-    let mut lines = [0u8; PIECE];
     let mut state = State::first();
-    let mut print = Print {
-        lines: 0,
-        used: 0,
-        failed: false,
-    };
+    let mut page = Print::first();
     let mut cursor = Cursor::first();
     let mut turns = u64::MAX;
-    while 0 < turns && !(cursor.over | print.failed) {
+    while 0 < turns && !(cursor.over | page.failed) {
         turns -= 1;
-        let next = next_line(cursor, &mut text);
-        let line = next.line;
-        cursor = next.cursor;
-        state = play(
+        cursor = next_line(cursor, &mut input);
+        let line = cursor.line;
+        let poked = poke(line, &mut columns, &mut positions, &mut lower, &mut upper);
+        state = begin(state, line, poked);
+        state = write(
             state,
             line,
             &mut columns,
             &mut positions,
-            &mut lower_ends,
-            &mut upper_ends,
+            &mut lower,
+            &mut upper,
             &mut out,
-            &mut cells,
         );
-        print = print_line(
-            print,
-            cursor.found,
-            state,
-            &columns,
-            &positions,
-            &lower_ends,
-            &upper_ends,
-            &out,
-            &cells,
-            &mut lines,
-        );
+        state = set(state, line, &columns, &positions, &lower, &upper, &mut out);
+        state = read(state, line, &columns, &positions, &lower, &upper, &mut list);
+        page = print_line(page, cursor.found, state, &out, &list, &mut text);
+        page = print_tables(page, state, &columns, &positions, &lower, &upper, &mut text);
     }
-    flush(print, &lines);
 }

@@ -1,12 +1,13 @@
-// The call that a line of the book player asks for, made on the parts of the buffers that are lent.
-use changed_by_value::Made;
+// The calls that write the tables, the opening and the quote, made on the parts of the buffers that are lent.
+ghost use Prim.Native.Nat.{_≤_};
+use changed_by_value::RecordReply;
 use player_lines::Command;
 use player_lines::Line;
 use player_lines::quoted;
-use player_reads::read;
+use player_state::Loan;
 use player_state::Seen;
 use player_state::State;
-use player_watches::set;
+use player_state::least;
 use refusals::Answer;
 use replies::Reply;
 
@@ -20,34 +21,29 @@ fn accepts(reply: Reply) -> bool {
 }
 
 // The state after an opening. One that is refused leaves the head for the next call.
-fn after_opening(state: State, made: Made) -> State {
+fn opened(state: State, made: RecordReply) -> State {
     let reply = made.reply;
     let records = made.records;
-    let head = state.head;
-    let answered = state.answered(reply, Seen::Bytes);
+    let now = state.recorded(records);
     if accepts(reply) {
-        let fresh = reply.head;
-        return answered.holding(fresh, records);
+        return now.answered(reply.head, Seen::Bytes(reply));
     }
-    answered.holding(head, records)
+    now.showing(Seen::Bytes(reply))
 }
 
-// Makes the call of a line, where it asks for one: an opening and a quote write the tables, the others read them, with
-// the records or without.
-pub fn call(
+// Makes the call of a line on the parts that are lent.
+fn write_lent(
     state: State,
     line: Line,
     columns: &mut [u32],
     positions: &mut [u32],
-    lower_ends: &mut [u32],
-    upper_ends: &mut [u32],
+    lower: &mut [u32],
+    upper: &mut [u32],
     out: &mut [u8],
-    cells: &mut [u32],
 ) -> State {
     let command = line.command;
     let n = line.numbers;
-    let head = state.head;
-    let records = state.records;
+    let held = state.records;
     match command {
         Command::Open => {
             let made = changed_by_value::open(
@@ -56,36 +52,73 @@ pub fn call(
                 n[2],
                 columns,
                 positions,
-                lower_ends,
-                upper_ends,
-                records,
+                lower,
+                upper,
+                held,
             );
-            after_opening(state, made)
+            opened(state, made)
         }
         Command::Quote => {
+            let head = state.head;
             let quote = quoted(&n, line.count);
-            let reply = by_value::quote(
-                head,
-                quote,
-                columns,
-                positions,
-                lower_ends,
-                upper_ends,
-                records,
-                out,
-            );
-            state.answered(reply, Seen::Bytes)
+            let reply = by_value::quote(head, quote, columns, positions, lower, upper, held, out);
+            state.answered(reply.head, Seen::Bytes(reply))
         }
-        Command::Preview | Command::Watch(_) | Command::End(_) | Command::Pair | Command::Unpair =>
-            set(state, line, columns, positions, lower_ends, upper_ends, out),
-        _ => read(
-            state,
-            line,
-            columns,
-            positions,
-            lower_ends,
-            upper_ends,
-            cells,
-        ),
+        _ => state,
     }
+}
+
+// What is lent of buffers that are so long.
+fn lent(
+    loan: Loan,
+    columns: usize,
+    positions: usize,
+    lower: usize,
+    upper: usize,
+    out: usize,
+) -> Loan
+    ensures { λ r. ⌜ (r .columns ≤ columns) × (r .positions ≤ positions) × (r .lower ≤ lower) × (r .upper ≤ upper)
+        × (r .out ≤ out) ⌝ }
+{
+    Loan {
+        columns: least(loan.columns, columns),
+        positions: least(loan.positions, positions),
+        lower: least(loan.lower, lower),
+        upper: least(loan.upper, upper),
+        out: least(loan.out, out),
+    }
+}
+
+// Makes the call of a line that writes the tables, where it asks for one.
+pub fn write(
+    state: State,
+    line: Line,
+    columns: &mut [u32],
+    positions: &mut [u32],
+    lower: &mut [u32],
+    upper: &mut [u32],
+    out: &mut [u8],
+) -> State {
+    let loan = lent(
+        state.loan,
+        columns.len(),
+        positions.len(),
+        lower.len(),
+        upper.len(),
+        out.len(),
+    );
+    let c = loan.columns;
+    let p = loan.positions;
+    let l = loan.lower;
+    let u = loan.upper;
+    let o = loan.out;
+    write_lent(
+        state,
+        line,
+        &mut columns[..c],
+        &mut positions[..p],
+        &mut lower[..l],
+        &mut upper[..u],
+        &mut out[..o],
+    )
 }

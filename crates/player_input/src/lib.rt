@@ -3,14 +3,13 @@ ghost use Prim.Native.Nat.{_≤_};
 use line_fields::line_end;
 use player_lines::Command;
 use player_lines::Line;
-use player_lines::Name;
 use player_lines::read_line;
 
 // A part of a line that is longer than any that the player can take.
 const TOO_LONG: usize = 200;
 
-// Where the player stands in its input: the line that was found, the place behind it, the end of the text that has
-// come, whether the input has ended, whether a line was found, and whether all is over.
+// Where the player stands in its input: where the line that was found begins and ends, the place behind it, the end of the
+// text that has come, whether the input has ended, whether a line was found, whether all is over, and the line.
 pub struct Cursor {
     from: usize,
     to: usize,
@@ -19,11 +18,6 @@ pub struct Cursor {
     ended: bool,
     pub found: bool,
     pub over: bool,
-}
-
-// Where the player stands at the next line, and the line; none where none was found.
-pub struct Next {
-    pub cursor: Cursor,
     pub line: Line,
 }
 
@@ -38,6 +32,7 @@ impl Cursor {
             ended: false,
             found: false,
             over: false,
+            line: no_line(),
         }
     }
 }
@@ -111,7 +106,7 @@ fn read_on(cursor: Cursor, text: &mut [u8]) -> Cursor {
 fn no_line() -> Line {
     Line {
         command: Command::None,
-        name: Name::None,
+        name: 0,
         numbers: [0; 12],
         count: 0,
     }
@@ -134,9 +129,10 @@ fn line_of(cursor: Cursor, text: &[u8]) -> Line {
 }
 
 // Goes on to the next line of the text, and reads more text first where no line was found before.
-pub fn next_line(cursor: Cursor, text: &mut [u8]) -> Next {
+pub fn next_line(cursor: Cursor, text: &mut [u8]) -> Cursor {
     let there = read_on(cursor, text);
-    let cursor = find_line(there, text);
-    let line = line_of(cursor, text);
-    Next { cursor, line }
+    let mut now = find_line(there, text);
+    let line = line_of(now, text);
+    now.line = line;
+    now
 }

@@ -3,6 +3,7 @@
 mod words;
 
 use head::Desk;
+pub use words::front;
 pub use words::quoted;
 pub use words::read_line;
 
@@ -27,22 +28,25 @@ pub enum Command {
     Show,
 }
 
-// What a line names: a table, the n of the records, their desks, or the output.
-pub enum Name {
-    None,
-    Columns,
-    Positions,
-    Lower,
-    Upper,
-    Watches,
-    Desks,
-    Out,
-}
+// What a line names, by number: a table, the output, the n of the records or their desks; 0 where it names none.
+pub const COLUMNS: u64 = 1;
+
+pub const POSITIONS: u64 = 2;
+
+pub const LOWER: u64 = 3;
+
+pub const UPPER: u64 = 4;
+
+pub const OUT: u64 = 5;
+
+pub const WATCHES: u64 = 6;
+
+pub const DESKS: u64 = 7;
 
 // A line as it was read: its numbers with zeros behind them, and how many there are.
 pub struct Line {
     pub command: Command,
-    pub name: Name,
+    pub name: u64,
     pub numbers: [u32; 12],
     pub count: usize,
 }

@@ -1,7 +1,6 @@
 // Reading a line: its word, its name, its numbers.
 use crate::Command;
 use crate::Line;
-use crate::Name;
 use head::Desk;
 use line_fields::fields_from;
 
@@ -40,214 +39,187 @@ fn field_start(line: &[u8], place: usize, before: usize) -> usize {
     at
 }
 
-// Whether the bytes of a line from one place up to another spell a word.
-fn spells(line: &[u8], from: usize, to: usize, word: &[u8]) -> bool {
-    if to < from {
-        return false;
-    }
+// The bytes of a line from one place up to another; none where there are none.
+fn part<'a>(line: &'a [u8], from: usize, to: usize) -> &'a [u8] {
     if line.len() < to {
-        return false;
+        return &line[..0];
     }
-    if to - from != word.len() {
-        return false;
+    if to < from {
+        return &line[..0];
     }
-    let mut same = true;
+    &line[from..to]
+}
+
+// A word compared with a list of words, byte by byte: which of them is next, counted from 1, how many of its bytes have
+// passed, whether they were the word's, and which of them the word is, 0 where none was.
+struct Search {
+    next: u64,
+    passed: u64,
+    same: bool,
+    found: u64,
+}
+
+// Whether a word has a byte at a place.
+fn has(word: &[u8], at: u64, byte: u8) -> bool {
+    if at < word.len() as u64 {
+        return word[at as usize] == byte;
+    }
+    false
+}
+
+impl Search {
+    // Which of the words the word is, where the next one ends here.
+    fn ended(self, word: &[u8]) -> u64 {
+        if self.same & (self.passed == word.len() as u64) {
+            return self.next;
+        }
+        self.found
+    }
+
+    // After one more byte of the list: a space stands behind each word.
+    fn after(self, word: &[u8], byte: u8) -> Search {
+        if byte == 32 {
+            return Search {
+                next: std::num::wrapping_add_u64(self.next, 1),
+                passed: 0,
+                same: true,
+                found: self.ended(word),
+            };
+        }
+        Search {
+            next: self.next,
+            passed: std::num::wrapping_add_u64(self.passed, 1),
+            same: self.same & has(word, self.passed, byte),
+            found: self.found,
+        }
+    }
+}
+
+// Which word of a list a word is, counted from 1; 0 where it is none.
+fn find_word(word: &[u8], words: &[u8]) -> u64 {
+    let mut search = Search {
+        next: 1,
+        passed: 0,
+        same: true,
+        found: 0,
+    };
     let mut i = 0;
-    while i < word.len() {
-        same = same & (line[from + i] == word[i]);
+    while i < words.len() {
+        search = search.after(word, words[i]);
         i += 1;
     }
-    same
+    search.found
+}
+
+// The two halves of the numbers of a line behind one another.
+fn joined(first: [u32; 6], last: [u32; 6]) -> [u32; 12] {
+    [
+        first[0],
+        first[1],
+        first[2],
+        first[3],
+        first[4],
+        first[5],
+        last[0],
+        last[1],
+        last[2],
+        last[3],
+        last[4],
+        last[5],
+    ]
 }
 
 // At most twelve numbers from a place on, six at a time.
 fn numbers_from(line: &[u8], place: usize) -> Numbers {
     let middle = field_start(line, place, 6);
-    if line.len() < middle {
-        return Numbers {
-            valid: false,
-            count: 0,
-            numbers: [0; 12],
-        };
-    }
-    let first = fields_from(&line[..middle], place);
+    let first = fields_from(part(line, 0, middle), place);
     let last = fields_from(line, middle);
     let a = first.numbers;
     let b = last.numbers;
     Numbers {
         valid: first.valid & !first.empty & last.valid & !last.empty,
         count: std::num::wrapping_add_u64(first.count as u64, last.count as u64) as usize,
-        numbers: [
-            a[0],
-            a[1],
-            a[2],
-            a[3],
-            a[4],
-            a[5],
-            b[0],
-            b[1],
-            b[2],
-            b[3],
-            b[4],
-            b[5],
-        ],
+        numbers: joined(a, b),
     }
 }
 
-// The call on a watch or the pair that the bytes up to a place spell: those of desk two have a 2 behind the word.
-fn watch_of(line: &[u8], to: usize) -> Command {
-    if spells(line, 0, to, b"watch") {
-        return Command::Watch(Desk::One);
+// The command that a word says; the calls on desk two's watches have a 2 behind the word.
+fn command_of(word: &[u8]) -> Command {
+    let words =
+        b"open quote preview look past watch watch2 end end2 pair unpair due audit lend cell head show ";
+    match find_word(word, words) {
+        1 => Command::Open,
+        2 => Command::Quote,
+        3 => Command::Preview,
+        4 => Command::Look,
+        5 => Command::Past,
+        6 => Command::Watch(Desk::One),
+        7 => Command::Watch(Desk::Two),
+        8 => Command::End(Desk::One),
+        9 => Command::End(Desk::Two),
+        10 => Command::Pair,
+        11 => Command::Unpair,
+        12 => Command::Due,
+        13 => Command::Audit,
+        14 => Command::Lend,
+        15 => Command::Cell,
+        16 => Command::Head,
+        17 => Command::Show,
+        _ => Command::Unread,
     }
-    if spells(line, 0, to, b"watch2") {
-        return Command::Watch(Desk::Two);
-    }
-    if spells(line, 0, to, b"end") {
-        return Command::End(Desk::One);
-    }
-    if spells(line, 0, to, b"end2") {
-        return Command::End(Desk::Two);
-    }
-    if spells(line, 0, to, b"pair") {
-        return Command::Pair;
-    }
-    if spells(line, 0, to, b"unpair") {
-        return Command::Unpair;
-    }
-    Command::Unread
 }
 
-// The call on an opened book that the bytes up to a place spell.
-fn call_of(line: &[u8], to: usize) -> Command {
-    if spells(line, 0, to, b"quote") {
-        return Command::Quote;
-    }
-    if spells(line, 0, to, b"preview") {
-        return Command::Preview;
-    }
-    if spells(line, 0, to, b"look") {
-        return Command::Look;
-    }
-    if spells(line, 0, to, b"past") {
-        return Command::Past;
-    }
-    if spells(line, 0, to, b"due") {
-        return Command::Due;
-    }
-    watch_of(line, to)
-}
-
-// The command that the bytes up to a place spell.
-fn command_of(line: &[u8], to: usize) -> Command {
-    if spells(line, 0, to, b"open") {
-        return Command::Open;
-    }
-    if spells(line, 0, to, b"audit") {
-        return Command::Audit;
-    }
-    if spells(line, 0, to, b"lend") {
-        return Command::Lend;
-    }
-    if spells(line, 0, to, b"cell") {
-        return Command::Cell;
-    }
-    if spells(line, 0, to, b"head") {
-        return Command::Head;
-    }
-    if spells(line, 0, to, b"show") {
-        return Command::Show;
-    }
-    call_of(line, to)
-}
-
-// The name that the bytes from one place up to another spell.
-fn name_of(line: &[u8], from: usize, to: usize) -> Name {
-    if spells(line, from, to, b" columns") {
-        return Name::Columns;
-    }
-    if spells(line, from, to, b" positions") {
-        return Name::Positions;
-    }
-    if spells(line, from, to, b" lower") {
-        return Name::Lower;
-    }
-    if spells(line, from, to, b" upper") {
-        return Name::Upper;
-    }
-    if spells(line, from, to, b" watches") {
-        return Name::Watches;
-    }
-    if spells(line, from, to, b" desks") {
-        return Name::Desks;
-    }
-    if spells(line, from, to, b" out") {
-        return Name::Out;
-    }
-    Name::None
-}
-
-// Whether a command is followed by a name.
-fn wants_name(command: Command) -> bool {
+// Where the numbers of a command begin, from the end of its word: behind the name where it is followed by one.
+fn numbers_start(line: &[u8], command: Command, to: usize) -> usize {
     match command {
-        Command::Lend => true,
-        Command::Cell => true,
-        _ => false,
+        Command::Lend => next_field(line, to),
+        Command::Cell => next_field(line, to),
+        _ => to,
     }
 }
 
 // Whether a command goes with this many numbers.
 fn fits(command: Command, count: usize) -> bool {
     match command {
+        Command::None | Command::Unread => false,
+        Command::Quote | Command::Preview => true,
         Command::Open => count == 3,
-        Command::Quote => true,
-        Command::Preview => true,
-        Command::Look => count == 1,
-        Command::Past => count == 2,
-        Command::Watch(_) => count == 1,
-        Command::End(_) => count == 1,
-        Command::Pair => count == 2,
-        Command::Unpair => count == 0,
-        Command::Due => count == 0,
-        Command::Audit => count == 0,
-        Command::Lend => count == 1,
-        Command::Cell => count == 2,
         Command::Head => count == 8,
-        Command::Show => count == 0,
-        _ => false,
+        Command::Past | Command::Pair | Command::Cell => count == 2,
+        Command::Unpair | Command::Due | Command::Audit | Command::Show => count == 0,
+        _ => count == 1,
     }
 }
 
 // Reads a line, without its newline.
 pub fn read_line(line: &[u8]) -> Line {
     let to = next_space(line, 0);
-    let command = command_of(line, to);
-    let mut name = Name::None;
-    let mut place = to;
-    if wants_name(command) {
-        place = next_field(line, to);
-        name = name_of(line, to, place);
-    }
+    let command = command_of(part(line, 0, to));
+    let place = numbers_start(line, command, to);
+    let behind = std::num::wrapping_add_u64(to as u64, 1) as usize;
+    let names = b"columns positions lower upper out watches desks ";
+    let name = find_word(part(line, behind, place), names);
     let said = numbers_from(line, place);
     let numbers = said.numbers;
     let count = said.count;
-    if !said.valid || !fits(command, count) {
+    if said.valid & fits(command, count) {
         return Line {
-            command: Command::Unread,
-            name: Name::None,
+            command,
+            name,
             numbers,
             count,
         };
     }
     Line {
-        command,
-        name,
+        command: Command::Unread,
+        name: 0,
         numbers,
         count,
     }
 }
 
 // The first numbers, so many, or all where there are fewer.
-fn front<'a>(numbers: &'a [u32], count: usize) -> &'a [u32] {
+pub fn front<'a>(numbers: &'a [u32], count: usize) -> &'a [u32] {
     if count < numbers.len() {
         return &numbers[..count];
     }

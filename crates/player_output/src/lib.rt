@@ -7,6 +7,17 @@ pub struct Print {
     pub failed: bool,
 }
 
+impl Print {
+    // Before the first line of input.
+    pub fn first() -> Print {
+        Print {
+            lines: 0,
+            used: 0,
+            failed: false,
+        }
+    }
+}
+
 // Writes out what is gathered.
 pub fn flush(print: Print, gathered: &[u8]) -> Print {
     let mut now = print;
@@ -29,30 +40,6 @@ fn with_room(print: Print, room: usize, gathered: &[u8]) -> Print {
         }
     }
     flush(print, gathered)
-}
-
-// How many numbers a short line has at most.
-const NUMBERS: usize = 10;
-
-// How many bytes a short line has at most: its letter and newline, and a space and ten digits for each number.
-const SHORT_LINE: usize = 2 + 11 * NUMBERS;
-
-// Prints a short line.
-pub fn put_short(print: Print, letter: u8, numbers: &[u32], gathered: &mut [u8]) -> Print {
-    let mut now = with_room(print, SHORT_LINE, gathered);
-    let used = now.used;
-    if NUMBERS < numbers.len() {
-        return now;
-    }
-    if gathered.len() < used {
-        return now;
-    }
-    if gathered.len() - used < SHORT_LINE {
-        return now;
-    }
-    let count = text::put_line(letter, numbers, &mut gathered[used..]);
-    now.used = std::num::wrapping_add_u64(used as u64, count as u64) as usize;
-    now
 }
 
 // Prints one byte.
@@ -82,18 +69,18 @@ fn put_field(print: Print, n: u32, gathered: &mut [u8]) -> Print {
     now
 }
 
-// Prints the first cells of a table behind a letter.
-pub fn put_cells(
+// Prints the first numbers of a list or a table behind a letter.
+pub fn put_numbers(
     print: Print,
     letter: u8,
-    cells: &[u32],
+    numbers: &[u32],
     count: usize,
     gathered: &mut [u8],
 ) -> Print {
     let mut now = put_byte(print, letter, gathered);
     let mut i = 0;
-    while i < cells.len() && i < count {
-        now = put_field(now, cells[i], gathered);
+    while i < numbers.len() && i < count {
+        now = put_field(now, numbers[i], gathered);
         i += 1;
     }
     put_byte(now, 10, gathered)

@@ -4,14 +4,17 @@ use head::Watch;
 use player_output::Print;
 use player_output::flush;
 use player_output::put_bytes;
-use player_output::put_cells;
-use player_output::put_short;
+use player_output::put_numbers;
 use player_output::put_word;
 use player_state::Seen;
 use player_state::State;
 use refusals::Answer;
+use replies::Effect;
 use replies::Reply;
 use replies::Verdict;
+use sizes::CHANGE_BYTES;
+use sizes::COLUMN_CELLS;
+use sizes::PLACES;
 
 // The number of an answer: 0 where it accepts.
 fn number(answer: Answer) -> u32 {
@@ -45,7 +48,7 @@ fn put_reply(print: Print, reply: Reply, gathered: &mut [u8]) -> Print {
         head.n1,
         head.n2,
     ];
-    put_short(print, b'A', &numbers, gathered)
+    put_numbers(print, b'A', &numbers, 10, gathered)
 }
 
 // Prints the verdict of an audit.
@@ -55,7 +58,7 @@ fn put_verdict(print: Print, verdict: Verdict, gathered: &mut [u8]) -> Print {
         Verdict::No => put_word(print, b"V no\n", gathered),
         Verdict::Refused(refusal) => {
             let numbers = [refusal.number()];
-            put_short(print, b'V', &numbers, gathered)
+            put_numbers(print, b'V', &numbers, 1, gathered)
         }
     }
 }
@@ -81,65 +84,51 @@ fn column_cells(head: Head) -> usize {
     cells as usize
 }
 
-// Prints the n of the records.
-fn put_sizes(print: Print, records: [Watch; 8], gathered: &mut [u8]) -> Print {
-    let a = records[0];
-    let b = records[1];
-    let c = records[2];
-    let d = records[3];
-    let e = records[4];
-    let f = records[5];
-    let g = records[6];
-    let h = records[7];
-    let numbers = [a.n, b.n, c.n, d.n, e.n, f.n, g.n, h.n];
-    put_short(print, b'W', &numbers, gathered)
+// The desk of a record where desks are asked for, else its n.
+fn field(record: Watch, desks: bool) -> u32 {
+    if desks { record.desk } else { record.n }
 }
 
-// Prints the desks of the records.
-fn put_desks(print: Print, records: [Watch; 8], gathered: &mut [u8]) -> Print {
-    let a = records[0];
-    let b = records[1];
-    let c = records[2];
-    let d = records[3];
-    let e = records[4];
-    let f = records[5];
-    let g = records[6];
-    let h = records[7];
-    let numbers = [
-        a.desk,
-        b.desk,
-        c.desk,
-        d.desk,
-        e.desk,
-        f.desk,
-        g.desk,
-        h.desk,
-    ];
-    put_short(print, b'D', &numbers, gathered)
+// The desks of the records where they are asked for, else every n.
+fn fields(records: [Watch; 8], desks: bool) -> [u32; 8] {
+    let mut numbers = [0; 8];
+    let mut i = 0;
+    while i < 8 {
+        let record = records[i];
+        numbers[i] = field(record, desks);
+        i += 1;
+    }
+    numbers
 }
 
 // Prints the records: every n, then every desk.
 fn put_records(print: Print, records: [Watch; 8], gathered: &mut [u8]) -> Print {
-    let now = put_sizes(print, records, gathered);
-    put_desks(now, records, gathered)
+    let sizes = fields(records, false);
+    let desks = fields(records, true);
+    let now = put_numbers(print, b'W', &sizes, 8, gathered);
+    put_numbers(now, b'D', &desks, 8, gathered)
 }
 
-// Prints the tables and the records.
-fn put_tables(
+// Prints the tables and the records, where the line asks for them.
+pub fn print_tables(
     print: Print,
-    head: Head,
-    records: [Watch; 8],
-    columns: &[u32],
-    positions: &[u32],
-    lower_ends: &[u32],
-    upper_ends: &[u32],
+    state: State,
+    columns: &[u32; COLUMN_CELLS],
+    positions: &[u32; PLACES],
+    lower: &[u32; PLACES],
+    upper: &[u32; PLACES],
     gathered: &mut [u8],
 ) -> Print {
-    let n = places(head);
-    let mut now = put_cells(print, b'C', columns, column_cells(head), gathered);
-    now = put_cells(now, b'P', positions, n, gathered);
-    now = put_cells(now, b'E', lower_ends, n, gathered);
-    now = put_cells(now, b'U', upper_ends, n, gathered);
+    let seen = state.seen;
+    let Seen::Tables = seen else {
+        return print;
+    };
+    let records = state.records;
+    let n = places(state.head);
+    let mut now = put_numbers(print, b'C', columns, column_cells(state.head), gathered);
+    now = put_numbers(now, b'P', positions, n, gathered);
+    now = put_numbers(now, b'E', lower, n, gathered);
+    now = put_numbers(now, b'U', upper, n, gathered);
     put_records(now, records, gathered)
 }
 
@@ -152,25 +141,18 @@ fn put_bytes_reply(print: Print, reply: Reply, out: &[u8], gathered: &mut [u8]) 
     put_bytes(now, out, reply.count, gathered)
 }
 
-// Prints a reply with the bytes that a preview wrote, and behind them the counts of live and held rows.
-fn put_preview(
-    print: Print,
-    reply: Reply,
-    live: u32,
-    held: u32,
-    out: &[u8],
-    gathered: &mut [u8],
-) -> Print {
-    let now = put_bytes_reply(print, reply, out, gathered);
-    let numbers = [live, held];
-    put_short(now, b'N', &numbers, gathered)
+// Prints what a preview hands back: its reply with the bytes that it wrote, and behind them the counts of live and held rows.
+fn put_preview(print: Print, effect: Effect, out: &[u8], gathered: &mut [u8]) -> Print {
+    let now = put_bytes_reply(print, effect.reply, out, gathered);
+    let numbers = [effect.live, effect.held];
+    put_numbers(now, b'N', &numbers, 2, gathered)
 }
 
-// Prints a reply with the first cells that were written, so many.
-fn put_cells_reply(
+// Prints a reply with the first cells of the list that was written, so many.
+fn put_list_reply(
     print: Print,
     reply: Reply,
-    cells: &[u32],
+    list: &[u32],
     count: usize,
     gathered: &mut [u8],
 ) -> Print {
@@ -178,7 +160,7 @@ fn put_cells_reply(
     if count == 0 {
         return now;
     }
-    put_cells(now, b'X', cells, count, gathered)
+    put_numbers(now, b'X', list, count, gathered)
 }
 
 // How many cells as many rows have, two for each.
@@ -186,23 +168,13 @@ fn row_cells(count: usize) -> usize {
     std::num::wrapping_add_u64(count as u64, count as u64) as usize
 }
 
-// Names a line that cannot be taken.
-fn put_unread(print: Print, gathered: &mut [u8]) -> Print {
-    let numbers = [print.lines];
-    put_short(print, b'?', &numbers, gathered)
-}
-
-// Prints what was seen of the line that was found; where none was found, writes out what is gathered.
+// Prints what was seen of the line that was found, but for the tables; where none was found, writes out what is gathered.
 pub fn print_line(
     print: Print,
     found: bool,
     state: State,
-    columns: &[u32],
-    positions: &[u32],
-    lower_ends: &[u32],
-    upper_ends: &[u32],
-    out: &[u8],
-    cells: &[u32],
+    out: &[u8; CHANGE_BYTES],
+    list: &[u32; CHANGE_BYTES],
     gathered: &mut [u8],
 ) -> Print {
     if !found {
@@ -211,27 +183,16 @@ pub fn print_line(
     let mut now = print;
     now.lines = std::num::wrapping_add_u32(print.lines, 1);
     let seen = state.seen;
-    let reply = state.reply;
-    let verdict = state.verdict;
-    let head = state.head;
-    let records = state.records;
     match seen {
-        Seen::Nothing => now,
-        Seen::Unread => put_unread(now, gathered),
-        Seen::Bytes => put_bytes_reply(now, reply, out, gathered),
-        Seen::Preview(live, held) => put_preview(now, reply, live, held, out, gathered),
-        Seen::Cells => put_cells_reply(now, reply, cells, reply.count, gathered),
-        Seen::Rows => put_cells_reply(now, reply, cells, row_cells(reply.count), gathered),
-        Seen::Verdict => put_verdict(now, verdict, gathered),
-        Seen::Tables => put_tables(
-            now,
-            head,
-            records,
-            columns,
-            positions,
-            lower_ends,
-            upper_ends,
-            gathered,
-        ),
+        Seen::Unread => {
+            let numbers = [now.lines];
+            put_numbers(now, b'?', &numbers, 1, gathered)
+        }
+        Seen::Bytes(reply) => put_bytes_reply(now, reply, out, gathered),
+        Seen::Preview(effect) => put_preview(now, effect, out, gathered),
+        Seen::Cells(reply) => put_list_reply(now, reply, list, reply.count, gathered),
+        Seen::Rows(reply) => put_list_reply(now, reply, list, row_cells(reply.count), gathered),
+        Seen::Verdict(verdict) => put_verdict(now, verdict, gathered),
+        _ => now,
     }
 }

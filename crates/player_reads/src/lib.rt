@@ -1,117 +1,150 @@
-// The calls that only read the tables and are lent no records: looks, what is due, and the audit.
+// The calls that only read the tables: looks, what is due and the audit, which are lent no records; the preview of a quote,
+// and those that set and end watches and the pair, which are.
+use audits::audit;
+use book::due;
+use book::look;
+use book::past;
+use by_value::pair;
+use by_value::preview;
+use by_value::unpair;
+use changed_by_value::RecordReply;
+use changed_by_value::end;
+use changed_by_value::watch;
 use player_lines::Command;
 use player_lines::Line;
+use player_lines::front;
+use player_lines::quoted;
 use player_state::Seen;
 use player_state::State;
+use player_state::least;
+use sizes::COLUMN_CELLS;
+use sizes::PLACES;
 
-// A look.
-fn look(
+// Makes the call of a line that is lent no records, where it asks for one, on the parts of the buffers that are lent.
+fn read_lent(
     state: State,
     line: Line,
     columns: &[u32],
     positions: &[u32],
-    lower_ends: &[u32],
-    upper_ends: &[u32],
-    cells: &mut [u32],
+    lower: &[u32],
+    upper: &[u32],
+    list: &mut [u32],
 ) -> State {
+    let command = line.command;
     let n = line.numbers;
     let head = state.head;
-    let reply = book::look(
-        head,
-        n[0],
-        columns,
-        positions,
-        lower_ends,
-        upper_ends,
-        cells,
-    );
-    state.answered(reply, Seen::Cells)
+    match command {
+        Command::Look => {
+            let reply = look(head, n[0], columns, positions, lower, upper, list);
+            state.answered(reply.head, Seen::Cells(reply))
+        }
+        Command::Past => {
+            let reply = past(head, n[0], n[1], columns, positions, lower, upper, list);
+            state.answered(reply.head, Seen::Cells(reply))
+        }
+        Command::Due => {
+            let reply = due(head, columns, positions, lower, upper, list);
+            state.answered(reply.head, Seen::Rows(reply))
+        }
+        Command::Audit => {
+            let verdict = audit(head, columns, positions, lower, upper);
+            state.showing(Seen::Verdict(verdict))
+        }
+        _ => state,
+    }
 }
 
-// A look at a past list.
-fn past(
+// The state after a watch is set or ended.
+fn recorded(state: State, made: RecordReply) -> State {
+    let reply = made.reply;
+    let records = made.records;
+    let answered = state.answered(reply.head, Seen::Bytes(reply));
+    answered.recorded(records)
+}
+
+// Makes the call of a line that is lent the records, where it asks for one, on the parts of the buffers that are lent.
+fn set_lent(
     state: State,
     line: Line,
     columns: &[u32],
     positions: &[u32],
-    lower_ends: &[u32],
-    upper_ends: &[u32],
-    cells: &mut [u32],
+    lower: &[u32],
+    upper: &[u32],
+    out: &mut [u8],
 ) -> State {
+    let command = line.command;
     let n = line.numbers;
+    let a = n[0];
     let head = state.head;
-    let reply = book::past(
-        head,
-        n[0],
-        n[1],
-        columns,
-        positions,
-        lower_ends,
-        upper_ends,
-        cells,
-    );
-    state.answered(reply, Seen::Cells)
+    let held = state.records;
+    match command {
+        Command::Preview => {
+            let quote = quoted(&n, line.count);
+            let effect = preview(head, quote, columns, positions, lower, upper, held, out);
+            state.answered(effect.reply.head, Seen::Preview(effect))
+        }
+        Command::Watch(desk) => {
+            let made = watch(head, desk, a, columns, positions, lower, upper, held, out);
+            recorded(state, made)
+        }
+        Command::End(desk) => {
+            let made = end(head, desk, a, columns, positions, lower, upper, held);
+            recorded(state, made)
+        }
+        Command::Pair => {
+            let reply = pair(head, a, n[1], columns, positions, lower, upper, held, out);
+            state.answered(reply.head, Seen::Bytes(reply))
+        }
+        Command::Unpair => {
+            let reply = unpair(head, columns, positions, lower, upper, held);
+            state.answered(reply.head, Seen::Bytes(reply))
+        }
+        _ => state,
+    }
 }
 
-// What is due.
-fn due(
-    state: State,
-    columns: &[u32],
-    positions: &[u32],
-    lower_ends: &[u32],
-    upper_ends: &[u32],
-    cells: &mut [u32],
-) -> State {
-    let head = state.head;
-    let reply = book::due(head, columns, positions, lower_ends, upper_ends, cells);
-    state.answered(reply, Seen::Rows)
-}
-
-// The audit.
-fn audit(
-    state: State,
-    columns: &[u32],
-    positions: &[u32],
-    lower_ends: &[u32],
-    upper_ends: &[u32],
-) -> State {
-    let head = state.head;
-    let verdict = audits::audit(head, columns, positions, lower_ends, upper_ends);
-    state.judged(verdict)
-}
-
-// Makes the call of a line that only reads the tables and is lent no records, where it asks for one.
+// Makes the call of a line that is lent no records, where it asks for one.
 pub fn read(
     state: State,
     line: Line,
-    columns: &[u32],
-    positions: &[u32],
-    lower_ends: &[u32],
-    upper_ends: &[u32],
-    cells: &mut [u32],
+    columns: &[u32; COLUMN_CELLS],
+    positions: &[u32; PLACES],
+    lower: &[u32; PLACES],
+    upper: &[u32; PLACES],
+    list: &mut [u32],
 ) -> State {
-    let command = line.command;
-    match command {
-        Command::Look => look(
-            state,
-            line,
-            columns,
-            positions,
-            lower_ends,
-            upper_ends,
-            cells,
-        ),
-        Command::Past => past(
-            state,
-            line,
-            columns,
-            positions,
-            lower_ends,
-            upper_ends,
-            cells,
-        ),
-        Command::Due => due(state, columns, positions, lower_ends, upper_ends, cells),
-        Command::Audit => audit(state, columns, positions, lower_ends, upper_ends),
-        _ => state,
-    }
+    let loan = state.loan;
+    let columns = front(&columns[..], loan.columns);
+    let positions = front(&positions[..], loan.positions);
+    let lower = front(&lower[..], loan.lower);
+    let upper = front(&upper[..], loan.upper);
+    let k = least(loan.out, list.len());
+    read_lent(
+        state,
+        line,
+        columns,
+        positions,
+        lower,
+        upper,
+        &mut list[..k],
+    )
+}
+
+// Makes the call of a line that is lent the records, where it asks for one.
+pub fn set(
+    state: State,
+    line: Line,
+    columns: &[u32; COLUMN_CELLS],
+    positions: &[u32; PLACES],
+    lower: &[u32; PLACES],
+    upper: &[u32; PLACES],
+    out: &mut [u8],
+) -> State {
+    let loan = state.loan;
+    let columns = front(&columns[..], loan.columns);
+    let positions = front(&positions[..], loan.positions);
+    let lower = front(&lower[..], loan.lower);
+    let upper = front(&upper[..], loan.upper);
+    let o = least(loan.out, out.len());
+    set_lent(state, line, columns, positions, lower, upper, &mut out[..o])
 }

@@ -1,160 +1,181 @@
-// What a line changes without a call: lengths lent, the head, a cell; and what it is to print before any call.
+// What a line changes without a call: a cell, lengths lent, the head, a record; and what it is to print before any call.
 use crate::Loan;
 use crate::Seen;
 use crate::State;
 use head::Head;
 use head::Watch;
+use player_lines::COLUMNS;
 use player_lines::Command;
+use player_lines::DESKS;
+use player_lines::LOWER;
 use player_lines::Line;
-use player_lines::Name;
+use player_lines::OUT;
+use player_lines::POSITIONS;
+use player_lines::UPPER;
+use player_lines::WATCHES;
 use sizes::CHANGE_BYTES;
 use sizes::COLUMN_CELLS;
 use sizes::PLACES;
 
-// How long a buffer is: the name of none has no length.
-fn full(name: Name) -> usize {
-    match name {
-        Name::Columns => COLUMN_CELLS,
-        Name::Positions => PLACES,
-        Name::Lower => PLACES,
-        Name::Upper => PLACES,
-        Name::Out => CHANGE_BYTES,
-        _ => 0,
+// How long a buffer is that can be lent.
+fn length(name: u64) -> usize {
+    if name == COLUMNS {
+        return COLUMN_CELLS;
+    }
+    if name == OUT {
+        return CHANGE_BYTES;
+    }
+    PLACES
+}
+
+// Whether a line names a buffer that can be lent, and no more than its length.
+fn within(line: Line) -> bool {
+    let numbers = line.numbers;
+    (COLUMNS <= line.name) & (line.name <= OUT) & (numbers[0] as usize <= length(line.name))
+}
+
+// How much of a buffer is lent from a line on.
+fn lent(line: Line, name: u64, before: usize) -> usize {
+    let command = line.command;
+    let numbers = line.numbers;
+    let Command::Lend = command else {
+        return before;
+    };
+    if (line.name == name) & within(line) {
+        return numbers[0] as usize;
+    }
+    before
+}
+
+// What is lent from a line on.
+fn next_loan(loan: Loan, line: Line) -> Loan {
+    Loan {
+        columns: lent(line, COLUMNS, loan.columns),
+        positions: lent(line, POSITIONS, loan.positions),
+        lower: lent(line, LOWER, loan.lower),
+        upper: lent(line, UPPER, loan.upper),
+        out: lent(line, OUT, loan.out),
     }
 }
 
-// Whether a buffer can be lent.
-fn can_lend(name: Name) -> bool {
-    match name {
-        Name::Watches => false,
-        Name::Desks => false,
-        Name::None => false,
-        _ => true,
+// The head from a line on.
+fn next_head(head: Head, line: Line) -> Head {
+    let command = line.command;
+    let n = line.numbers;
+    let Command::Head = command else {
+        return head;
+    };
+    Head {
+        dimensions: n[0],
+        capacity: n[1],
+        directions: n[2],
+        newest: n[3],
+        live: n[4],
+        held: n[5],
+        n1: n[6],
+        n2: n[7],
     }
 }
 
-// A loan with another length of a buffer.
-fn lent(loan: Loan, name: Name, k: usize) -> Loan {
-    let mut now = loan;
-    match name {
-        Name::Columns => {
-            now.columns = k;
-        }
-        Name::Positions => {
-            now.positions = k;
-        }
-        Name::Lower => {
-            now.lower_ends = k;
-        }
-        Name::Upper => {
-            now.upper_ends = k;
-        }
-        _ => {
-            now.out = k;
-        }
+// Whether a line pokes a cell of a table, the n of a record or its desk.
+fn pokes(line: Line, name: u64) -> bool {
+    let command = line.command;
+    match command {
+        Command::Cell => line.name == name,
+        _ => false,
+    }
+}
+
+// A record from a line on that names it.
+fn marked(record: Watch, line: Line) -> Watch {
+    let numbers = line.numbers;
+    let v = numbers[1];
+    let mut now = record;
+    if pokes(line, WATCHES) {
+        now.n = v;
+        return now;
+    }
+    if pokes(line, DESKS) {
+        now.desk = v;
     }
     now
 }
 
-// A length lent from now on; one beyond its buffer is a line that cannot be taken.
-fn lend(state: State, line: Line) -> State {
+// The records from a line on.
+fn next_records(records: [Watch; 8], line: Line) -> [Watch; 8] {
     let numbers = line.numbers;
-    let name = line.name;
-    let k = numbers[0] as usize;
-    if full(name) < k {
-        return state.showing(Seen::Unread);
-    }
-    if !can_lend(name) {
-        return state.showing(Seen::Unread);
-    }
-    let loan = state.loan;
-    state.lending(lent(loan, name, k))
-}
-
-// The head replaced.
-fn replace_head(state: State, line: Line) -> State {
-    let numbers = line.numbers;
-    let records = state.records;
-    let head = Head {
-        dimensions: numbers[0],
-        capacity: numbers[1],
-        directions: numbers[2],
-        newest: numbers[3],
-        live: numbers[4],
-        held: numbers[5],
-        n1: numbers[6],
-        n2: numbers[7],
-    };
-    state.holding(head, records)
-}
-
-// The state before a line's call or its cell: what is lent, the head, and what the line prints unless it is a call.
-pub fn begin(state: State, line: Line) -> State {
-    let command = line.command;
-    let begun = state.showing(Seen::Nothing);
-    match command {
-        Command::Unread => begun.showing(Seen::Unread),
-        Command::Show => begun.showing(Seen::Tables),
-        Command::Lend => lend(begun, line),
-        Command::Head => replace_head(begun, line),
-        _ => begun,
-    }
-}
-
-// A table with a cell poked, where it has one.
-fn poked(state: State, cells: &mut [u32], i: usize, v: u32) -> State {
-    if i < cells.len() {
-        cells[i] = v;
-        return state;
-    }
-    state.showing(Seen::Unread)
-}
-
-// A record with another desk where the desks are named, else with another n.
-fn marked(record: Watch, name: Name, v: u32) -> Watch {
-    match name {
-        Name::Desks => Watch {
-            n: record.n,
-            desk: v,
-        },
-        _ => Watch {
-            n: v,
-            desk: record.desk,
-        },
-    }
-}
-
-// The records with the n or the desk of one poked, where there is one.
-fn recorded(state: State, name: Name, i: usize, v: u32) -> State {
+    let i = numbers[0] as usize;
     if i < 8 {
-        let head = state.head;
-        let mut records = state.records;
+        let mut now = records;
         let record = records[i];
-        records[i] = marked(record, name, v);
-        return state.holding(head, records);
+        now[i] = marked(record, line);
+        return now;
     }
-    state.showing(Seen::Unread)
+    records
 }
 
-// A cell of a table or a record poked.
+// Whether a line cannot be taken: it was not read, it lends too much, or it pokes neither a cell of a table, which was done
+// before, nor a record.
+fn unread(line: Line, poked: bool) -> bool {
+    let command = line.command;
+    let numbers = line.numbers;
+    match command {
+        Command::Unread => true,
+        Command::Lend => !within(line),
+        Command::Cell => !(poked | ((WATCHES <= line.name) & (numbers[0] < 8))),
+        _ => false,
+    }
+}
+
+// What a line prints, unless it is a call.
+fn first_seen(line: Line, poked: bool) -> Seen {
+    let command = line.command;
+    if unread(line, poked) {
+        return Seen::Unread;
+    }
+    match command {
+        Command::Show => Seen::Tables,
+        _ => Seen::Nothing,
+    }
+}
+
+// The state before a line's call: the head, the records and what is lent as the line sets them, and what it prints unless it
+// is a call. Whether it poked a cell of a table is known.
+pub fn begin(state: State, line: Line, poked: bool) -> State {
+    let before = state.records;
+    let head = next_head(state.head, line);
+    let records = next_records(before, line);
+    let loan = next_loan(state.loan, line);
+    State {
+        head,
+        records,
+        loan,
+        seen: first_seen(line, poked),
+    }
+}
+
+// Pokes the cell of a line in a table, where the line asks for it, and answers whether it did.
+fn put(line: Line, name: u64, cells: &mut [u32]) -> bool {
+    let numbers = line.numbers;
+    let i = numbers[0] as usize;
+    if pokes(line, name) && i < cells.len() {
+        cells[i] = numbers[1];
+        return true;
+    }
+    false
+}
+
+// Pokes a cell of a table, where the line asks for one, and answers whether it did.
 pub fn poke(
-    state: State,
     line: Line,
     columns: &mut [u32],
     positions: &mut [u32],
-    lower_ends: &mut [u32],
-    upper_ends: &mut [u32],
-) -> State {
-    let name = line.name;
-    let numbers = line.numbers;
-    let i = numbers[0] as usize;
-    let v = numbers[1];
-    match name {
-        Name::Columns => poked(state, columns, i, v),
-        Name::Positions => poked(state, positions, i, v),
-        Name::Lower => poked(state, lower_ends, i, v),
-        Name::Upper => poked(state, upper_ends, i, v),
-        Name::Watches | Name::Desks => recorded(state, name, i, v),
-        _ => state.showing(Seen::Unread),
-    }
+    lower: &mut [u32],
+    upper: &mut [u32],
+) -> bool {
+    let a = put(line, COLUMNS, columns);
+    let b = put(line, POSITIONS, positions);
+    let c = put(line, LOWER, lower);
+    let d = put(line, UPPER, upper);
+    a | b | c | d
 }

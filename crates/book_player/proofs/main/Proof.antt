@@ -12,33 +12,22 @@ abbrev room : ℕ
 room = 62520
 
 abbrev Inv-loop : tie.InvT-loop
-Inv-loop columns₀ positions₀ lower-ends₀ upper-ends₀ out₀ cells₀ text₀ lines₀ state₀ print₀ cursor₀ turns₀ columns positions lower-ends upper-ends out cells text lines state print cursor turns =
-    (length columns ≡ 6144) × (length positions ≡ 1024) × (length lower-ends ≡ 1024) × (length upper-ends ≡ 1024)
-    × (length out ≡ room) × (length cells ≡ room) × (length text ≡ 65536) × (length lines ≡ 65536)
+Inv-loop columns₀ positions₀ lower₀ upper₀ out₀ list₀ input₀ text₀ state₀ page₀ cursor₀ turns₀ columns positions lower upper out list input text state page cursor turns =
+    (length columns ≡ 6144) × (length positions ≡ 1024) × (length lower ≡ 1024) × (length upper ≡ 1024)
+    × (length out ≡ room) × (length list ≡ room) × (length input ≡ 65536) × (length text ≡ 65536)
 
 abbrev μ-loop : tie.MeasureT-loop
-μ-loop columns₀ positions₀ lower-ends₀ upper-ends₀ out₀ cells₀ text₀ lines₀ state₀ print₀ cursor₀ turns₀ columns positions lower-ends upper-ends out cells text lines state print cursor turns =
+μ-loop columns₀ positions₀ lower₀ upper₀ out₀ list₀ input₀ text₀ state₀ page₀ cursor₀ turns₀ columns positions lower upper out list input text state page cursor turns =
     turns
-
--- how long the buffers of a line are once it is played
-played : (c : tie.After-play Inv-loop μ-loop)
-    → (6144 ≡ length (c .play .last .1 .1 .0)) × (1024 ≡ length (c .play .last .1 .1 .1 .0)) × (1024 ≡ length (c .play .last .1 .1 .1 .1 .0))
-    × (1024 ≡ length (c .play .last .1 .1 .1 .1 .1 .0)) × (room ≡ length (c .play .last .1 .1 .1 .1 .1 .1 .0))
-    × (room ≡ length (c .play .last .1 .1 .1 .1 .1 .1 .1 .0))
-played c = let i = c .before .before .before .before .before .before .before .before .before .before .before .before .before .before .before .before .loop .inv in let k = c .play .kept in (
-  omega (arith, i .0, k .1 .1 .0),
-  omega (arith, i .1, k .1 .1 .1 .0),
-  omega (arith, i .2, k .1 .1 .1 .1 .0),
-  omega (arith, i .3, k .1 .1 .1 .1 .1 .0),
-  omega (arith, i .4, k .1 .1 .1 .1 .1 .1 .0),
-  omega (arith, i .5, k .1 .1 .1 .1 .1 .1 .1 .0),
-)
 
 first-requires : tie.Need-first-requires Inv-loop μ-loop
 first-requires c κs = search needs
 
 first-requires-2 : tie.Need-first-requires-2 Inv-loop μ-loop
 first-requires-2 c κs = search needs
+
+first-requires-3 : tie.Need-first-requires-3 Inv-loop μ-loop
+first-requires-3 c κs = search needs
 
 loop-holds : tie.Need-loop-holds Inv-loop μ-loop
 loop-holds c = (refl, refl, refl, refl, refl, refl, refl, refl)
@@ -47,71 +36,135 @@ sub-turns : tie.Need-sub-turns Inv-loop μ-loop
 sub-turns c = search needs
 
 slice-aggregate-next-line : tie.Need-slice-aggregate-next-line Inv-loop μ-loop
-slice-aggregate-next-line c = sym (c .before .before .before .before .before .loop .inv .6)
+slice-aggregate-next-line c =
+    let at-loop = c .before .before .before .before .before in
+    sym (at-loop .loop .inv .6)
 
 next-line-requires : tie.Need-next-line-requires Inv-loop μ-loop
 next-line-requires c κs = search needs
 
-slice-aggregate-play : tie.Need-slice-aggregate-play Inv-loop μ-loop
-slice-aggregate-play c = sym (c .before .before .before .before .before .before .before .before .before .before .loop .inv .0)
+slice-aggregate-poke : tie.Need-slice-aggregate-poke Inv-loop μ-loop
+slice-aggregate-poke c =
+    let at-loop = c .before .before .before .before .before .before .before .before .before in
+    sym (at-loop .loop .inv .0)
 
-slice-aggregate-play-2 : tie.Need-slice-aggregate-play-2 Inv-loop μ-loop
-slice-aggregate-play-2 c = sym (c .before .before .before .before .before .before .before .before .before .before .before .loop .inv .1)
+slice-aggregate-poke-2 : tie.Need-slice-aggregate-poke-2 Inv-loop μ-loop
+slice-aggregate-poke-2 c =
+    let at-loop = c .before .before .before .before .before .before .before .before .before .before in
+    sym (at-loop .loop .inv .1)
 
-slice-aggregate-play-3 : tie.Need-slice-aggregate-play-3 Inv-loop μ-loop
-slice-aggregate-play-3 c = sym (c .before .before .before .before .before .before .before .before .before .before .before .before .loop .inv .2)
+slice-aggregate-poke-3 : tie.Need-slice-aggregate-poke-3 Inv-loop μ-loop
+slice-aggregate-poke-3 c =
+    let at-loop = c .before .before .before .before .before .before .before .before .before .before .before in
+    sym (at-loop .loop .inv .2)
 
-slice-aggregate-play-4 : tie.Need-slice-aggregate-play-4 Inv-loop μ-loop
-slice-aggregate-play-4 c = sym (c .before .before .before .before .before .before .before .before .before .before .before .before .before .loop .inv .3)
+slice-aggregate-poke-4 : tie.Need-slice-aggregate-poke-4 Inv-loop μ-loop
+slice-aggregate-poke-4 c =
+    let at-loop = c .before .before .before .before .before .before .before .before .before .before .before .before in
+    sym (at-loop .loop .inv .3)
 
-slice-aggregate-play-5 : tie.Need-slice-aggregate-play-5 Inv-loop μ-loop
-slice-aggregate-play-5 c = sym (c .before .before .before .before .before .before .before .before .before .before .before .before .before .before .loop .inv .4)
+poke-requires : tie.Need-poke-requires Inv-loop μ-loop
+poke-requires c κs = search needs
 
-slice-aggregate-play-6 : tie.Need-slice-aggregate-play-6 Inv-loop μ-loop
-slice-aggregate-play-6 c = sym (c .before .before .before .before .before .before .before .before .before .before .before .before .before .before .before .loop .inv .5)
+begin-requires : tie.Need-begin-requires Inv-loop μ-loop
+begin-requires c κs = search needs
 
-play-requires : tie.Need-play-requires Inv-loop μ-loop
-play-requires c κs = search needs
+slice-aggregate-write : tie.Need-slice-aggregate-write Inv-loop μ-loop
+slice-aggregate-write c =
+    let at-poke = c .before .before .before .before .before .before in
+    let at-loop = at-poke .before .before .before .before .before .before .before .before .before .before .before .before .before in
+    omega (arith, at-loop .loop .inv .0, at-poke .poke .kept .1 .0)
+
+slice-aggregate-write-2 : tie.Need-slice-aggregate-write-2 Inv-loop μ-loop
+slice-aggregate-write-2 c =
+    let at-poke = c .before .before .before .before .before .before .before in
+    let at-loop = at-poke .before .before .before .before .before .before .before .before .before .before .before .before .before in
+    omega (arith, at-loop .loop .inv .1, at-poke .poke .kept .1 .1 .0)
+
+slice-aggregate-write-3 : tie.Need-slice-aggregate-write-3 Inv-loop μ-loop
+slice-aggregate-write-3 c =
+    let at-poke = c .before .before .before .before .before .before .before .before in
+    let at-loop = at-poke .before .before .before .before .before .before .before .before .before .before .before .before .before in
+    omega (arith, at-loop .loop .inv .2, at-poke .poke .kept .1 .1 .1 .0)
+
+slice-aggregate-write-4 : tie.Need-slice-aggregate-write-4 Inv-loop μ-loop
+slice-aggregate-write-4 c =
+    let at-poke = c .before .before .before .before .before .before .before .before .before in
+    let at-loop = at-poke .before .before .before .before .before .before .before .before .before .before .before .before .before in
+    omega (arith, at-loop .loop .inv .3, at-poke .poke .kept .1 .1 .1 .1 .0)
+
+slice-aggregate-write-5 : tie.Need-slice-aggregate-write-5 Inv-loop μ-loop
+slice-aggregate-write-5 c =
+    let at-loop = c .before .before .before .before .before .before .before .before .before .before .before .before .before .before .before .before .before .before .before .before .before .before .before in
+    sym (at-loop .loop .inv .4)
+
+write-requires : tie.Need-write-requires Inv-loop μ-loop
+write-requires c κs = search needs
+
+slice-aggregate-set : tie.Need-slice-aggregate-set Inv-loop μ-loop
+slice-aggregate-set c =
+    let at-write = c .before .before .before .before .before .before .before .before .before .before in
+    let at-loop = at-write .before .before .before .before .before .before .before .before .before .before .before .before .before .before .before .before .before .before .before .before .before .before .before .before in
+    omega (arith, at-loop .loop .inv .4, at-write .write .kept .1 .1 .1 .1 .1 .1 .0)
+
+set-requires : tie.Need-set-requires Inv-loop μ-loop
+set-requires c κs = search needs
+
+slice-aggregate-read : tie.Need-slice-aggregate-read Inv-loop μ-loop
+slice-aggregate-read c =
+    let at-loop = c .before .before .before .before .before .before .before .before .before .before .before .before .before .before .before .before .before .before .before .before .before .before .before .before .before .before .before .before .before .before .before .before .before .before .before .before .before .before .before .before .before in
+    sym (at-loop .loop .inv .5)
+
+read-requires : tie.Need-read-requires Inv-loop μ-loop
+read-requires c κs = search needs
 
 slice-aggregate-print-line : tie.Need-slice-aggregate-print-line Inv-loop μ-loop
-slice-aggregate-print-line c = played (c .before .before .before .before .before .before .before) .0
-
-slice-aggregate-print-line-2 : tie.Need-slice-aggregate-print-line-2 Inv-loop μ-loop
-slice-aggregate-print-line-2 c = played (c .before .before .before .before .before .before .before .before) .1
-
-slice-aggregate-print-line-3 : tie.Need-slice-aggregate-print-line-3 Inv-loop μ-loop
-slice-aggregate-print-line-3 c = played (c .before .before .before .before .before .before .before .before .before) .2
-
-slice-aggregate-print-line-4 : tie.Need-slice-aggregate-print-line-4 Inv-loop μ-loop
-slice-aggregate-print-line-4 c = played (c .before .before .before .before .before .before .before .before .before .before) .3
-
-slice-aggregate-print-line-5 : tie.Need-slice-aggregate-print-line-5 Inv-loop μ-loop
-slice-aggregate-print-line-5 c = played (c .before .before .before .before .before .before .before .before .before .before .before) .4
-
-slice-aggregate-print-line-6 : tie.Need-slice-aggregate-print-line-6 Inv-loop μ-loop
-slice-aggregate-print-line-6 c = played (c .before .before .before .before .before .before .before .before .before .before .before .before) .5
-
-slice-aggregate-print-line-7 : tie.Need-slice-aggregate-print-line-7 Inv-loop μ-loop
-slice-aggregate-print-line-7 c = sym (c .before .before .before .before .before .before .before .before .before .before .before .before .before .before .before .before .before .before .before .before .before .before .before .before .before .before .before .before .before .loop .inv .7)
+slice-aggregate-print-line c =
+    let at-loop = c .before .before .before .before .before .before .before .before .before .before .before .before .before .before .before .before .before .before .before .before .before .before .before .before .before .before .before .before .before .before .before .before .before .before .before .before .before .before .before .before .before .before .before .before .before .before in
+    sym (at-loop .loop .inv .7)
 
 print-line-requires : tie.Need-print-line-requires Inv-loop μ-loop
 print-line-requires c κs = search needs
 
+slice-aggregate-print-tables : tie.Need-slice-aggregate-print-tables Inv-loop μ-loop
+slice-aggregate-print-tables c =
+    let at-print-line = c .before .before .before .before .before .before in
+    let at-loop = at-print-line .before .before .before .before .before .before .before .before .before .before .before .before .before .before .before .before .before .before .before .before .before .before .before .before .before .before .before .before .before .before .before .before .before .before .before .before .before .before .before .before .before .before .before .before .before .before .before in
+    omega (arith, at-loop .loop .inv .7, at-print-line .print-line .kept)
+
+print-tables-requires : tie.Need-print-tables-requires Inv-loop μ-loop
+print-tables-requires c κs = search needs
+
 loop-less : tie.Need-loop-less Inv-loop μ-loop
-loop-less c = omega (arith, c .before .before .before .before .before .before .before .before .before .before .before .before .before .before .before .before .before .before .before .before .before .before .before .before .before .before .before .before .before .before .loop-test .taken)
+loop-less c =
+    let at-loop-test = c .before .before .before .before .before .before .before .before .before .before .before .before .before .before .before .before .before .before .before .before .before .before .before .before .before .before .before .before .before .before .before .before .before .before .before .before .before .before .before .before .before .before .before .before .before .before .before .before .before .before .before .before .before .before in
+    omega (arith, at-loop-test .loop-test .taken)
 
 loop-again : tie.Need-loop-again Inv-loop μ-loop
-loop-again c = let i = c .before .before .before .before .before .before .before .before .before .before .before .before .before .before .before .before .before .before .before .before .before .before .before .before .before .before .before .before .before .before .before .loop .inv in let p = played (c .before .before .before .before .before .before .before .before .before .before .before .before .before .before .before) in
-    (sym (p .0), sym (p .1), sym (p .2), sym (p .3), sym (p .4), sym (p .5), omega (arith, i .6, c .before .before .before .before .before .before .before .before .before .before .before .before .before .before .before .before .before .before .before .before .before .before .before .before .before .next-line .kept), omega (arith, i .7, c .before .print-line .kept))
-
-slice-aggregate-flush : tie.Need-slice-aggregate-flush Inv-loop μ-loop
-slice-aggregate-flush c = sym (c .before .before .loop .inv .7)
-
-flush-requires : tie.Need-flush-requires Inv-loop μ-loop
-flush-requires c κs = search needs
+loop-again c =
+    let at-print-line = c .before .before .before .before .before .before .before .before in
+    let at-read = at-print-line .before .before .before .before .before in
+    let at-set = at-read .before .before .before .before .before .before .before in
+    let at-write = at-set .before .before .before .before .before .before .before .before .before .before .before in
+    let at-poke = at-write .before .before .before .before .before .before .before .before .before .before .before in
+    let at-next-line = at-poke .before .before .before .before .before .before .before in
+    let at-loop = at-next-line .before .before .before .before .before .before in
+    let i = at-loop .loop .inv in let p = at-poke .poke .kept .1 in let w = at-write .write .kept .1 .1 in (
+      omega (arith, i .0, p .0, w .0),
+      omega (arith, i .1, p .1 .0, w .1 .0),
+      omega (arith, i .2, p .1 .1 .0, w .1 .1 .0),
+      omega (arith, i .3, p .1 .1 .1 .0, w .1 .1 .1 .0),
+      omega (arith, i .4, w .1 .1 .1 .1 .0, at-set .set .kept),
+      omega (arith, i .5, at-read .read .kept),
+      omega (arith, i .6, at-next-line .next-line .kept),
+      omega (arith, i .7, at-print-line .print-line .kept, c .before .print-tables .kept),
+    )
 
 returns : tie.Need-returns Inv-loop μ-loop
 returns c = search needs
+
+returns-2 : tie.Need-returns-2 Inv-loop μ-loop
+returns-2 c = search needs
 
 pub main-spec : {M : Type 1} → statement M
 main-spec =
@@ -121,27 +174,32 @@ main-spec =
     μ-loop
     first-requires
     first-requires-2
+    first-requires-3
     loop-holds
     sub-turns
     slice-aggregate-next-line
     next-line-requires
-    slice-aggregate-play
-    slice-aggregate-play-2
-    slice-aggregate-play-3
-    slice-aggregate-play-4
-    slice-aggregate-play-5
-    slice-aggregate-play-6
-    play-requires
+    slice-aggregate-poke
+    slice-aggregate-poke-2
+    slice-aggregate-poke-3
+    slice-aggregate-poke-4
+    poke-requires
+    begin-requires
+    slice-aggregate-write
+    slice-aggregate-write-2
+    slice-aggregate-write-3
+    slice-aggregate-write-4
+    slice-aggregate-write-5
+    write-requires
+    slice-aggregate-set
+    set-requires
+    slice-aggregate-read
+    read-requires
     slice-aggregate-print-line
-    slice-aggregate-print-line-2
-    slice-aggregate-print-line-3
-    slice-aggregate-print-line-4
-    slice-aggregate-print-line-5
-    slice-aggregate-print-line-6
-    slice-aggregate-print-line-7
     print-line-requires
+    slice-aggregate-print-tables
+    print-tables-requires
     loop-less
     loop-again
-    slice-aggregate-flush
-    flush-requires
-    returns)
+    returns
+    returns-2)

@@ -1,16 +1,16 @@
--- `put_cells` meets its contract: it goes through the cells.
+-- `put_numbers` meets its contract: it goes through the numbers.
 use mathlib.Core.Path.{_≡_}
 use Prim.Native.Nat.{_-_}
 use lib.ListN.{length}
 use borrow.Author.Needs.{needs}
-use Rattle.player_output.proofs.put_cells.Statement.{statement}
-use Rattle.player_output.proofs.put_cells.Tie as tie
+use Rattle.player_output.proofs.put_numbers.Statement.{statement}
+use Rattle.player_output.proofs.put_numbers.Tie as tie
 
 abbrev Inv-loop : tie.InvT-loop
-Inv-loop letter cells count gathered₀ now₀ i₀ gathered now i = length gathered ≡ length gathered₀
+Inv-loop letter numbers count gathered₀ now₀ i₀ gathered now i = length gathered ≡ length gathered₀
 
 abbrev μ-loop : tie.MeasureT-loop
-μ-loop letter cells count gathered₀ now₀ i₀ gathered now i = length cells - i
+μ-loop letter numbers count gathered₀ now₀ i₀ gathered now i = length numbers - i
 
 put-byte-requires : tie.Need-put-byte-requires Inv-loop μ-loop
 put-byte-requires c κs = search needs
@@ -45,8 +45,8 @@ same-length c = search needs
 returns : tie.Need-returns Inv-loop μ-loop
 returns c = search needs
 
-pub put-cells-spec : {M : Type 1} → statement M
-put-cells-spec =
+pub put-numbers-spec : {M : Type 1} → statement M
+put-numbers-spec =
     tie.close
     (tie.spec
     Inv-loop
