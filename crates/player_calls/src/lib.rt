@@ -26,7 +26,7 @@ fn opened(state: State, made: RecordReply) -> State {
     let records = made.records;
     let now = state.recorded(records);
     if accepts(reply) {
-        return now.answered(reply.head, Seen::Bytes(reply));
+        return now.replied(reply);
     }
     now.showing(Seen::Bytes(reply))
 }
@@ -62,7 +62,7 @@ fn write_lent(
             let head = state.head;
             let quote = quoted(&n, line.count);
             let reply = by_value::quote(head, quote, columns, positions, lower, upper, held, out);
-            state.answered(reply.head, Seen::Bytes(reply))
+            state.replied(reply)
         }
         _ => state,
     }

@@ -163,11 +163,6 @@ fn put_list_reply(
     put_numbers(now, b'X', list, count, gathered)
 }
 
-// How many cells as many rows have, two for each.
-fn row_cells(count: usize) -> usize {
-    std::num::wrapping_add_u64(count as u64, count as u64) as usize
-}
-
 // Prints what was seen of the line that was found, but for the tables; where none was found, writes out what is gathered.
 pub fn print_line(
     print: Print,
@@ -190,8 +185,7 @@ pub fn print_line(
         }
         Seen::Bytes(reply) => put_bytes_reply(now, reply, out, gathered),
         Seen::Preview(effect) => put_preview(now, effect, out, gathered),
-        Seen::Cells(reply) => put_list_reply(now, reply, list, reply.count, gathered),
-        Seen::Rows(reply) => put_list_reply(now, reply, list, row_cells(reply.count), gathered),
+        Seen::List(reply, count) => put_list_reply(now, reply, list, count, gathered),
         Seen::Verdict(verdict) => put_verdict(now, verdict, gathered),
         _ => now,
     }

@@ -10,6 +10,7 @@ use by_value::unpair;
 use changed_by_value::RecordReply;
 use changed_by_value::end;
 use changed_by_value::watch;
+use head::Head;
 use player_lines::Command;
 use player_lines::Line;
 use player_lines::front;
@@ -20,37 +21,38 @@ use player_state::least;
 use sizes::COLUMN_CELLS;
 use sizes::PLACES;
 
+// How many cells as many rows have, two for each.
+fn row_cells(count: usize) -> usize {
+    std::num::wrapping_add_u64(count as u64, count as u64) as usize
+}
+
 // Makes the call of a line that is lent no records, where it asks for one, on the parts of the buffers that are lent.
 fn read_lent(
-    state: State,
+    head: Head,
     line: Line,
     columns: &[u32],
     positions: &[u32],
     lower: &[u32],
     upper: &[u32],
     list: &mut [u32],
-) -> State {
+) -> Seen {
     let command = line.command;
     let n = line.numbers;
-    let head = state.head;
     match command {
         Command::Look => {
             let reply = look(head, n[0], columns, positions, lower, upper, list);
-            state.answered(reply.head, Seen::Cells(reply))
+            Seen::List(reply, reply.count)
         }
         Command::Past => {
             let reply = past(head, n[0], n[1], columns, positions, lower, upper, list);
-            state.answered(reply.head, Seen::Cells(reply))
+            Seen::List(reply, reply.count)
         }
         Command::Due => {
             let reply = due(head, columns, positions, lower, upper, list);
-            state.answered(reply.head, Seen::Rows(reply))
+            Seen::List(reply, row_cells(reply.count))
         }
-        Command::Audit => {
-            let verdict = audit(head, columns, positions, lower, upper);
-            state.showing(Seen::Verdict(verdict))
-        }
-        _ => state,
+        Command::Audit => Seen::Verdict(audit(head, columns, positions, lower, upper)),
+        _ => Seen::Nothing,
     }
 }
 
@@ -58,8 +60,8 @@ fn read_lent(
 fn recorded(state: State, made: RecordReply) -> State {
     let reply = made.reply;
     let records = made.records;
-    let answered = state.answered(reply.head, Seen::Bytes(reply));
-    answered.recorded(records)
+    let replied = state.replied(reply);
+    replied.recorded(records)
 }
 
 // Makes the call of a line that is lent the records, where it asks for one, on the parts of the buffers that are lent.
@@ -81,7 +83,7 @@ fn set_lent(
         Command::Preview => {
             let quote = quoted(&n, line.count);
             let effect = preview(head, quote, columns, positions, lower, upper, held, out);
-            state.answered(effect.reply.head, Seen::Preview(effect))
+            state.showing(Seen::Preview(effect))
         }
         Command::Watch(desk) => {
             let made = watch(head, desk, a, columns, positions, lower, upper, held, out);
@@ -93,11 +95,11 @@ fn set_lent(
         }
         Command::Pair => {
             let reply = pair(head, a, n[1], columns, positions, lower, upper, held, out);
-            state.answered(reply.head, Seen::Bytes(reply))
+            state.replied(reply)
         }
         Command::Unpair => {
             let reply = unpair(head, columns, positions, lower, upper, held);
-            state.answered(reply.head, Seen::Bytes(reply))
+            state.replied(reply)
         }
         _ => state,
     }
@@ -119,15 +121,10 @@ pub fn read(
     let lower = front(&lower[..], loan.lower);
     let upper = front(&upper[..], loan.upper);
     let k = least(loan.out, list.len());
-    read_lent(
-        state,
-        line,
-        columns,
-        positions,
-        lower,
-        upper,
-        &mut list[..k],
-    )
+    let head = state.head;
+    let list = &mut list[..k];
+    let seen = read_lent(head, line, columns, positions, lower, upper, list);
+    state.seeing(seen)
 }
 
 // Makes the call of a line that is lent the records, where it asks for one.

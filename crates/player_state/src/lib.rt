@@ -15,14 +15,13 @@ use sizes::COLUMN_CELLS;
 use sizes::PLACES;
 
 // What is to be printed of a line: nothing, that it cannot be taken, a reply with bytes, what a preview hands back with
-// bytes, a reply with cells or with two cells for each row, a verdict, or the tables.
+// bytes, a reply with so many cells of a list, a verdict, or the tables.
 pub enum Seen {
     Nothing,
     Unread,
     Bytes(Reply),
     Preview(Effect),
-    Cells(Reply),
-    Rows(Reply),
+    List(Reply, usize),
     Verdict(Verdict),
     Tables,
 }
@@ -81,9 +80,18 @@ impl State {
         }
     }
 
-    // The state with another head and something else to print.
-    pub fn answered(self, head: Head, seen: Seen) -> State {
-        let mut now = self.showing(seen);
+    // The state after a call that prints this; one that prints nothing was not made.
+    pub fn seeing(self, seen: Seen) -> State {
+        match seen {
+            Seen::Nothing => self,
+            _ => self.showing(seen),
+        }
+    }
+
+    // The state after a reply with bytes: the head is the one that it hands back.
+    pub fn replied(self, reply: Reply) -> State {
+        let head = reply.head;
+        let mut now = self.showing(Seen::Bytes(reply));
         now.head = head;
         now
     }

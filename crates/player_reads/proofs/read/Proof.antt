@@ -20,14 +20,17 @@ front-requires-4 c κs = search needs
 least-requires : tie.Need-least-requires
 least-requires c κs = search needs
 
-slice-relend-prefix-read-lent : tie.Need-slice-relend-prefix-read-lent
-slice-relend-prefix-read-lent c = search needs
+slice-relend-prefix-list : tie.Need-slice-relend-prefix-list
+slice-relend-prefix-list c = search needs
 
-slice-aggregate-read-lent : tie.Need-slice-aggregate-read-lent
-slice-aggregate-read-lent c = simp length-take (omega arith)
+slice-aggregate-list : tie.Need-slice-aggregate-list
+slice-aggregate-list c = simp length-take (omega arith)
 
 read-lent-requires : tie.Need-read-lent-requires
 read-lent-requires c κs = search needs
+
+seeing-requires : tie.Need-seeing-requires
+seeing-requires c κs = search needs
 
 same-length : tie.Need-same-length
 same-length c = search needs
@@ -44,8 +47,9 @@ read-spec =
     front-requires-3
     front-requires-4
     least-requires
-    slice-relend-prefix-read-lent
-    slice-aggregate-read-lent
+    slice-relend-prefix-list
+    slice-aggregate-list
     read-lent-requires
+    seeing-requires
     same-length
     returns)
