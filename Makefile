@@ -2,15 +2,15 @@
 # What rt prints goes to a log under build/; standard error gets a line for each crate.
 SHELL := /bin/bash
 .SHELLFLAGS := -euo pipefail -c
-.PHONY: test proofs models programs run host random random-calls rules plants rule-plants yardstick notation citations tapes test-slow bench
+.PHONY: test proofs models run host random random-calls rules plants rule-plants yardstick notation citations tapes test-slow bench
 
 PRINTER ?= target/bin/tape_printer
 WRITER ?= target/bin/tape_writer
 PLAYER ?= target/bin/book_player
 TAPE ?= tapes/worked.tape
 SEED ?= 1
-TAPES ?= 20000
-LISTS ?= 20000
+TAPES ?= 10000
+LISTS ?= 10000
 RUNS ?= 9
 PLANTS := equals-stay earlier-stands oldest window kept misprint upper pair-first nine-first pair-end nine-at-eight \
   desk-two-first watch2-by-one
@@ -25,9 +25,8 @@ IDLE := nice -n 19
 RUSTC := env -u MAKEFLAGS $(IDLE) rustc --edition 2021 -O -D warnings
 
 test: citations
-	@rm -f build/ci.txt.proved
-	@$(MAKE) --no-print-directory -j3 proofs models programs
-	@$(MAKE) --no-print-directory host
+	@$(MAKE) --no-print-directory -j2 proofs models
+	@$(MAKE) --no-print-directory -j2 host random random-calls plants notation
 	@tools/dearest.sh build/ci.txt
 	@tail -n 1 build/ci.txt | grep -Ex '[0-9]+ passed, 0 failed'
 
@@ -35,13 +34,8 @@ test: citations
 proofs:
 	@rt ci 2>&1 | tools/progress.sh build/ci.txt
 
-# beside the proofs, on what they leave idle: the tests built, and the models by themselves
+# beside the first crates, on what they leave idle: the tests built, and the models held against small tapes and themselves
 models: build/plain_model build/random_calls build/notation rules rule-plants
-
-# beside the must-fail edits, once every crate is proved: the programs against the models
-programs: build/plain_model build/random_calls build/notation
-	@until [ -e build/ci.txt.proved ]; do sleep 1; done
-	@$(MAKE) --no-print-directory random random-calls plants notation
 
 run: $(PRINTER)
 	@$(PRINTER) < $(TAPE)
@@ -55,11 +49,11 @@ host:
 
 # the printer against the plain model on random and damaged tapes
 random: build/plain_model $(PRINTER)
-	@$(IDLE) build/plain_model $(PRINTER) $(SEED) $(TAPES)
+	@build/plain_model $(PRINTER) $(SEED) $(TAPES)
 
 # the book player against the plain model of the calls, on random lists of calls and any tables
 random-calls: build/random_calls $(PLAYER)
-	@$(IDLE) build/random_calls $(PLAYER) $(SEED) $(LISTS)
+	@build/random_calls $(PLAYER) $(SEED) $(LISTS)
 
 # the audit's plain rules, lists and what is due, as that model has them, against every tape of small settings; its
 # previews against its quotes; what a desk sees of a list against what it sees of one that differs in all else
@@ -72,10 +66,10 @@ plants: $(PLANTS:%=plant-in-tapes-%) $(CALL_PLANTS:%=plant-in-calls-%)
 rule-plants: $(RULE_PLANTS:%=plant-in-rules-%)
 
 plant-in-tapes-%: build/plain_model $(PRINTER)
-	@$(IDLE) tests/planted.sh tapes-$* 'the prints differ' build/plain_model --plant $* $(PRINTER) $(SEED) 1000
+	@tests/planted.sh tapes-$* 'the prints differ' build/plain_model --plant $* $(PRINTER) $(SEED) 1000
 
 plant-in-calls-%: build/random_calls $(PLAYER)
-	@$(IDLE) tests/planted.sh calls-$* 'the answers differ' build/random_calls --plant $* $(PLAYER) $(SEED) 1000
+	@tests/planted.sh calls-$* 'the answers differ' build/random_calls --plant $* $(PLAYER) $(SEED) 1000
 
 plant-in-rules-%: build/random_calls
 	@$(IDLE) tests/planted.sh rules-$* 'the rules differ' build/random_calls --plant $* --rules

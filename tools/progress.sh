@@ -1,7 +1,6 @@
 #!/usr/bin/env bash
 # Follows what rt prints: the whole of it goes to a log; to standard error goes a line for each crate as it is proved and for
-# each crate's edits as they are refused, with how many are left, and whatever failed. LOG.proved is made when the first edit was
-# tried, and at the end: by then every crate was.
+# each crate's edits as they are refused, with how many are left, and whatever failed.
 # usage, from the root: rt .. 2>&1 | tools/progress.sh LOG [CRATE]     with CRATE, it and what it stands on are proved
 set -euo pipefail
 log=$1
@@ -66,7 +65,6 @@ mkdir -p "$(dirname "$log")"
 failed=false
 while IFS= read -r line || [ -n "$line" ]; do
     printf '%s\n' "$line" >&3
-    case $line in 'rt: must-fail '*) : > "$log.proved" ;; esac
     case $line in
     'rt: must-fail '*': refused, as it must be '*) edit_refused "$line" ;;
     'rt: '*' proved ('*) crate_proved "$line" ;;
@@ -78,7 +76,6 @@ while IFS= read -r line || [ -n "$line" ]; do
         ;;
     esac
 done 3> "$log"
-: > "$log.proved"
 if $failed; then
     say "$log has all that was printed"
 fi

@@ -1,9 +1,8 @@
-// A worked book as a host has it: its head, its tables and its records. It is opened here, and read in `reads`; each
-// answer is judged, and what it says is printed.
+// The opening of a worked book, and in `reads` the calls that only read it, as a host makes them: each is made, its answer is
+// judged, and what it says is printed.
 mod reads;
 
 use head::Desk;
-use head::Head;
 use head::Watch;
 use judged_lines::print_reply;
 pub use reads::audit;
@@ -12,16 +11,7 @@ pub use reads::find;
 pub use reads::look;
 pub use reads::past;
 pub use reads::tell;
-
-// A worked book with a memory of at most eight: its head, its tables and its records.
-pub struct Worked {
-    pub head: Head,
-    pub columns: [u32; 16],
-    pub positions: [u32; 8],
-    pub lower_ends: [u32; 8],
-    pub upper_ends: [u32; 8],
-    pub records: [Watch; 8],
-}
+use worked_state::Worked;
 
 // Opens a book of so many columns where lower is better, with a memory of so many. Prints its line, or the refusal.
 pub fn open(dimensions: u32, capacity: u32) -> Worked {

@@ -1,5 +1,4 @@
 // Calls that only read a book, each judged and printed, and what its head tells of itself.
-use crate::Worked;
 use head::Desk;
 use head::Head;
 use judged_lines::print;
@@ -7,6 +6,7 @@ use judged_lines::print_due;
 use judged_lines::print_found;
 use judged_lines::print_list;
 use judged_lines::print_verdict;
+use worked_state::Worked;
 
 // Looks at the list of n, and prints it, or the refusal.
 pub fn look(worked: Worked, n: u32) {

@@ -3,11 +3,11 @@
 mod watches;
 
 use head::Desk;
-use judged_book::Worked;
 use judged_lines::print_reply;
 use sizes::CHANGE_BYTES;
 pub use watches::Call;
 pub use watches::set;
+use worked_state::Worked;
 
 // Takes a quote of two columns, and prints its line and its changes, or the refusal.
 pub fn quote(worked: Worked, quote: [u32; 2]) -> Worked {

@@ -3,10 +3,10 @@ use changed_by_value::RecordReply;
 use head::Desk;
 use head::Head;
 use head::Watch;
-use judged_book::Worked;
 use judged_lines::print_reply;
 use replies::Reply;
 use sizes::CHANGE_BYTES;
+use worked_state::Worked;
 
 // A call on the watches or on the pair.
 pub enum Call {

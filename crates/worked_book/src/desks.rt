@@ -1,10 +1,10 @@
 // Two desks on a worked book: how they share the eight records, and what a quote brings to both.
 use head::Desk;
-use judged_book::Worked;
 use judged_book::open;
 use judged_calls::Call;
 use judged_calls::quote;
 use judged_calls::set;
+use worked_state::Worked;
 
 // A desk's watches of 1 up to so many, one behind the other.
 fn watch_up_to(worked: Worked, desk: Desk, most: u32) -> Worked {

@@ -2,7 +2,6 @@
 use head::Desk;
 use head::Head;
 use head::Watch;
-use judged_book::Worked;
 use judged_book::find;
 use judged_book::look;
 use judged_book::open;
@@ -10,6 +9,7 @@ use judged_book::past;
 use judged_calls::Call;
 use judged_calls::quote;
 use judged_calls::set;
+use worked_state::Worked;
 
 // Refusals of calls that only read the tables, where desk one watches 2 and desk two 3: 5, 8, 10, 11, 12, 14; and desk
 // one's watch ended. Refusal of an opening with seven columns: 3.
