@@ -38,19 +38,23 @@
 #define BQB_UNKNOWN_KIND 1u /* there is a first byte and it is no kind of the table */
 #define BQB_CUT 2u          /* no byte at all, or a known kind whose body runs past the end */
 
-/* What bqb_compare_quotes answers; BQB_CUT is one of its refusals. */
-#define BQB_DIRECTIONS 3u /* a direction bit at the number of columns or above is set */
-#define BQB_KINDS 4u      /* the kinds differ, or are not quotes of 1 to 6 columns */
-#define BQB_BEATS 100u    /* the first quote beats the second */
-#define BQB_BEATS_NOT 101u
+/* What bqb_compare_quotes answers; BQB_CUT is one of its refusals.
+   101 has changed its meaning: it was 'the first does not beat the second' (BQB_BEATS_NOT), which is
+   now 101, 102 or 103. BQB_BEATS, 100, is BQB_FIRST_BETTER. */
+#define BQB_DIRECTIONS 3u      /* a direction bit at the number of columns or above is set */
+#define BQB_KINDS 4u           /* the kinds differ, or are not quotes of 1 to 6 columns */
+#define BQB_FIRST_BETTER 100u  /* the first is no worse in every column and better in at least one */
+#define BQB_SECOND_BETTER 101u /* the second is no worse in every column and better in at least one */
+#define BQB_EQUAL 102u         /* the two are equal in every column */
+#define BQB_NEITHER 103u       /* each is better in some column */
 
 /* Checks that a whole frame stands at the start of frame: BQB_WHOLE, BQB_UNKNOWN_KIND or BQB_CUT. */
 uint32_t bqb_check_frame(const uint8_t *frame, size_t frame_len);
 
 /* Compares two quote frames. Bit i of directions, worth 2 to the power i, stands for column i,
-   counted from 0: set means higher is better, clear means lower is better. The first beats the
-   second if it is no worse in every column and better in at least one; equal quotes do not beat
-   each other. Refusals, the first that applies: BQB_CUT (either frame is cut), BQB_KINDS,
+   counted from 0: set means higher is better, clear means lower is better. The answer speaks of
+   the columns alone: that in a book the later of two equal quotes beats the earlier is for the
+   caller to apply. Refusals, the first that applies: BQB_CUT (either frame is cut), BQB_KINDS,
    BQB_DIRECTIONS. */
 uint32_t bqb_compare_quotes(const uint8_t *first, size_t first_len, const uint8_t *second,
                             size_t second_len, uint8_t directions);

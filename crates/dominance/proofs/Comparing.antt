@@ -87,7 +87,8 @@ pub no-worse-by : (d directions : ℕ) (p q : List ℕ) → noWorse d directions
 unfolding compared
 no-worse-by d directions p q = no-worse-not d directions p q
 
-some-better-same : (d directions : ℕ) (p p' q q' : List ℕ) → ((i : ℕ) → i < d → getD p i 0 ≡ getD p' i 0) → ((i : ℕ) → i < d → getD q i 0 ≡ getD q' i 0)
+-- columns that are the same are better and worse alike
+pub some-better-same : (d directions : ℕ) (p p' q q' : List ℕ) → ((i : ℕ) → i < d → getD p i 0 ≡ getD p' i 0) → ((i : ℕ) → i < d → getD q i 0 ≡ getD q' i 0)
     → someBetter d directions p q ≡ someBetter d directions p' q'
 unfolding someBetter betterAt
 some-better-same zero directions p p' q q' e f = refl

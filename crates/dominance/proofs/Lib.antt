@@ -4,3 +4,4 @@ pub mod Laws
 pub mod Comparing
 pub mod Turning
 pub mod Renewal
+pub mod Standings

@@ -1,5 +1,6 @@
 -- The definitions of the crate.
 pub mod Dominance
 pub mod Compared
+pub mod Standing
 pub mod Turned
 pub mod Renewal

@@ -1,18 +1,17 @@
--- The cases of the check and of the comparison, and dominance by the columns that are read from two whole quote frames.
+-- The cases of the check and of the comparison, and how two whole quote frames stand by the columns that are read from them.
 use mathlib.Core.Path.{_≡_, refl, _∙_}
-use Prim.Native.Nat.{ℕ, _+_, _*_, _/_, _^_, _≤_, _<_}
+use Prim.Native.Nat.{ℕ, _+_, _*_, _/_, _^_, _≤_, _<_, min}
+use native.Mathlib.Nat.{le-refl, min-eq-left}
 use native.Mathlib.Omega.{arith}
-use mathlib.Core.Bool.{Bool, _&&_, not, cond}
 use mathlib.Core.List.{List}
 use lib.Dec.{eqb}
-use lib.ListN.{length, getD, drop}
+use lib.ListN.{length, getD, take}
+use lib.Seq.{length-take-le}
 use borrow.Author.Tests.{lt-ltb, le-ltb, le-leb, lt-leb, eq-eqb, ne-eqb}
 use Rattle.lists.specs.Lists.{run}
 use Rattle.lists.proofs.Booleans.{and-false, or-right}
-use Rattle.dominance.specs.declared.Comparison.{Comparison}
-use Rattle.dominance.specs.Dominance.{dominates}
-use Rattle.dominance.specs.Compared.{compared}
-use Rattle.dominance.proofs.Comparing.{dominates-by}
+use Rattle.dominance.specs.Standing.{standing, number}
+use Rattle.dominance.proofs.Standings.{standing-take}
 use Rattle.frames.specs.declared.Read.{Read}
 use Rattle.frame_kinds.specs.Kinds.{bodyLength}
 use Rattle.frames.specs.Frames.{reading, readAt, columnsAt}
@@ -82,10 +81,18 @@ module _ (s : List ℕ) where
   pub columns-fit : (kind : ℕ) → WholeQuote kind s → (r : Read) → reading r ≡ readAt s 0 → kind ≤ length (r .columns)
   columns-fit kind w r e = rw (columns-found kind w r e, columns-six) (w .bounded)
 
--- the columns that are read from two whole quote frames decide dominance
-pub read-dominates : (kind directions : ℕ) (a b : List ℕ) → WholeQuote kind a → WholeQuote kind b → (p q : Read) → reading p ≡ readAt a 0 → reading q ≡ readAt b 0
-    → (r : Comparison) → r ≡ compared kind directions (p .columns) (drop 0 (q .columns)) → r .better && not (r .worse) ≡ dominates kind directions (columnsOf a) (columnsOf b)
-read-dominates kind directions a b v w p q e f r h = rw (h, columns-found a kind v p e, columns-found b kind w q f, dominates-by)
+-- the columns that are read from two whole quote frames decide how they stand
+pub read-standing : (kind directions : ℕ) (a b : List ℕ) → WholeQuote kind a → WholeQuote kind b → (p q : Read) → reading p ≡ readAt a 0 → reading q ≡ readAt b 0
+    → let x = take kind (p .columns) in let y = take kind (q .columns) in standing (min (length x) (length y)) directions x y ≡ standing kind directions (columnsOf a) (columnsOf b)
+read-standing kind directions a b v w p q e f =
+    rw (
+      columns-found a kind v p e,
+      columns-found b kind w q f,
+      length-take-le kind (columnsOf a) (rw columns-six (v .bounded)),
+      length-take-le kind (columnsOf b) (rw columns-six (v .bounded)),
+      min-eq-left (le-refl kind),
+      standing-take,
+    )
 
 module _ (a b : List ℕ) (directions : ℕ) where
   pub first-cut : checkOf a ≡ 2 → compareOf a b directions ≡ 2
@@ -124,10 +131,9 @@ module _ (a b : List ℕ) (directions : ℕ) where
               ne-eqb (directions / 2 ^ getD a 0 0) 0 h,
             )
 
-        pub same-kinds : directions / 2 ^ getD a 0 0 ≡ 0 → (r answer : Bool) → r ≡ dominates (getD a 0 0) directions (columnsOf a) (columnsOf b) → r ≡ answer
-            → compareOf a b directions ≡ cond answer 100 101
+        pub same-kinds : directions / 2 ^ getD a 0 0 ≡ 0 → compareOf a b directions ≡ number (standing (getD a 0 0) directions (columnsOf a) (columnsOf b))
         unfolding compareOf
-        same-kinds h r answer e f =
+        same-kinds h =
             rw (
               ne-eqb (checkOf a) 2 p,
               ne-eqb (checkOf b) 2 q,
@@ -135,6 +141,4 @@ module _ (a b : List ℕ) (directions : ℕ) where
               le-leb (getD a 0 0) 6 bounded,
               eq-eqb (getD a 0 0) (getD b 0 0) same,
               eq-eqb (directions / 2 ^ getD a 0 0) 0 h,
-              ← e,
-              f,
             )

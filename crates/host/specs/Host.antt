@@ -5,7 +5,7 @@ use mathlib.Core.Bool.{_||_, not, cond}
 use mathlib.Core.List.{List}
 use lib.Dec.{ltb, eqb}
 use lib.ListN.{length, getD}
-use Rattle.dominance.specs.Dominance.{dominates}
+use Rattle.dominance.specs.Standing.{standing, number}
 use Rattle.frame_kinds.specs.Kinds.{within, bodyLength}
 use Rattle.frames.specs.Frames.{columnsAt}
 
@@ -24,14 +24,14 @@ checkOf bytes =
 unfoldable pub columnsOf : List ℕ → List ℕ
 columnsOf bytes = columnsAt bytes 1 (kindOf bytes)
 
--- 2 if either frame is cut, 4 if the kinds differ or are no quotes, 3 if a direction bit is at d or above, else 100 or 101: the first
--- quote dominates the second, or not
+-- 2 if either frame is cut, 4 if the kinds differ or are no quotes, 3 if a direction bit is at d or above, else the number of how the
+-- first quote stands to the second: 100 to 103
 unfoldable pub compareOf : List ℕ → List ℕ → ℕ → ℕ
 compareOf a b directions =
     cond (eqb (checkOf a) 2 || eqb (checkOf b) 2) 2
     (cond (not (within 1 6 (kindOf a)) || not (eqb (kindOf a) (kindOf b))) 4
     (cond (not (eqb (directions / 2 ^ kindOf a) 0)) 3
-    (cond (dominates (kindOf a) directions (columnsOf a) (columnsOf b)) 100 101)))
+    (number (standing (kindOf a) directions (columnsOf a) (columnsOf b)))))
 
 -- a whole quote frame of this kind stands at the start of the bytes
 pub record WholeQuote (kind : ℕ) (bytes : List ℕ) : Type 0 where

@@ -1,8 +1,9 @@
 // The two functions that a C host calls: the check of a frame and the comparison of two quote frames.
 ghost use mathlib.Core.Path.{_≡_};
-ghost use Rattle.dominance.specs.Dominance.{dominates};
+ghost use Rattle.dominance.specs.Standing.{standing};
 ghost use Rattle.host.specs.Host.{checkOf, columnsOf, compareOf, WholeQuote};
-use dominance::compare;
+use dominance::Standing;
+use dominance::compare_columns;
 use frames::body_length;
 use frames::read_at;
 
@@ -25,20 +26,21 @@ pub extern "C" fn bqb_check_frame(frame: &[u8]) -> u32
     0
 }
 
-// Whether the first of two whole quote frames of the same kind dominates the second.
-fn beats(first: &[u8], second: &[u8], kind: u8, directions: u8) -> bool
+// How the first of two whole quote frames of the same kind stands to the second.
+fn compare_whole(first: &[u8], second: &[u8], kind: u8, directions: u8) -> Standing
     requires { ⌜ WholeQuote kind (now first) ⌝ }
     requires { ⌜ WholeQuote kind (now second) ⌝ }
-    ensures { λ r. ⌜ r ≡ dominates kind directions (columnsOf (now (first .entry)))
+    ensures { λ r. ⌜ r ≡ standing kind directions (columnsOf (now (first .entry)))
         (columnsOf (now (second .entry))) ⌝ }
 {
     let a = read_at(first, 0).columns;
     let b = read_at(second, 0).columns;
-    let c = compare(directions as u32, kind as usize, &a, &b, 0);
-    c.better & !c.worse
+    let d = kind as usize;
+    compare_columns(directions as u32, &a[..d], &b[..d])
 }
 
-// 100 if the first quote dominates the second, 101 if not, else the refusal: 2, 4, 3 in that order.
+// The number of how the first quote stands to the second (100 first better, 101 second better, 102 equal, 103 neither), else the
+// refusal: 2, 4, 3 in that order.
 #[no_mangle]
 pub extern "C" fn bqb_compare_quotes(first: &[u8], second: &[u8], directions: u8) -> u32
     ensures { λ r. ⌜ r ≡ compareOf (now (first .entry)) (now (second .entry)) directions ⌝ }
@@ -62,8 +64,5 @@ pub extern "C" fn bqb_compare_quotes(first: &[u8], second: &[u8], directions: u8
     if directions >> kind != 0 {
         return 3;
     }
-    if beats(first, second, kind, directions) {
-        return 100;
-    }
-    101
+    compare_whole(first, second, kind, directions).number()
 }

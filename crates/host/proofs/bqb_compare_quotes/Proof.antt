@@ -1,7 +1,8 @@
 -- `bqb_compare_quotes` meets its contract, case by case.
-use mathlib.Core.Path.{sym}
+use mathlib.Core.Path.{sym, ap, _∙_}
 use native.Mathlib.Omega.{arith}
 use borrow.Author.Needs.{needs}
+use Rattle.dominance.specs.Standing.{number}
 use Rattle.host.proofs.Answers.{uncut-some, uncut-whole, first-cut, second-cut, low-kind, high-kind, other-kind, high-bit, same-kinds}
 use Rattle.host.proofs.bqb_compare_quotes.Statement.{statement}
 use Rattle.host.proofs.bqb_compare_quotes.Tie as tie
@@ -43,14 +44,17 @@ shr-if6 c = search needs
 returns-6 : tie.Need-returns-6
 returns-6 c = sym (high-bit _ _ _ (λ e. omega arith) (λ e. omega arith) (omega arith) (omega arith) (omega arith) (c .if6 .taken))
 
-beats-requires : tie.Need-beats-requires
-beats-requires c κs = (uncut-whole _ _ (omega arith) (omega arith) (omega arith) (λ e. omega arith), uncut-whole _ _ (omega arith) (omega arith) (omega arith) (λ e. omega arith))
+compare-whole-requires : tie.Need-compare-whole-requires
+compare-whole-requires c κs = (uncut-whole _ _ (omega arith) (omega arith) (omega arith) (λ e. omega arith), uncut-whole _ _ (omega arith) (omega arith) (omega arith) (λ e. omega arith))
+
+number-requires : tie.Need-number-requires
+number-requires c κs = search needs
 
 returns-7 : tie.Need-returns-7
-returns-7 c = sym (same-kinds _ _ _ (λ e. omega arith) (λ e. omega arith) (omega arith) (omega arith) (omega arith) (c .before .before .if6 .left) _ _ (c .before .beats .ensures) (c .if7 .taken))
-
-returns-8 : tie.Need-returns-8
-returns-8 c = sym (same-kinds _ _ _ (λ e. omega arith) (λ e. omega arith) (omega arith) (omega arith) (omega arith) (c .before .before .if6 .left) _ _ (c .before .beats .ensures) (c .if7 .left))
+returns-7 c =
+    c .number .ensures
+    ∙ ap number (c .before .compare-whole .ensures)
+    ∙ sym (same-kinds _ _ _ (λ e. omega arith) (λ e. omega arith) (omega arith) (omega arith) (omega arith) (c .before .before .if6 .left))
 
 pub bqb-compare-quotes-spec : {M : Type 1} → statement M
 bqb-compare-quotes-spec =
@@ -67,6 +71,6 @@ bqb-compare-quotes-spec =
     returns-5
     shr-if6
     returns-6
-    beats-requires
-    returns-7
-    returns-8)
+    compare-whole-requires
+    number-requires
+    returns-7)
