@@ -26,6 +26,7 @@
      35       6            change for desk two: n (2), position (4) joins
      36       4            change of the pair: position (4) leaves
      37       4            change of the pair: position (4) joins
+     40       4            stamp of a venue's tape: milliseconds of the day (4)
      48       4            open: d (1), N (2), directions (1)                                    */
 #ifndef BEST_QUOTE_H
 #define BEST_QUOTE_H

@@ -40,7 +40,7 @@ static size_t body_length(int kind) {
     if (16 <= kind && kind <= 20) return 2;
     if (32 <= kind && kind <= 35) return 6;
     if (kind == 22) return 0;
-    if (kind == 21 || kind == 23 || kind == 36 || kind == 37 || kind == 48) return 4;
+    if (kind == 21 || kind == 23 || kind == 36 || kind == 37 || kind == 40 || kind == 48) return 4;
     return 255;
 }
 

@@ -411,7 +411,7 @@ fn body_length(kind: u8) -> Option<usize> {
         1..=6 => Some(4 * usize::from(kind)),
         16..=20 => Some(2),
         22 => Some(0),
-        21 | 23 | 36 | 37 | 48 => Some(4),
+        21 | 23 | 36 | 37 | 40 | 48 => Some(4),
         32..=35 => Some(6),
         _ => None,
     }

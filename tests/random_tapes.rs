@@ -215,10 +215,11 @@ fn set_pair(tape: &mut Vec<u8>, n1: u16, n2: u16) {
     tape.extend(n2.to_le_bytes());
 }
 
-/// A change frame, which no played tape may hold.
+/// A change frame or a stamp, which no played tape may hold.
 fn change(r: &mut Random, tape: &mut Vec<u8>) {
-    match r.below(2) {
+    match r.below(3) {
         0 => tape.extend([32 + r.below(4) as u8, 1, 0, 1, 0, 0, 0]),
+        1 => tape.extend([40, 1, 0, 0, 0]),
         _ => tape.extend([36 + r.below(2) as u8, 1, 0, 0, 0]),
     }
 }
@@ -287,9 +288,9 @@ fn random_bodies(r: &mut Random, index: u64) -> Vec<u8> {
     let mut tape = Vec::new();
     style.open(&mut tape);
     for _ in 0..r.below(30) {
-        let looks = [(16, 2), (17, 2), (18, 2), (19, 2), (20, 2), (21, 4), (22, 0), (23, 4)];
-        let others = [(style.d, 4 * style.d), (32, 6), (33, 6), (34, 6), (35, 6), (36, 4), (37, 4), (48, 4)];
-        let (kind, length) = [looks, others][r.below(2) as usize][r.below(8) as usize];
+        let looks = [(16, 2), (17, 2), (18, 2), (19, 2), (20, 2), (21, 4), (22, 0), (23, 4), (40, 4)];
+        let others = [(style.d, 4 * style.d), (32, 6), (33, 6), (34, 6), (35, 6), (36, 4), (37, 4), (40, 4), (48, 4)];
+        let (kind, length) = [looks, others][r.below(2) as usize][r.below(9) as usize];
         tape.push(kind);
         tape.extend((0..length).map(|_| (r.next() as u8) >> r.below(9).min(7)).collect::<Vec<_>>());
     }

@@ -66,6 +66,10 @@ pairLeaveKind = 36
 abbrev pub pairJoinKind : ℕ
 pairJoinKind = 37
 
+-- a stamp of a venue's tape: milliseconds of the day
+abbrev pub stampKind : ℕ
+stampKind = 40
+
 -- a book is opened
 abbrev pub openKind : ℕ
 openKind = 48
@@ -87,6 +91,7 @@ kinds =
     ∷ (joinTwoKind, SizePosition)
     ∷ (pairLeaveKind, Position)
     ∷ (pairJoinKind, Position)
+    ∷ (stampKind, Position)
     ∷ (openKind, Settings)
     ∷ []
 

@@ -46,6 +46,8 @@ pub const PAIR_LEAVE: u8 = 36;
 
 pub const PAIR_JOIN: u8 = 37;
 
+pub const STAMP: u8 = 40;
+
 pub const OPEN: u8 = 48;
 
 // The shape of a kind: a decision by ranges, from the lowest kinds up.
@@ -77,6 +79,9 @@ pub fn shape_of(kind: u8) -> Shape
         return Shape::SizePosition;
     }
     if kind <= PAIR_JOIN {
+        return Shape::Position;
+    }
+    if kind == STAMP {
         return Shape::Position;
     }
     if kind == OPEN {

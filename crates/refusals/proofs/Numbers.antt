@@ -8,7 +8,7 @@ use lib.Dec.{ltb}
 use borrow.Author.Tests.{ltb-true}
 use Rattle.lists.proofs.Booleans.{and-left, and-right}
 use Rattle.refusals.specs.declared.Refusal.{Refusal}
-use Rattle.refusals.specs.declared.Refusal.the-variants.{UnknownKind, CutFrame, Settings, ColumnCount, WindowSize, TapeFull, OutOfPlace, AlreadyWatched, NoFreeRecord, NotWatched, ShortLoan, Torn, ShortOutput, WindowOrder}
+use Rattle.refusals.specs.declared.Refusal.the-variants.{UnknownKind, CutFrame, Settings, ColumnCount, WindowSize, TapeFull, OutOfPlace, AlreadyWatched, NoFreeRecord, NotWatched, ShortLoan, Torn, ShortOutput, WindowOrder, StampOrder, Unmatched, DayLength, MalformedLine, DrillSize}
 use Rattle.refusals.specs.declared.Answer.{Answer}
 use Rattle.refusals.specs.declared.Answer.the-variants.{Accepted, Refused}
 use Rattle.refusals.specs.Refusals.{number, numberOf, firstOf, granted}
@@ -57,6 +57,11 @@ number-above ShortLoan = omega arith
 number-above Torn = omega arith
 number-above ShortOutput = omega arith
 number-above WindowOrder = omega arith
+number-above StampOrder = omega arith
+number-above Unmatched = omega arith
+number-above DayLength = omega arith
+number-above MalformedLine = omega arith
+number-above DrillSize = omega arith
 
 -- the number of a call that was accepted is 0
 pub accepted-number : {n : ℕ} (a : Answer) → numberOf a ≡ n → a ≡ Accepted → n ≡ 0

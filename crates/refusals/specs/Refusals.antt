@@ -3,11 +3,11 @@ use Prim.Native.Nat.{ℕ, zero, suc}
 use mathlib.Core.Bool.{Bool, cond}
 use mathlib.Core.List.{List, [], _∷_}
 use Rattle.refusals.specs.declared.Refusal.{Refusal}
-use Rattle.refusals.specs.declared.Refusal.the-variants.{UnknownKind, CutFrame, Settings, ColumnCount, WindowSize, TapeFull, OutOfPlace, AlreadyWatched, NoFreeRecord, NotWatched, ShortLoan, Torn, ShortOutput, WindowOrder}
+use Rattle.refusals.specs.declared.Refusal.the-variants.{UnknownKind, CutFrame, Settings, ColumnCount, WindowSize, TapeFull, OutOfPlace, AlreadyWatched, NoFreeRecord, NotWatched, ShortLoan, Torn, ShortOutput, WindowOrder, StampOrder, Unmatched, DayLength, MalformedLine, DrillSize}
 use Rattle.refusals.specs.declared.Answer.{Answer}
 use Rattle.refusals.specs.declared.Answer.the-variants.{Accepted, Refused}
 
--- 01's number of a refusal
+-- 01's number of a refusal, and 02's
 abbrev pub number : Refusal → ℕ
 number UnknownKind = 1
 number CutFrame = 2
@@ -23,6 +23,11 @@ number ShortLoan = 11
 number Torn = 12
 number ShortOutput = 13
 number WindowOrder = 14
+number StampOrder = 15
+number Unmatched = 16
+number DayLength = 17
+number MalformedLine = 18
+number DrillSize = 19
 
 -- 01's number of an answer: 0 where the call is accepted
 abbrev pub numberOf : Answer → ℕ

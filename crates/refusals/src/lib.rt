@@ -2,7 +2,7 @@
 ghost use mathlib.Core.Path.{_≡_};
 ghost use Rattle.refusals.specs.Refusals.{number};
 
-// Why a call is refused (01: a no). The numbers are 01's.
+// Why a call is refused (01: a no). The numbers are 01's and 02's.
 pub enum Refusal {
     UnknownKind,
     CutFrame,
@@ -18,6 +18,11 @@ pub enum Refusal {
     Torn,
     ShortOutput,
     WindowOrder,
+    StampOrder,
+    Unmatched,
+    DayLength,
+    MalformedLine,
+    DrillSize,
 }
 
 impl Refusal {
@@ -40,6 +45,11 @@ impl Refusal {
             Refusal::Torn => 12,
             Refusal::ShortOutput => 13,
             Refusal::WindowOrder => 14,
+            Refusal::StampOrder => 15,
+            Refusal::Unmatched => 16,
+            Refusal::DayLength => 17,
+            Refusal::MalformedLine => 18,
+            Refusal::DrillSize => 19,
         }
     }
 }

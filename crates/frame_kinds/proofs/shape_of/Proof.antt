@@ -10,7 +10,7 @@ use borrow.Author.Tests.{ltb-true, ltb-false}
 use Rattle.lists.specs.Lists.{run}
 use Rattle.lists.proofs.Booleans.{either}
 use Rattle.frame_kinds.specs.declared.Shape.the-variants.{Columns, Size, SizePosition, SizePair, Bare, Position, Settings, Unknown}
-use Rattle.frame_kinds.specs.Kinds.{openKind, kinds, shapeIn, shapeOf}
+use Rattle.frame_kinds.specs.Kinds.{stampKind, openKind, kinds, shapeIn, shapeOf}
 use Rattle.frame_kinds.proofs.Shapes.{in-row}
 use Rattle.frame_kinds.proofs.shape_of.Statement.{statement}
 use Rattle.frame_kinds.proofs.shape_of.Tie as tie
@@ -48,6 +48,10 @@ positions : (kind : ℕ) → 36 ≤ kind → kind < 38 → Position ≡ shapeOf 
 unfolding kinds shapeIn shapeOf run
 positions = in-row Position 36 2 refl
 
+stamp : (kind : ℕ) → 40 ≤ kind → kind < 41 → Position ≡ shapeOf kind
+unfolding kinds shapeIn shapeOf run
+stamp = in-row Position 40 1 refl
+
 opening : (kind : ℕ) → 48 ≤ kind → kind < 49 → Settings ≡ shapeOf kind
 unfolding kinds shapeIn shapeOf run
 opening = in-row Settings 48 1 refl
@@ -61,14 +65,15 @@ pairs kind u v other = go (either (ltb kind 22))
     go (inl t) = in-row SizePair 21 1 refl kind u (ltb-true kind 22 t)
     go (inr t) = let w = ltb-false kind 22 t in in-row SizePair 23 1 refl kind (omega arith) v
 
--- the unknown kinds on both sides of an opening's
-around-opening : (kind : ℕ) → 38 ≤ kind → kind < 256 → (kind ≡ openKind → ⊥) → Unknown ≡ shapeOf kind
+-- the unknown kinds on both sides of a stamp's, and of an opening's
+around-opening : (kind : ℕ) → 38 ≤ kind → kind < 256 → (kind ≡ stampKind → ⊥) → (kind ≡ openKind → ⊥) → Unknown ≡ shapeOf kind
 unfolding kinds shapeIn shapeOf run
-around-opening kind u v other = go (either (ltb kind openKind))
+around-opening kind u v other another = go (either (ltb kind stampKind)) (either (ltb kind openKind))
   where
-    go : (ltb kind openKind ≡ true) ⊎ (ltb kind openKind ≡ false) → Unknown ≡ shapeOf kind
-    go (inl t) = in-row Unknown 38 10 refl kind u (ltb-true kind openKind t)
-    go (inr t) = let w = ltb-false kind openKind t in in-row Unknown 49 207 refl kind (omega arith) v
+    go : (ltb kind stampKind ≡ true) ⊎ (ltb kind stampKind ≡ false) → (ltb kind openKind ≡ true) ⊎ (ltb kind openKind ≡ false) → Unknown ≡ shapeOf kind
+    go (inl t) below = in-row Unknown 38 2 refl kind u (ltb-true kind stampKind t)
+    go (inr t) (inl s) = let w = ltb-false kind stampKind t in in-row Unknown 41 7 refl kind (omega arith) (ltb-true kind openKind s)
+    go (inr t) (inr s) = let w = ltb-false kind openKind s in in-row Unknown 49 207 refl kind (omega arith) v
 
 returns : tie.Need-returns
 returns c = zero _ (omega arith) (omega arith)
@@ -98,10 +103,13 @@ returns-9 : tie.Need-returns-9
 returns-9 c = positions _ (omega arith) (omega arith)
 
 returns-10 : tie.Need-returns-10
-returns-10 c = opening _ (omega arith) (omega arith)
+returns-10 c = stamp _ (omega arith) (omega arith)
 
 returns-11 : tie.Need-returns-11
-returns-11 c = around-opening _ (omega arith) (search needs) (λ e. omega arith)
+returns-11 c = opening _ (omega arith) (omega arith)
+
+returns-12 : tie.Need-returns-12
+returns-12 c = around-opening _ (omega arith) (search needs) (λ e. omega arith) (λ e. omega arith)
 
 pub shape-of-spec : {M : Type 1} → statement M
 shape-of-spec =
@@ -117,4 +125,5 @@ shape-of-spec =
     returns-8
     returns-9
     returns-10
-    returns-11)
+    returns-11
+    returns-12)
