@@ -1,8 +1,8 @@
-# make test runs every check; its last line counts those of rt. make run plays a tape; make bench measures.
+# make test runs every check; its last line counts those of rt. make try and make run play a tape; make bench measures.
 # What rt prints goes to a log under build/; standard error gets a line for each crate.
 SHELL := /bin/bash
 .SHELLFLAGS := -euo pipefail -c
-.PHONY: test proofs models run host random random-calls rules plants rule-plants yardstick notation citations tapes test-slow bench
+.PHONY: test proofs models try run host random random-calls rules plants rule-plants yardstick notation citations tapes test-slow bench
 
 PRINTER ?= target/bin/tape_printer
 WRITER ?= target/bin/tape_writer
@@ -20,6 +20,8 @@ CALL_PLANTS := renamed torn-first past-memory early live-lower overwritten retir
 RULE_PLANTS := upper-free pair-end due-equal preview-settles preview-held preview-head equals-stay earlier-stands \
   watch2-by-one
 SAMPLES := $(basename $(wildcard tapes/*.txt))
+# of a command, the program that is made here; another's stands already
+made = $(filter target/bin/% build/%,$(firstword $(1)))
 # a test leaves its core to a check that wants it
 IDLE := nice -n 19
 RUSTC := env -u MAKEFLAGS $(IDLE) rustc --edition 2021 -O -D warnings
@@ -37,6 +39,13 @@ proofs:
 # beside the first crates, on what they leave idle: the tests built, and the models held against small tapes and themselves
 models: build/plain_model build/random_calls build/notation rules rule-plants
 
+# the printer on the worked tape before anything is proved, by the toolchain's own trial, with its print
+try:
+	@mkdir -p build
+	@rt try tape_printer > build/try.txt 2>&1 || { cat build/try.txt; exit 1; }
+	@cat crates/tape_printer/stdout
+	@tail -n 1 build/try.txt
+
 run: $(PRINTER)
 	@$(PRINTER) < $(TAPE)
 
@@ -47,13 +56,13 @@ host:
 	@build/worked_host > build/worked_host.txt
 	@tail -n 1 build/worked_host.txt
 
-# the printer against the plain model on random and damaged tapes
-random: build/plain_model $(PRINTER)
-	@build/plain_model $(PRINTER) $(SEED) $(TAPES)
+# the printer, a command with its arguments, against the plain model on random and damaged tapes
+random: build/plain_model $(call made,$(PRINTER))
+	@build/plain_model '$(PRINTER)' $(SEED) $(TAPES)
 
-# the book player against the plain model of the calls, on random lists of calls and any tables
-random-calls: build/random_calls $(PLAYER)
-	@build/random_calls $(PLAYER) $(SEED) $(LISTS)
+# the book player, likewise, against the plain model of the calls, on random lists of calls and any tables
+random-calls: build/random_calls $(call made,$(PLAYER))
+	@build/random_calls '$(PLAYER)' $(SEED) $(LISTS)
 
 # the audit's plain rules, lists and what is due, as that model has them, against every tape of small settings; its
 # previews against its quotes; what a desk sees of a list against what it sees of one that differs in all else

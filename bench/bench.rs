@@ -4,6 +4,7 @@
 //!
 //! usage: bench PRINTER [RUNS]     PRINTER is ours; the other programs stand in build/, and so do the tapes made here
 
+use std::collections::BTreeSet;
 use std::fs::File;
 use std::io::BufRead;
 use std::process::{Command, Stdio};
@@ -138,21 +139,23 @@ fn compare_prints(ours: &str, tape: Tape) {
     }
 }
 
-/// How long the watches' lists are at the end of a tape, by the joins and leaves that a printer prints, in the order of the watches.
-fn list_lengths(printer: &str, tape: Tape) -> Vec<i64> {
-    let mut lengths: Vec<([String; 2], i64)> = Vec::new();
+/// The watches' lists at the end of a tape, by the joins and leaves that a printer prints, in the order of the watches.
+fn last_lists(printer: &str, tape: Tape) -> Vec<BTreeSet<usize>> {
+    let mut lists: Vec<([String; 2], BTreeSet<usize>)> = Vec::new();
     for line in print_of(&[printer], tape).lines().map(Result::unwrap) {
         let mut fields = line.split(' ').map(str::to_string);
         let (mut desk, n) = (fields.next().unwrap(), fields.next().unwrap());
         let sign = desk.remove(0);
         let watch = [desk, n];
-        match sign {
-            'W' => lengths.push((watch, 0)),
-            '+' | '-' => lengths.iter_mut().find(|(watched, _)| *watched == watch).unwrap().1 += if sign == '+' { 1 } else { -1 },
-            _ => {}
+        if sign == 'W' {
+            lists.push((watch, BTreeSet::new()));
+        } else if sign == '+' || sign == '-' {
+            let position = fields.next().unwrap().parse().unwrap();
+            let (_, list) = lists.iter_mut().find(|(watched, _)| *watched == watch).unwrap();
+            assert!(if sign == '+' { list.insert(position) } else { list.remove(&position) }, "{line} on {}", tape.path());
         }
     }
-    lengths.into_iter().map(|(_, length)| length).collect()
+    lists.into_iter().map(|(_, list)| list).collect()
 }
 
 /// The nanoseconds a quote of emoa's nondominated_points, called for eight windows; none where R or emoa is not installed.
@@ -161,10 +164,11 @@ fn emoa_time(ours: &str, tape: Tape) -> Option<f64> {
     drop(tape.file());
     let output = Command::new("Rscript").args(["bench/emoa.R", &tape.path(), &EMOA.to_string()]).output().ok()?;
     let text = String::from_utf8(output.stdout).ok()?;
-    let mut numbers = text.split_whitespace().map(|number| number.parse::<f64>().unwrap());
-    let time = numbers.next()? * 1e9;
-    let lengths: Vec<i64> = numbers.map(|length| length as i64).collect();
-    assert!(lengths == list_lengths(ours, tape), "emoa's lists differ on {}", tape.path());
+    let mut lines = text.lines();
+    let time = lines.next()?.trim().parse::<f64>().unwrap() * 1e9;
+    let positions = |line: &str| line.split_whitespace().map(|position| position.parse().unwrap()).collect();
+    let lists: Vec<BTreeSet<usize>> = lines.map(positions).collect();
+    assert!(lists == last_lists(ours, tape), "emoa's lists differ on {}", tape.path());
     Some(time)
 }
 
@@ -302,7 +306,7 @@ fn notes(rows: &[Row], runs: usize) {
     println!("Plain model: median of {runs} runs over the first {SHORT} quotes, in turn with them, when longer windows are not full yet;");
     println!("its print is equal to ours.");
     if rows[0].times[4].is_some() {
-        println!("emoa: median of {runs} runs over {EMOA} quotes after {FILL}, in turn with them; its lists are as long as ours.");
+        println!("emoa: median of {runs} runs over {EMOA} quotes after {FILL}, in turn with them; its lists, of equal points the last, are ours.");
     } else {
         println!("emoa is skipped: Rscript or its package emoa (Debian's r-cran-emoa) is not installed.");
     }

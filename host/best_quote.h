@@ -40,8 +40,13 @@
 #define BQB_CUT 2u          /* no byte at all, or a known kind whose body runs past the end */
 
 /* What bqb_compare_quotes answers; BQB_CUT is one of its refusals.
-   101 has changed its meaning: it was 'the first does not beat the second' (BQB_BEATS_NOT), which is
-   now 101, 102 or 103. BQB_BEATS, 100, is BQB_FIRST_BETTER. */
+
+   For a host that tested 100 and 101: the comparison had two answers, 100 for 'the first beats the
+   second' (BQB_BEATS) and 101 for 'it does not' (BQB_BEATS_NOT). It now has four. 100 means what it
+   meant and is BQB_FIRST_BETTER. 101 means something else: the second is better. What was 101
+   is now 101, 102 or 103, so a test `answer == 101` for 'does not beat' has to become
+   `answer >= BQB_SECOND_BETTER`; refusals are below 100, as before. The two old names are gone, so
+   that code which used them does not compile until it was looked at. */
 #define BQB_DIRECTIONS 3u      /* a direction bit at the number of columns or above is set */
 #define BQB_KINDS 4u           /* the kinds differ, or are not quotes of 1 to 6 columns */
 #define BQB_FIRST_BETTER 100u  /* the first is no worse in every column and better in at least one */

@@ -1,5 +1,5 @@
 /* A worked C host: checks and compares frames and prints what the calls answer. It exits with 1 if an answer is not the one that the
-   text of the format gives. */
+   text of the format gives, or if an answer of the comparison never comes. */
 #include <inttypes.h>
 #include <stdio.h>
 #include <string.h>
@@ -7,12 +7,12 @@
 #include "best_quote.h"
 
 static unsigned answers, wrong;
+static unsigned compared[104]; /* how often the comparison gave each answer */
 
-/* Counts an answer and complains of a wrong one. */
+/* Counts an answer and complains of the first wrong ones. */
 static void expect(const char *what, uint32_t got, uint32_t want) {
     answers++;
-    if (got != want) {
-        wrong++;
+    if (got != want && wrong++ < 20) {
         fprintf(stderr, "worked_host: %s: %" PRIu32 ", not %" PRIu32 "\n", what, got, want);
     }
 }
@@ -21,6 +21,12 @@ static void expect(const char *what, uint32_t got, uint32_t want) {
 static void say(const char *what, uint32_t got, uint32_t want) {
     printf("%-58s %3" PRIu32 "\n", what, got);
     expect(what, got, want);
+}
+
+/* The same of a comparison, whose answers are counted. */
+static void expect_compared(const char *what, uint32_t got, uint32_t want) {
+    expect(what, got, want);
+    if (got < sizeof compared / sizeof *compared) compared[got]++;
 }
 
 /* Writes the quote frame of count columns into frame and gives its length. */
@@ -93,56 +99,80 @@ static uint32_t standing(uint8_t count, unsigned directions, const uint32_t *p, 
     return memcmp(p, q, count * sizeof *p) == 0 ? BQB_EQUAL : BQB_NEITHER;
 }
 
-/* A pair of kinds, each frame empty, without its last byte and whole with bytes behind it, every column alike. */
-static void compare_pair_of_kinds(uint8_t *a, uint8_t *b, size_t longest, unsigned directions) {
-    const size_t first[] = {0, body_length(a[0]) == 255 ? 1 : body_length(a[0]), longest};
-    const size_t second[] = {0, body_length(b[0]) == 255 ? 1 : body_length(b[0]), longest};
-    for (size_t i = 0; i < 3; i++) {
-        for (size_t j = 0; j < 3; j++) {
-            uint32_t want = BQB_EQUAL;
-            if (is_cut(a, first[i]) || is_cut(b, second[j])) {
-                want = BQB_CUT;
-            } else if (a[0] != b[0] || a[0] < 1 || a[0] > 6) {
-                want = BQB_KINDS;
-            } else if (directions >> a[0]) {
-                want = BQB_DIRECTIONS;
+/* How many bytes a frame of this kind has: with an unknown kind its first byte is all that can be said of it. */
+static size_t frame_length(int kind) {
+    return body_length(kind) == 255 ? 1 : 1 + body_length(kind);
+}
+
+/* What the comparison of two frames answers whose columns are alike. */
+static uint32_t alike(const uint8_t *a, size_t n, const uint8_t *b, size_t m, unsigned directions) {
+    if (is_cut(a, n) || is_cut(b, m)) return BQB_CUT;
+    if (a[0] != b[0] || a[0] < 1 || a[0] > 6) return BQB_KINDS;
+    return directions >> a[0] ? BQB_DIRECTIONS : BQB_EQUAL;
+}
+
+/* A pair of kinds, each frame with every length up to the whole frame, with directions that fit every number of columns, some and none. */
+static void compare_every_cut(const uint8_t *a, const uint8_t *b) {
+    const uint8_t directions[] = {0, 8, 255};
+    for (size_t n = 0; n <= frame_length(a[0]); n++) {
+        for (size_t m = 0; m <= frame_length(b[0]); m++) {
+            for (size_t i = 0; i < sizeof directions; i++) {
+                uint8_t bits = directions[i];
+                expect_compared("every cut", bqb_compare_quotes(a, n, b, m, bits), alike(a, n, b, m, bits));
             }
-            expect("every pair of kinds", bqb_compare_quotes(a, first[i], b, second[j], (uint8_t)directions), want);
         }
     }
 }
 
-/* Every pair of kinds, with directions that fit every number of columns, some and none. */
+/* Every pair of kinds: every cut, and two frames with bytes behind them with every directions byte. */
 static void compare_every_pair_of_kinds(void) {
-    const unsigned directions[] = {0, 1, 8, 32, 64, 255};
     uint8_t a[64], b[64];
     memset(a, 0xff, sizeof a);
     memset(b, 0xff, sizeof b);
     for (unsigned pair = 0; pair < 256 * 256; pair++) {
         a[0] = (uint8_t)(pair / 256);
         b[0] = (uint8_t)(pair % 256);
-        for (size_t i = 0; i < sizeof directions / sizeof *directions; i++) {
-            compare_pair_of_kinds(a, b, sizeof a, directions[i]);
+        compare_every_cut(a, b);
+        for (unsigned directions = 0; directions < 256; directions++) {
+            uint32_t got = bqb_compare_quotes(a, sizeof a, b, sizeof b, (uint8_t)directions);
+            expect_compared("every pair of kinds", got, alike(a, sizeof a, b, sizeof b, directions));
         }
     }
 }
 
 /* Every directions byte with every way in which the columns of two quotes can stand to each other: lower, equal or higher. */
-static void compare_every_standing(uint8_t count) {
-    const uint32_t q[6] = {300, 300, 300, 300, 300, 300};
+static void compare_every_pattern(uint8_t count) {
+    const uint32_t values[6][3] = {{200, 300, 400},
+                                   {0, 1, 4294967295u},
+                                   {2147483647u, 2147483648u, 2147483649u},
+                                   {255, 256, 257},
+                                   {65535, 65536, 16777216},
+                                   {4294967293u, 4294967294u, 4294967295u}};
     uint8_t a[32], b[32];
+    uint32_t p[6], q[6];
     unsigned patterns = 1;
-    for (uint8_t i = 0; i < count; i++) patterns *= 3;
+    for (uint8_t i = 0; i < count; i++, patterns *= 3) q[i] = values[i][1];
     size_t m = quote(b, count, q);
     for (unsigned pattern = 0; pattern < patterns; pattern++) {
-        uint32_t p[6];
         unsigned left = pattern;
-        for (uint8_t i = 0; i < count; i++, left /= 3) p[i] = 200 + 100 * (left % 3);
+        for (uint8_t i = 0; i < count; i++, left /= 3) p[i] = values[i][left % 3];
         size_t n = quote(a, count, p);
         for (unsigned directions = 0; directions < 256; directions++) {
             uint8_t bits = (uint8_t)directions;
-            expect("every standing", bqb_compare_quotes(a, n, b, m, bits), standing(count, directions, p, q));
-            expect("every standing, swapped", bqb_compare_quotes(b, m, a, n, bits), standing(count, directions, q, p));
+            expect_compared("every pattern", bqb_compare_quotes(a, n, b, m, bits), standing(count, directions, p, q));
+            expect_compared("every pattern, swapped", bqb_compare_quotes(b, m, a, n, bits), standing(count, directions, q, p));
+        }
+    }
+}
+
+/* Says how often each answer of the comparison came, and complains of one that did not. */
+static void count_answers(void) {
+    const uint32_t each[] = {BQB_CUT, BQB_DIRECTIONS, BQB_KINDS, BQB_FIRST_BETTER, BQB_SECOND_BETTER, BQB_EQUAL, BQB_NEITHER};
+    for (size_t i = 0; i < sizeof each / sizeof *each; i++) {
+        printf("the comparison answered %3" PRIu32 " %u times\n", each[i], compared[each[i]]);
+        if (compared[each[i]] == 0) {
+            wrong++;
+            fprintf(stderr, "worked_host: the comparison never answered %" PRIu32 "\n", each[i]);
         }
     }
 }
@@ -199,7 +229,8 @@ int main(void) {
     compare_frames();
     check_every_kind();
     compare_every_pair_of_kinds();
-    for (uint8_t count = 1; count <= 6; count++) compare_every_standing(count);
+    for (uint8_t count = 1; count <= 6; count++) compare_every_pattern(count);
+    count_answers();
     printf("%u answers, %u wrong\n", answers, wrong);
     return wrong != 0;
 }

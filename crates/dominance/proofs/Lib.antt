@@ -4,4 +4,3 @@ pub mod Laws
 pub mod Comparing
 pub mod Turning
 pub mod Renewal
-pub mod Standings

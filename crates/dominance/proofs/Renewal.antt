@@ -1,6 +1,6 @@
 -- Dominance between positions, by which a later quote is over an earlier equal one: what it is for a later and for an earlier position,
 -- and that it is a strict partial order, over any list of quotes.
-use mathlib.Core.Path.{_≡_, refl, sym, ap, _∙_}
+use mathlib.Core.Path.{_≡_, refl, ap, _∙_}
 use mathlib.Core.Logic.{_⊎_, inl, inr}
 use Prim.Native.Nat.{ℕ, zero, suc, _≤_, _<_}
 use native.Mathlib.Nat.{le-refl}
@@ -42,14 +42,11 @@ at-equal p q zero f = refl
 at-equal p q (suc d) f =
     both (equalColumns d p q) (eqb (getD p d 0) (getD q d 0)) (at-equal p q d (λ i h. f i (omega arith))) (eq-eqb (getD p d 0) (getD q d 0) (f d (le-refl (suc d))))
 
-pub equal-symmetric : (d : ℕ) (p q : List ℕ) → equalColumns d p q ≡ true → equalColumns d q p ≡ true
-equal-symmetric d p q e = at-equal q p d (λ i h. sym (equal-at p q d e i h))
-
 equal-transitive : (d : ℕ) (p q r : List ℕ) → equalColumns d p q ≡ true → equalColumns d q r ≡ true → equalColumns d p r ≡ true
 equal-transitive d p q r e f = at-equal p r d (λ i h. equal-at p q d e i h ∙ equal-at q r d f i h)
 
 module _ (d directions : ℕ) where
-  pub equal-no-worse : (p q : List ℕ) → equalColumns d p q ≡ true → noWorse d directions p q ≡ true
+  equal-no-worse : (p q : List ℕ) → equalColumns d p q ≡ true → noWorse d directions p q ≡ true
   unfolding betterAt
   equal-no-worse p q e = at-no-worse directions p q d (λ i h. rw (equal-at p q d e i h) (better-irreflexive (higher directions i) (getD q i 0)))
 

@@ -1,6 +1,5 @@
 -- The definitions of the crate.
 pub mod Dominance
 pub mod Compared
-pub mod Standing
 pub mod Turned
 pub mod Renewal

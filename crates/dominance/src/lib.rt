@@ -1,36 +1,13 @@
-// Dominance of one quote over another (01: beats), and how two quotes stand to each other, in four answers (02, 7/13).
+// Dominance of one quote over another (01: beats).
 ghost use mathlib.Core.Path.{_≡_};
 ghost use mathlib.Core.Bool.{_&&_, not};
-ghost use Prim.Native.Nat.{_+_, _≤_, min};
+ghost use Prim.Native.Nat.{_+_, _≤_};
 ghost use lib.ListN.{length, drop};
 ghost use Rattle.dominance.specs.Dominance.{better, higher};
 ghost use Rattle.dominance.specs.Compared.{compared};
-ghost use Rattle.dominance.specs.Standing.{standingBy, standing, number};
 ghost use Rattle.dominance.specs.Turned.{mask};
 
-// How the first of two quotes stands to the second, by their columns alone. The numbers are 02's.
-pub enum Standing {
-    FirstBetter,
-    SecondBetter,
-    Equal,
-    Neither,
-}
-
-impl Standing {
-    // The number of the answer.
-    pub fn number(self) -> u32
-        ensures { λ r. ⌜ r ≡ number self ⌝ }
-    {
-        match self {
-            Standing::FirstBetter => 100,
-            Standing::SecondBetter => 101,
-            Standing::Equal => 102,
-            Standing::Neither => 103,
-        }
-    }
-}
-
-// What comparing a quote with another finds: whether it is better in some column, and whether it is worse in some column.
+// How a quote stands to another: whether it is better in some column, and whether it is worse in some column.
 pub struct Comparison {
     pub better: bool,
     pub worse: bool,
@@ -50,25 +27,6 @@ impl Comparison {
     {
         self.worse & !self.better
     }
-
-    // The two flags as one answer, the quote being the first and the other the second.
-    pub fn standing(self) -> Standing
-        ensures { λ r. ⌜ r ≡ standingBy (self .better) (self .worse) ⌝ }
-    {
-        if self.better {
-            if self.worse {
-                Standing::Neither
-            } else {
-                Standing::FirstBetter
-            }
-        } else {
-            if self.worse {
-                Standing::SecondBetter
-            } else {
-                Standing::Equal
-            }
-        }
-    }
 }
 
 // The mask of a column whose direction bit is the lowest of bits: of two values with the mask's bits turned, the lower is the better.
@@ -84,13 +42,6 @@ fn is_better(bits: u32, x: u32, y: u32) -> bool
 {
     let turned = mask(bits);
     (x ^ turned) < (y ^ turned)
-}
-
-// The smaller of two numbers.
-fn smaller(x: usize, y: usize) -> usize
-    ensures { λ r. ⌜ r ≡ min x y ⌝ }
-{
-    if x < y { x } else { y }
 }
 
 // Compares the first d columns of a quote with the d cells from start on.
@@ -145,13 +96,4 @@ pub fn compare_unrolled(
         return compare(directions, 6, quote, cells, start);
     }
     compare(directions, d, quote, cells, start)
-}
-
-// How the first quote stands to the second, over the columns that both have.
-pub fn compare_columns(directions: u32, first: &[u32], second: &[u32]) -> Standing
-    ensures { λ r. ⌜ r ≡ standing (min (length (now (first .entry))) (length (now (second .entry)))) directions
-        (now (first .entry)) (now (second .entry)) ⌝ }
-{
-    let d = smaller(first.len(), second.len());
-    compare(directions, d, first, second, 0).standing()
 }

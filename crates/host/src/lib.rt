@@ -1,11 +1,11 @@
 // The two functions that a C host calls: the check of a frame and the comparison of two quote frames.
 ghost use mathlib.Core.Path.{_≡_};
-ghost use Rattle.dominance.specs.Standing.{standing};
-ghost use Rattle.host.specs.Host.{checkOf, columnsOf, compareOf, WholeQuote};
-use dominance::Standing;
-use dominance::compare_columns;
+ghost use Rattle.standing.specs.Standing.{answered};
+ghost use Rattle.host.specs.Host.{checkOf, columnCount, compareOf};
 use frames::body_length;
 use frames::read_at;
+use standing::Compared;
+use standing::compare_quotes;
 
 // 0 for a whole frame at the start of the bytes, else 1 or 2.
 #[no_mangle]
@@ -26,21 +26,28 @@ pub extern "C" fn bqb_check_frame(frame: &[u8]) -> u32
     0
 }
 
-// How the first of two whole quote frames of the same kind stands to the second.
-fn compare_whole(first: &[u8], second: &[u8], kind: u8, directions: u8) -> Standing
-    requires { ⌜ WholeQuote kind (now first) ⌝ }
-    requires { ⌜ WholeQuote kind (now second) ⌝ }
-    ensures { λ r. ⌜ r ≡ standing kind directions (columnsOf (now (first .entry)))
-        (columnsOf (now (second .entry))) ⌝ }
+// How many columns a frame of this kind has: a quote as many as its kind says, any other none.
+fn column_count(kind: u8) -> usize
+    ensures { λ r. ⌜ r ≡ columnCount kind ⌝ }
 {
-    let a = read_at(first, 0).columns;
-    let b = read_at(second, 0).columns;
-    let d = kind as usize;
-    compare_columns(directions as u32, &a[..d], &b[..d])
+    if 6 < kind {
+        return 0;
+    }
+    kind as usize
+}
+
+// The number of an answer of the comparison.
+fn number_of(compared: Compared) -> u32
+    ensures { λ r. ⌜ r ≡ answered compared ⌝ }
+{
+    match compared {
+        Compared::Stands(standing) => standing.number(),
+        Compared::Refused(refusal) => refusal.number(),
+    }
 }
 
 // The number of how the first quote stands to the second (100 first better, 101 second better, 102 equal, 103 neither), else the
-// refusal: 2, 4, 3 in that order.
+// refusal: 2, then those of the comparison.
 #[no_mangle]
 pub extern "C" fn bqb_compare_quotes(first: &[u8], second: &[u8], directions: u8) -> u32
     ensures { λ r. ⌜ r ≡ compareOf (now (first .entry)) (now (second .entry)) directions ⌝ }
@@ -51,18 +58,9 @@ pub extern "C" fn bqb_compare_quotes(first: &[u8], second: &[u8], directions: u8
     if bqb_check_frame(second) == 2 {
         return 2;
     }
-    let kind = first[0];
-    if kind < 1 {
-        return 4;
-    }
-    if 6 < kind {
-        return 4;
-    }
-    if kind != second[0] {
-        return 4;
-    }
-    if directions >> kind != 0 {
-        return 3;
-    }
-    compare_whole(first, second, kind, directions).number()
+    let n = column_count(first[0]);
+    let m = column_count(second[0]);
+    let a = read_at(first, 0).columns;
+    let b = read_at(second, 0).columns;
+    number_of(compare_quotes(directions as u32, &a[..n], &b[..m]))
 }

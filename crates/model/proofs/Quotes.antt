@@ -14,9 +14,7 @@ use Rattle.lists.proofs.Filters.{filter-map, map-append, map-map, map-id}
 use Rattle.lists.proofs.Members.{map-same-mem}
 use Rattle.lists.proofs.Runs.{between-snoc, filter-same, filter-all, filter-from, of-run}
 use Rattle.dominance.specs.Renewal.{quoteAt, renewed}
-use Rattle.dominance.specs.Standing.{standing, overEarlier, overLater}
 use Rattle.dominance.proofs.Renewal.{renewed-later, renewed-earlier, renewed-irreflexive}
-use Rattle.dominance.proofs.Standings.{standing-no-worse, standing-dominates}
 use Rattle.skyline.specs.Skyline.{windowStart}
 use Rattle.skyline.specs.Past.{lowerEnd, upperEnd}
 use Rattle.skyline.proofs.Ends.{upper-new, lower-new, lower-step, upper-step, lower-cong, upper-cong}
@@ -36,17 +34,6 @@ module _ (d directions : ℕ) (quotes : List (List ℕ)) (p : ℕ) (r : Row) (h 
   pub older-over : renewed d directions quotes (r .position) p ≡ overYounger d directions r (quoteAt quotes p)
   unfolding overYounger
   older-over = renewed-earlier d directions quotes (r .position) p (omega arith) ∙ rw e
-
-module _ (d directions : ℕ) (x : List ℕ) (r : Row) where
-  -- a younger quote is over a row exactly if it is the better of the two or they are equal
-  pub younger-standing : overOlder d directions x r ≡ overEarlier (standing d directions x (r .columns))
-  unfolding overOlder
-  younger-standing = sym (standing-no-worse d directions x (r .columns))
-
-  -- a row is over a younger quote exactly if it is the better of the two
-  pub older-standing : overYounger d directions r x ≡ overLater (standing d directions (r .columns) x)
-  unfolding overYounger
-  older-standing = sym (standing-dominates d directions (r .columns) x)
 
 -- quotes that come later leave a position's quote as it is
 pub quote-within : (quotes more : List (List ℕ)) (p : ℕ) → 1 ≤ p → p ≤ length quotes → quoteAt (quotes ++ more) p ≡ quoteAt quotes p

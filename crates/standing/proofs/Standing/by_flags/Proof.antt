@@ -1,7 +1,7 @@
--- `standing` meets its contract: the two flags choose the answer.
-use Rattle.dominance.specs.Standing.{standingBy}
-use Rattle.dominance.proofs.Comparison.standing.Statement.{statement}
-use Rattle.dominance.proofs.Comparison.standing.Tie as tie
+-- `by_flags` meets its contract: the two flags choose the answer.
+use Rattle.standing.specs.Standing.{standingBy}
+use Rattle.standing.proofs.Standing.by_flags.Statement.{statement}
+use Rattle.standing.proofs.Standing.by_flags.Tie as tie
 
 returns : tie.Need-returns
 unfolding standingBy
@@ -19,5 +19,5 @@ returns-4 : tie.Need-returns-4
 unfolding standingBy
 returns-4 c = rw (c .before .if1 .left, c .if3 .left)
 
-pub standing-spec : {M : Type 1} → statement M
-standing-spec = tie.close (tie.spec returns returns-2 returns-3 returns-4)
+pub by-flags-spec : {M : Type 1} → statement M
+by-flags-spec = tie.close (tie.spec returns returns-2 returns-3 returns-4)
