@@ -1,0 +1,3 @@
+-- The theorems of the crate.
+pub mod Shifting
+pub mod Models
