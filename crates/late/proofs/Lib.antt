@@ -1,3 +1,6 @@
 -- The theorems of the crate.
 pub mod Shifting
 pub mod Models
+pub mod Feeding
+pub mod Reading
+pub mod Tables

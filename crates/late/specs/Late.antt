@@ -1,0 +1,107 @@
+-- A panel switched on late beside one on since the morning (02, 13/13): when two books are so, and what they then show alike.
+use mathlib.Core.Path.{_≡_}
+use Prim.Native.Nat.{ℕ, _≤_}
+use mathlib.Core.Bool.{Bool, true}
+use mathlib.Core.List.{List, [], _∷_, map}
+use lib.ListN.{length}
+use Rattle.lists.specs.Lists.{contains}
+use Rattle.head.specs.declared.Desk.{Desk}
+use Rattle.head.specs.Desks.{watchOf}
+use Rattle.model.specs.Book.{standing, lookCells, pastCells}
+use Rattle.model.specs.Calls.{Open, Watch, Pair, Outputs, Lending, Lent, Seen, World, bookStep, runs, worldFirst}
+use Rattle.watcher.specs.Watcher.{OfSize, OfPair}
+use Rattle.claims.specs.Claims.{isOpening, acceptedIn}
+use Rattle.late.specs.Shift.{moved, shifted, movedChange, LiftedTables}
+use Rattle.late.specs.Feeding.{offers, quotesTaken, changesFor}
+
+-- ---- calls
+
+-- how a list of calls is made on a book: it leaves this to be seen after each, and this book at the end
+abbrev pub Making : Type 1
+Making = List Lending → World → List Seen → World → Type 0
+
+-- calls made by the book model; those made by the code are `AllMade` of crate claims
+pub record ByModel (cs : List Lending) (w : World) (ss : List Seen) (end : World) : Type 0 where
+  pub seen : ss ≡ runs bookStep cs w .0
+  pub ends : end ≡ runs bookStep cs w .1
+
+-- an opening among the calls
+abbrev pub openingCall : ℕ → ℕ → ℕ → Outputs → Lending
+openingCall d N directions o = record { call = Open d N directions; outputs = o }
+
+-- ---- two panels
+
+module _ (made : Making) where
+  -- a book on since the morning, m quotes after its last accepted opening at the split, and one switched on there: now, after k quotes
+  -- that both took
+  pub record SwitchedOnLate (m k : ℕ) (morning late : World) : Type 0 where
+    -- the calls on the first from a head of zeros up to the split, earlier books among them, and those behind it
+    pub lent : Lent
+    pub before : List Lending
+    pub since : List Lending
+    pub seenBefore : List Seen
+    pub seenSince : List Seen
+    pub split : World
+    pub made-before : made before (worldFirst lent) seenBefore split
+    pub made-since : made since split seenSince morning
+    -- the calls on the second from a head of zeros, earlier books among them, its opening, and those behind it
+    pub lateLent : Lent
+    pub earlier : List Lending
+    pub seenEarlier : List Seen
+    pub off : World
+    pub d : ℕ
+    pub N : ℕ
+    pub directions : ℕ
+    pub outputs : Outputs
+    pub seenOpening : Seen
+    pub on : World
+    pub lateSince : List Lending
+    pub seenLate : List Seen
+    pub made-earlier : made earlier (worldFirst lateLent) seenEarlier off
+    pub made-opening : made (openingCall d N directions outputs ∷ []) off (seenOpening ∷ []) on
+    pub opened : seenOpening .outcome .number ≡ 0
+    pub made-late : made lateSince on seenLate late
+    -- equal settings
+    pub same-dimensions : split .head .dimensions ≡ d
+    pub same-capacity : split .head .capacity ≡ N
+    pub same-directions : split .head .directions ≡ directions
+    -- how many quotes the second missed
+    pub missed : length (quotesTaken before seenBefore []) ≡ m
+    -- since the late opening neither accepted an opening, and both accepted the same quotes
+    pub unopened : acceptedIn isOpening since seenSince ≡ 0
+    pub late-unopened : acceptedIn isOpening lateSince seenLate ≡ 0
+    pub same-quotes : quotesTaken since seenSince [] ≡ quotesTaken lateSince seenLate []
+    pub counted : length (quotesTaken lateSince seenLate []) ≡ k
+
+  -- the next call on a book is accepted, and takes the quote x; this is seen of it
+  pub record Takes (x : List ℕ) (w : World) (s : Seen) : Type 0 where
+    pub call : Lending
+    pub after : World
+    pub made-next : made (call ∷ []) w (s ∷ []) after
+    pub accepted : s .outcome .number ≡ 0
+    pub offered : offers (call .call) ≡ x ∷ []
+
+  -- what the two books show alike, the late one's positions m quotes further on
+  pub record ShownAlike (m k : ℕ) (morning late : World) : Type 0 where
+    -- positions
+    pub newest-late : late .head .newest ≡ k
+    pub newest-morning : morning .head .newest ≡ moved m k
+    -- the list of n, once n quotes are in
+    pub lists : (n : ℕ) → 1 ≤ n → n ≤ late .head .capacity → n ≤ k
+        → lookCells (morning .head) n (morning .lent .tables) ≡ shifted m (lookCells (late .head) n (late .lent .tables))
+    -- the past list of n1 and n2, once n2 are in
+    pub pasts : (n1 n2 : ℕ) → 1 ≤ n1 → n1 ≤ n2 → n2 ≤ late .head .capacity → n2 ≤ k
+        → pastCells (morning .head) n1 n2 (morning .lent .tables) ≡ shifted m (pastCells (late .head) n1 n2 (late .lent .tables))
+    -- the N places of the four tables and both counts, once N are in
+    pub tables : late .head .capacity ≤ k → LiftedTables m (late .head .dimensions) (late .head .capacity) (morning .lent .tables) (late .lent .tables)
+    pub live : late .head .capacity ≤ k → morning .head .live ≡ late .head .live
+    pub held : late .head .capacity ≤ k → morning .head .held ≡ late .head .held
+    -- the changes of a watch of n that stands on both, of whichever desk on either, with the next quote, once n are in
+    pub changes : (desk other : Desk) (n : ℕ)
+        → contains (watchOf desk n) (standing (morning .lent .watches)) ≡ true → contains (watchOf other n) (standing (late .lent .watches)) ≡ true
+        → n ≤ k → (x : List ℕ) (s t : Seen) → Takes x morning s → Takes x late t
+        → changesFor (OfSize desk n) s ≡ map (movedChange m) (changesFor (OfSize other n) t)
+    -- those of a pair n1 and n2 that stands on both, once n2 are in
+    pub pair-changes : 1 ≤ late .head .n1 → morning .head .n1 ≡ late .head .n1 → morning .head .n2 ≡ late .head .n2
+        → late .head .n2 ≤ k → (x : List ℕ) (s t : Seen) → Takes x morning s → Takes x late t
+        → changesFor OfPair s ≡ map (movedChange m) (changesFor OfPair t)
