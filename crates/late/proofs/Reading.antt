@@ -153,10 +153,12 @@ module _ (before after : ℕ → List ℕ) where
           → changesAmong (OfSize desk n) (changes w (before (sizeIn w)) (after (sizeIn w))) ++ changesAmong (OfSize desk n) (allChanges ws before after)
           ≡ listChanges (before n) (after n)
       pick (inl s) u more =
-          rw (eqb-true (sizeIn w) n (same-size desk n w s),
-          own-changes (OfSize desk n) (leave w) (join w) (before n) (after n) (λ p. mine-read desk n w s p .0) (λ p. mine-read desk n w s p .1),
-          none-among (OfSize desk n) ws (λ v i. other-read desk n v N (rest v i) (refute (sizedFor (OfSize desk n) v)
-          (λ j. clash (contains v ws) i (rw (sized-once desk n v w j s) (rising-above (suc w) b w ws (le-refl (suc w)) (u .rest)))))))
+          rw (
+            eqb-true (sizeIn w) n (same-size desk n w s),
+            own-changes (OfSize desk n) (leave w) (join w) (before n) (after n) (λ p. mine-read desk n w s p .0) (λ p. mine-read desk n w s p .1),
+            none-among (OfSize desk n) ws (λ v i. other-read desk n v N (rest v i) (refute (sizedFor (OfSize desk n) v)
+                (λ j. clash (contains v ws) i (rw (sized-once desk n v w j s) (rising-above (suc w) b w ws (le-refl (suc w)) (u .rest)))))),
+          )
           (append-nil (listChanges (before n) (after n)))
       pick (inr s) u more =
           let fine = each w (or-left (eqb w w) (contains w ws) (eq-eqb w w refl)) in
@@ -180,13 +182,17 @@ quote-changes : (f : Follower) (s : Reference) → Bounded s → (x : List ℕ) 
 unfolding watchedFor listFor pairChanges changeFor sizedChange pairedChange changeBy
 quote-changes (OfSize desk n) s ok x t =
     among-append (OfSize desk n) (allChanges (s .watched) (skylineOf s) (skylineOf (withQuote s x))) (pairChanges (pairOf s) (pairOf (withQuote s x)))
-    ∙ rw (one-among (skylineOf s) (skylineOf (withQuote s x)) desk n (s .capacity) 1 highest (s .watched) (ok .watches .risen) (ok .watches .each) t,
-    other-changes (OfSize desk n) pairLeave pairJoin (pairOf s) (pairOf (withQuote s x)) (λ p. refl) (λ p. refl))
+    ∙ rw (
+      one-among (skylineOf s) (skylineOf (withQuote s x)) desk n (s .capacity) 1 highest (s .watched) (ok .watches .risen) (ok .watches .each) t,
+      other-changes (OfSize desk n) pairLeave pairJoin (pairOf s) (pairOf (withQuote s x)) (λ p. refl) (λ p. refl),
+    )
     (append-nil (listChanges (skylineOf s n) (skylineOf (withQuote s x) n)))
 quote-changes OfPair s ok x t =
     among-append OfPair (allChanges (s .watched) (skylineOf s) (skylineOf (withQuote s x))) (pairChanges (pairOf s) (pairOf (withQuote s x)))
-    ∙ rw (none-among (skylineOf s) (skylineOf (withQuote s x)) OfPair (s .watched) (λ w i p. (refl, refl)),
-    own-changes OfPair pairLeave pairJoin (pairOf s) (pairOf (withQuote s x)) (λ p. refl) (λ p. refl))
+    ∙ rw (
+      none-among (skylineOf s) (skylineOf (withQuote s x)) OfPair (s .watched) (λ w i p. (refl, refl)),
+      own-changes OfPair pairLeave pairJoin (pairOf s) (pairOf (withQuote s x)) (λ p. refl) (λ p. refl),
+    )
 
 -- what a watcher whose list is watched reads of an accepted quote
 pub quote-read : (f : Follower) (o : Outputs) (k : Expected) → Bounded (k .reference) → (x : List ℕ) → answered o k (Quote x) ≡ 0

@@ -68,9 +68,9 @@ module _ {m : ℕ} {morning late : Reference} (b : Behind m morning late) (full 
       let same : map Row.columns (rowsOf morning) ≡ map Row.columns (rowsOf late) = field-mapped Row.columns (λ (c : List ℕ). c) (λ r. refl) ∙ map-id (map Row.columns (rowsOf late)) in
       let cells = flat (map Row.columns (rowsOf late)) in
       let long : length cells ≡ late .capacity * late .dimensions =
-          cells-counted (late .dimensions) (rowsOf late) (rows-wide late (f' .wide)) ∙ ap (λ (n : ℕ). n * late .dimensions) (rows-full late full) in
+      cells-counted (late .dimensions) (rowsOf late) (rows-wide late (f' .wide)) ∙ ap (λ (n : ℕ). n * late .dimensions) (rows-full late full) in
       let size : late .capacity * late .dimensions ≡ morning .capacity * morning .dimensions =
-          sym (ap₂ (λ (N d : ℕ). N * d) (b .capacity) (b .dimensions)) in
+      sym (ap₂ (λ (N d : ℕ). N * d) (b .capacity) (b .dimensions)) in
       full-front (late .capacity * late .dimensions) cells (l .tables .columns) long
       (ap₂ (λ (n : ℕ) (c : List (List ℕ)). padded n (flat c) (l .tables .columns)) size (sym same) ∙ ap Tables.columns (f .tables))
       ∙ sym (full-front (late .capacity * late .dimensions) cells (l' .tables .columns) long (ap Tables.columns (f' .tables)))

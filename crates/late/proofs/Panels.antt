@@ -1,0 +1,377 @@
+-- A panel switched on late over lists of calls: two books that calls left, made by the book model or by the code, show the same.
+use mathlib.Core.Path.{_≡_, refl, sym, ap, ap₂, subst, _∙_}
+use mathlib.Core.Logic.{_⊎_, inl, inr}
+use Prim.Native.Nat.{ℕ, suc, _+_, _≤_, _<_}
+use native.Mathlib.Nat.{le-refl}
+use native.Mathlib.Omega.{arith}
+use mathlib.Core.Bool.{Bool, true, false, _&&_, not, cond}
+use mathlib.Core.List.{List, [], _∷_, _++_, map, append-nil}
+use lib.Dec.{eqb}
+use lib.ListN.{length, drop}
+use lib.Seq.{drop-append-seam}
+use borrow.Author.Tests.{eq-eqb, ne-eqb, not-false}
+use Rattle.lists.specs.Lists.{any, headOr, contains}
+use Rattle.lists.proofs.Booleans.{clash, both}
+use Rattle.lists.proofs.Members.{mem-any, contains-mem}
+use Rattle.refusals.specs.Refusals.{granted}
+use Rattle.refusals.proofs.Numbers.{zero-passed}
+use Rattle.head.specs.declared.Head.{Head}
+use Rattle.head.specs.declared.Desk.{Desk}
+use Rattle.head.specs.Heads.{settingsHold, lastPosition}
+use Rattle.head.specs.Desks.{deskUnit, sizeIn, watchOf}
+use Rattle.model.specs.Shares.{ofDesk}
+use Rattle.model.specs.Reference.{Reference, unopened, newest, skylineOf, pastOf, paired, pairOf, headOf, isOpen, withQuote, opening, tells, referenceStep}
+use Rattle.model.specs.Book.{standing, bookRows, pastListOf, listOf, lookCells, pastCells}
+use Rattle.model.specs.Calls.{Call, Open, Outputs, Lending, Lent, Seen, World, Expected, lengthsOf, bookStep, expectedStep, runs, worldFirst, expectedFirst, expectedAtEnd}
+use Rattle.watcher.specs.Watcher.{Follower, OfSize, OfPair, sizedFor, watchedFor, listFor}
+use Rattle.claims.specs.Claims.{AllMade, none, next, Refines, isOpening, acceptedIn}
+use Rattle.model.proofs.Desks.{size-of-watch, watch-own}
+use Rattle.model.proofs.Simulation.{Invariant, Simulation, Bounded, bounded, simulation-rows, watches-read, skyline-read, past-read, watched-pair}
+use Rattle.model.proofs.Replay.{replay, replay-ends}
+use Rattle.claims.proofs.Refining.{calls-refine}
+use Rattle.late.specs.Shift.{moved, shifted, movedChange, listChanges, Behind}
+use Rattle.late.specs.Feeding.{offers, quotesTaken, changesFor}
+use Rattle.late.specs.Late.{Making, ByModel, openingCall, SwitchedOnLate, Takes, ShownAlike}
+use Rattle.late.proofs.Models.{newest-moved, late-list, late-past, late-live, late-held, late-changes, late-pair-changes}
+use Rattle.late.proofs.Feeding.{settings, answered, quotes-taken, settings-stay, taken-behind}
+use Rattle.late.proofs.Reading.{offer-read}
+use Rattle.late.proofs.Tables.{tables-lifted}
+
+-- ---- calls behind calls
+
+module _ {S : Type 0} (step : Call → Outputs → S → Seen × S) where
+  -- what is seen of calls behind others, and where they end
+  runs-append : (cs ds : List Lending) (s : S)
+      → (runs step (cs ++ ds) s .0 ≡ runs step cs s .0 ++ runs step ds (runs step cs s .1) .0) × (runs step (cs ++ ds) s .1 ≡ runs step ds (runs step cs s .1) .1)
+  unfolding runs
+  runs-append [] ds s = (refl, refl)
+  runs-append (c ∷ cs) ds s =
+      let one = step (c .call) (c .outputs) s in
+      let r = runs-append cs ds (one .1) in
+      (ap (λ (l : List Seen). one .0 ∷ l) (r .0), r .1)
+
+-- what stands behind the same
+cancel : {A : Type 0} (xs ys zs : List A) → xs ++ ys ≡ xs ++ zs → ys ≡ zs
+cancel xs ys zs e = sym (drop-append-seam xs ys) ∙ ap (drop (length xs)) e ∙ drop-append-seam xs zs
+
+-- a way to make calls by which they go on behind others, and by which from a head of zeros they refine the reference model
+record Sound (made : Making) : Type 0 where
+  joined : {cs ds : List Lending} {w v u : World} {ss ts : List Seen} → made cs w ss v → made ds v ts u → made (cs ++ ds) w (ss ++ ts) u
+  refined : (cs : List Lending) (l : Lent) (ss : List Seen) (end : World) → made cs (worldFirst l) ss end
+      → (ss ≡ runs expectedStep cs (expectedFirst l) .0) × Simulation (expectedAtEnd cs l) end
+
+module _ (made : Making) (sound : Sound made) where
+  -- a book that calls from a head of zeros left, with the reference model after them
+  record Reaches (k : Expected) (w : World) : Type 0 where
+    lent : Lent
+    calls : List Lending
+    seen : List Seen
+    made-all : made calls (worldFirst lent) seen w
+    ends : expectedAtEnd calls lent ≡ k
+
+  simulates : {k : Expected} {w : World} → Reaches k w → Simulation k w
+  simulates {k} {w} r = subst (λ (e : Expected). Simulation e w) (r .ends) (sound .refined (r .calls) (r .lent) (r .seen) w (r .made-all) .1)
+
+  -- the first calls
+  reaches-first : {cs : List Lending} {l : Lent} {ss : List Seen} {w : World} → made cs (worldFirst l) ss w
+      → (ss ≡ runs expectedStep cs (expectedFirst l) .0) × Reaches (expectedAtEnd cs l) w
+  reaches-first {cs} {l} {ss} {w} m = (sound .refined cs l ss w m .0, record { lent = l; calls = cs; seen = ss; made-all = m; ends = refl })
+
+  -- calls behind them
+  reaches-next : {k : Expected} {w v : World} {ds : List Lending} {ts : List Seen} → Reaches k w → made ds w ts v
+      → (ts ≡ runs expectedStep ds k .0) × Reaches (runs expectedStep ds k .1) v
+  reaches-next {k} {w} {v} {ds} {ts} r m =
+      let all = sound .joined (r .made-all) m in
+      let parts = runs-append expectedStep (r .calls) ds (expectedFirst (r .lent)) in
+      let first = sound .refined (r .calls) (r .lent) (r .seen) w (r .made-all) .0 in
+      let whole = sound .refined (r .calls ++ ds) (r .lent) (r .seen ++ ts) v all .0 in
+      let tail : ts ≡ runs expectedStep ds (expectedAtEnd (r .calls) (r .lent)) .0 =
+      cancel (r .seen) ts (runs expectedStep ds (expectedAtEnd (r .calls) (r .lent)) .0)
+      (whole ∙ parts .0 ∙ ap (λ (l : List Seen). l ++ runs expectedStep ds (expectedAtEnd (r .calls) (r .lent)) .0) (sym first)) in (
+        tail ∙ ap (λ (e : Expected). runs expectedStep ds e .0) (r .ends),
+        record {
+          lent = r .lent;
+          calls = r .calls ++ ds;
+          seen = r .seen ++ ts;
+          made-all = all;
+          ends = parts .1 ∙ ap (λ (e : Expected). runs expectedStep ds e .1) (r .ends);
+        },
+      )
+
+  -- one call
+  reaches-one : {k : Expected} {w v : World} {c : Lending} {s : Seen} → Reaches k w → made (c ∷ []) w (s ∷ []) v
+      → (s ≡ expectedStep (c .call) (c .outputs) k .0) × Reaches (expectedStep (c .call) (c .outputs) k .1) v
+  unfolding runs headOr
+  reaches-one {k} {c = c} {s} r m = let t = reaches-next r m in (ap (headOr s) (t .0), t .1)
+
+-- ---- what a book shows
+
+-- a book of an opened reference model keeps the invariant
+opened-invariant : (k : Expected) (w : World) → Simulation k w → isOpen (k .reference) ≡ true → Invariant (k .reference) (k .lent)
+opened-invariant k w j e = go (j .since)
+  where
+    go : (k .reference ≡ unopened) ⊎ Invariant (k .reference) (k .lent) → Invariant (k .reference) (k .lent)
+    go (inl u) = absurd (clash (isOpen unopened) (ap isOpen (sym u) ∙ e) shut)
+      where
+        shut : isOpen unopened ≡ false
+        shut = unfold isOpen settingsHold in refl
+    go (inr f) = f
+
+module _ (k : Expected) (w : World) (j : Simulation k w) (f : Invariant (k .reference) (k .lent)) where
+  -- the list that a look writes, and the past list
+  look-is : (n : ℕ) → 1 ≤ n → n ≤ k .reference .capacity → lookCells (w .head) n (w .lent .tables) ≡ skylineOf (k .reference) n
+  unfolding lookCells
+  look-is n h i = rw (j .head, j .lent) (skyline-read (k .reference) (k .lent) f n h i)
+
+  past-is : (n1 n2 : ℕ) → 1 ≤ n1 → n1 ≤ n2 → n2 ≤ k .reference .capacity → pastCells (w .head) n1 n2 (w .lent .tables) ≡ pastOf (k .reference) n1 n2
+  unfolding pastCells
+  past-is n1 n2 h o i = rw (j .head, j .lent) (past-read (k .reference) (k .lent) f n1 n2 h o i)
+
+  -- a watch that stands in the records is watched
+  watch-stands : (desk : Desk) (n : ℕ) → n < deskUnit → contains (watchOf desk n) (standing (w .lent .watches)) ≡ true
+      → watchedFor (OfSize desk n) (k .reference) ≡ true
+  unfolding watchedFor sizedFor
+  watch-stands desk n h t =
+      let stands : contains (watchOf desk n) (k .reference .watched) ≡ true = rw (j .lent, watches-read (k .reference) (k .lent) f) at t in
+      mem-any (sizedFor (OfSize desk n)) (watchOf desk n) (k .reference .watched) (contains-mem (watchOf desk n) (k .reference .watched) stands)
+      (both (ofDesk desk (watchOf desk n)) (eqb (sizeIn (watchOf desk n)) n) (watch-own desk n h) (eq-eqb (sizeIn (watchOf desk n)) n (size-of-watch desk n h)))
+
+-- a pair is watched where its n1 is not 0, and its list is the past list
+pair-listed : (s : Reference) → 1 ≤ s .n1 → (paired s ≡ true) × (pairOf s ≡ pastOf s (s .n1) (s .n2))
+unfolding paired pairOf
+pair-listed s h = let e = ne-eqb (s .n1) 0 (λ z. omega arith) in (rw e, rw e)
+
+module _ (made : Making) (sound : Sound made) {k : Expected} {w : World} (r : Reaches made sound k w) where
+  -- what a watcher whose list is watched reads of the next quote that is taken
+  takes-read : (f : Follower) → watchedFor f (k .reference) ≡ true → (x : List ℕ) (s : Seen) → Takes made x w s
+      → changesFor f s ≡ listChanges (listFor f (k .reference)) (listFor f (withQuote (k .reference) x))
+  takes-read f t x s q =
+      let one = reaches-one made sound r (q .made-next) in
+      let ok = bounded (k .reference) (k .lent) (simulates made sound r .since) in
+      let zero : answered (q .call .outputs) k (q .call .call) ≡ 0 = ap (λ (v : Seen). v .outcome .number) (sym (one .0)) ∙ q .accepted in
+      ap (changesFor f) (one .0) ∙ offer-read f (q .call .call) (q .call .outputs) k ok x (q .offered) zero t
+
+-- ---- two books
+
+module _ (made : Making) (sound : Sound made) {m : ℕ} {k k' : Expected} {morning late : World} (r : Reaches made sound k morning) (r' : Reaches made sound k' late)
+    (b : Behind m (k .reference) (k' .reference)) (opens : isOpen (k .reference) ≡ true) (opens' : isOpen (k' .reference) ≡ true) where
+  abbrev s : Reference
+  s = k .reference
+
+  abbrev s' : Reference
+  s' = k' .reference
+
+  abbrev j : Simulation k morning
+  j = simulates made sound r
+
+  abbrev j' : Simulation k' late
+  j' = simulates made sound r'
+
+  abbrev f : Invariant s (k .lent)
+  f = opened-invariant k morning j opens
+
+  abbrev f' : Invariant s' (k' .lent)
+  f' = opened-invariant k' late j' opens'
+
+  list-shifted : (n : ℕ) → 1 ≤ n → n ≤ s' .capacity → n ≤ newest s'
+      → lookCells (morning .head) n (morning .lent .tables) ≡ shifted m (lookCells (late .head) n (late .lent .tables))
+  list-shifted n h i g = look-is k morning j f n h (rw (b .capacity) i) ∙ late-list b n g ∙ ap (shifted m) (sym (look-is k' late j' f' n h i))
+
+  past-shifted : (n1 n2 : ℕ) → 1 ≤ n1 → n1 ≤ n2 → n2 ≤ s' .capacity → n2 ≤ newest s'
+      → pastCells (morning .head) n1 n2 (morning .lent .tables) ≡ shifted m (pastCells (late .head) n1 n2 (late .lent .tables))
+  past-shifted n1 n2 h o i g =
+      past-is k morning j f n1 n2 h o (rw (b .capacity) i) ∙ late-past b n1 n2 o g ∙ ap (shifted m) (sym (past-is k' late j' f' n1 n2 h o i))
+
+  changes-shifted : (desk other : Desk) (n : ℕ)
+      → contains (watchOf desk n) (standing (morning .lent .watches)) ≡ true → contains (watchOf other n) (standing (late .lent .watches)) ≡ true
+      → n ≤ newest s' → (x : List ℕ) (u v : Seen) → Takes made x morning u → Takes made x late v
+      → changesFor (OfSize desk n) u ≡ map (movedChange m) (changesFor (OfSize other n) v)
+  unfolding listFor
+  changes-shifted desk other n t t' g x u v q q' =
+      let small : n < deskUnit = let low = f' .within in omega arith in
+      takes-read made sound r (OfSize desk n) (watch-stands k morning j f desk n small t) x u q
+      ∙ late-changes b x n g
+      ∙ ap (map (movedChange m)) (sym (takes-read made sound r' (OfSize other n) (watch-stands k' late j' f' other n small t') x v q'))
+
+  pair-shifted : 1 ≤ s' .n1 → s .n1 ≡ s' .n1 → s .n2 ≡ s' .n2 → s' .n2 ≤ newest s' → (x : List ℕ) (u v : Seen) → Takes made x morning u → Takes made x late v
+      → changesFor OfPair u ≡ map (movedChange m) (changesFor OfPair v)
+  unfolding listFor watchedFor withQuote
+  pair-shifted h e e' g x u v q q' =
+      let some : 1 ≤ s .n1 = omega arith in
+      let within = watched-pair s' (f' .pair) (pair-listed s' h .0) in
+      let order = within .order in
+      takes-read made sound r OfPair (pair-listed s some .0) x u q
+      ∙ ap₂ (λ (a c : List ℕ). listChanges a c) (pair-listed s some .1) (pair-listed (withQuote s x) some .1)
+      ∙ ap₂ (λ (n1 n2 : ℕ). listChanges (pastOf s n1 n2) (pastOf (withQuote s x) n1 n2)) e e'
+      ∙ late-pair-changes b x (s' .n1) (s' .n2) order g
+      ∙ ap (map (movedChange m)) (sym (takes-read made sound r' OfPair (pair-listed s' h .0) x v q'
+      ∙ ap₂ (λ (a c : List ℕ). listChanges a c) (pair-listed s' h .1) (pair-listed (withQuote s' x) h .1)))
+
+  -- the settings and the pair of the late head are the reference model's
+  capacity-is : late .head .capacity ≡ s' .capacity
+  unfolding headOf
+  capacity-is = ap Head.capacity (j' .head)
+
+  n1-is : late .head .n1 ≡ s' .n1
+  unfolding headOf
+  n1-is = ap Head.n1 (j' .head)
+
+  n2-is : late .head .n2 ≡ s' .n2
+  unfolding headOf
+  n2-is = ap Head.n2 (j' .head)
+
+  -- they show the same, positions shifted
+  shown-alike : ShownAlike made m (newest s') morning late
+  unfolding headOf
+  shown-alike = record {
+    newest-late = ap Head.newest (j' .head);
+    newest-morning = ap Head.newest (j .head) ∙ newest-moved b;
+    lists = λ n h i g. list-shifted n h (rw capacity-is at i) g;
+    pasts = λ n1 n2 h o i g. past-shifted n1 n2 h o (rw capacity-is at i) g;
+    tables = λ g. rw (j .lent, j' .lent, j' .head) (tables-lifted b (rw capacity-is at g) (k .lent) f (k' .lent) f');
+    live = λ g. ap Head.live (j .head) ∙ late-live b (rw capacity-is at g) ∙ sym (ap Head.live (j' .head));
+    held = λ g. ap Head.held (j .head) ∙ late-held b (rw capacity-is at g) ∙ sym (ap Head.held (j' .head));
+    changes = changes-shifted;
+    pair-changes = λ h e e' g.
+        pair-shifted (rw n1-is at h) (sym (ap Head.n1 (j .head)) ∙ e ∙ n1-is) (sym (ap Head.n2 (j .head)) ∙ e' ∙ n2-is) (rw n2-is at g);
+  }
+
+-- ---- two lists of calls
+
+-- an accepted opening leaves a model just opened, and its settings hold
+opened-is : (d N directions : ℕ) (o : Outputs) (k : Expected) → answered o k (Open d N directions) ≡ 0
+    → (expectedStep (Open d N directions) o k .1 .reference ≡ opening d N directions) × (settingsHold d N directions ≡ true)
+unfolding expectedStep referenceStep tells lengthsOf granted
+opened-is d N directions o k e = (rw e, not-false (settingsHold d N directions) (zero-passed _ _ _ e .0))
+
+-- an opened model's settings hold
+open-by : (s : Reference) (d N directions : ℕ) → settings s ≡ (d, N, directions) → settingsHold d N directions ≡ true → isOpen s ≡ true
+unfolding isOpen
+open-by s d N directions e t = ap (λ (x : ℕ × ℕ × ℕ). settingsHold (x .0) (x .1) (x .2)) e ∙ t
+
+module _ (made : Making) (sound : Sound made) {m k : ℕ} {morning late : World} (p : SwitchedOnLate made m k morning late) where
+  -- the first book: at the split, and now
+  abbrev at-split : Expected
+  at-split = expectedAtEnd (p .before) (p .lent)
+
+  abbrev split-reached : (p .seenBefore ≡ runs expectedStep (p .before) (expectedFirst (p .lent)) .0) × Reaches made sound at-split (p .split)
+  split-reached = reaches-first made sound (p .made-before)
+
+  abbrev now : Expected
+  now = runs expectedStep (p .since) at-split .1
+
+  abbrev now-reached : (p .seenSince ≡ runs expectedStep (p .since) at-split .0) × Reaches made sound now morning
+  now-reached = reaches-next made sound (split-reached .1) (p .made-since)
+
+  -- the second: before its opening, behind it, and now
+  abbrev at-off : Expected
+  at-off = expectedAtEnd (p .earlier) (p .lateLent)
+
+  abbrev opening-step : Seen × Expected
+  opening-step = expectedStep (Open (p .d) (p .N) (p .directions)) (p .outputs) at-off
+
+  abbrev on-reached : (p .seenOpening ≡ opening-step .0) × Reaches made sound (opening-step .1) (p .on)
+  on-reached = reaches-one made sound (reaches-first made sound (p .made-earlier) .1) (p .made-opening)
+
+  abbrev late-now : Expected
+  late-now = runs expectedStep (p .lateSince) (opening-step .1) .1
+
+  abbrev late-reached : (p .seenLate ≡ runs expectedStep (p .lateSince) (opening-step .1) .0) × Reaches made sound late-now late
+  late-reached = reaches-next made sound (on-reached .1) (p .made-late)
+
+  just-opened : (opening-step .1 .reference ≡ opening (p .d) (p .N) (p .directions)) × (settingsHold (p .d) (p .N) (p .directions) ≡ true)
+  just-opened =
+      opened-is (p .d) (p .N) (p .directions) (p .outputs) at-off (ap (λ (v : Seen). v .outcome .number) (sym (on-reached .0)) ∙ p .opened)
+
+  -- both have the settings of the late opening
+  late-settings : settings (late-now .reference) ≡ (p .d, p .N, p .directions)
+  unfolding opening
+  late-settings =
+      settings-stay (p .lateSince) (opening-step .1) (rw (late-reached .0) at (p .late-unopened))
+      ∙ ap settings (just-opened .0)
+
+  morning-settings : settings (now .reference) ≡ (p .d, p .N, p .directions)
+  unfolding headOf
+  morning-settings =
+      let h = simulates made sound (split-reached .1) .head in
+      let e0 : at-split .reference .dimensions ≡ p .d = sym (ap Head.dimensions h) ∙ p .same-dimensions in
+      let e1 : at-split .reference .capacity ≡ p .N = sym (ap Head.capacity h) ∙ p .same-capacity in
+      let e2 : at-split .reference .directions ≡ p .directions = sym (ap Head.directions h) ∙ p .same-directions in
+      settings-stay (p .since) at-split (rw (now-reached .0) at (p .unopened))
+      ∙ (λ i. (e0 i, e1 i, e2 i))
+
+  -- and the first has the second's quotes behind those that the second missed
+  late-quotes : late-now .reference .quotes ≡ quotesTaken (p .lateSince) (p .seenLate) []
+  unfolding opening
+  late-quotes =
+      quotes-taken (p .lateSince) (opening-step .1)
+      ∙ ap₂ (λ (ss : List Seen) (qs : List (List ℕ)). quotesTaken (p .lateSince) ss qs) (sym (late-reached .0)) (ap Reference.quotes (just-opened .0))
+
+  morning-quotes : now .reference .quotes ≡ at-split .reference .quotes ++ quotesTaken (p .since) (p .seenSince) []
+  morning-quotes =
+      quotes-taken (p .since) at-split
+      ∙ ap₂ (λ (ss : List Seen) (qs : List (List ℕ)). quotesTaken (p .since) ss qs) (sym (now-reached .0)) (sym (append-nil (at-split .reference .quotes)))
+      ∙ taken-behind (p .since) (p .seenSince) (at-split .reference .quotes) [] (p .unopened)
+
+  missed-quotes : length (at-split .reference .quotes) ≡ m
+  missed-quotes =
+      ap length (quotes-taken (p .before) (expectedFirst (p .lent)) ∙ ap (λ (ss : List Seen). quotesTaken (p .before) ss []) (sym (split-reached .0))) ∙ p .missed
+
+  behind : Behind m (now .reference) (late-now .reference)
+  behind =
+      let e = morning-settings ∙ sym late-settings in
+      record {
+        missed = at-split .reference .quotes;
+        counted = missed-quotes;
+        quotes = morning-quotes ∙ ap (λ (qs : List (List ℕ)). at-split .reference .quotes ++ qs) (p .same-quotes ∙ sym late-quotes);
+        dimensions = ap (λ (x : ℕ × ℕ × ℕ). x .0) e;
+        capacity = ap (λ (x : ℕ × ℕ × ℕ). x .1) e;
+        directions = ap (λ (x : ℕ × ℕ × ℕ). x .2) e;
+      }
+
+  -- a panel that was switched on late shows what one on since the morning shows, positions shifted
+  panel : ShownAlike made m k morning late
+  panel =
+      subst (λ (n : ℕ). ShownAlike made m n morning late) (ap length late-quotes ∙ p .counted)
+      (shown-alike made sound (now-reached .1) (late-reached .1) behind
+      (open-by (now .reference) (p .d) (p .N) (p .directions) morning-settings (just-opened .1))
+      (open-by (late-now .reference) (p .d) (p .N) (p .directions) late-settings (just-opened .1)))
+
+-- ---- by the book model, and by the code
+
+model-sound : Sound ByModel
+model-sound = record {
+  joined = λ {cs} {ds} {w} {v} {u} {ss} {ts} a b. go cs ds w v u ss ts a b;
+  refined = λ cs l ss end a. (a .seen ∙ replay cs l, subst (λ (w : World). Simulation (expectedAtEnd cs l) w) (sym (a .ends)) (replay-ends cs l));
+}
+  where
+    go : (cs ds : List Lending) (w v u : World) (ss ts : List Seen) → ByModel cs w ss v → ByModel ds v ts u → ByModel (cs ++ ds) w (ss ++ ts) u
+    go cs ds w v u ss ts a b =
+        let parts = runs-append bookStep cs ds w in
+        let seen : ts ≡ runs bookStep ds (runs bookStep cs w .1) .0 = b .seen ∙ ap (λ (x : World). runs bookStep ds x .0) (a .ends) in
+        let ends : u ≡ runs bookStep ds (runs bookStep cs w .1) .1 = b .ends ∙ ap (λ (x : World). runs bookStep ds x .1) (a .ends) in
+        record {
+          seen = ap₂ {C = List Seen} (λ (x y : List Seen). x ++ y) (a .seen) seen ∙ sym (parts .0);
+          ends = ends ∙ sym (parts .1);
+        }
+
+-- calls that were made behind calls that were made
+made-append : {cs ds : List Lending} {w v u : World} {ss ts : List Seen} → AllMade cs w ss v → AllMade ds v ts u → AllMade (cs ++ ds) w (ss ++ ts) u
+made-append none b = b
+made-append (next m rest) b = next m (made-append rest b)
+
+code-sound : Sound AllMade
+code-sound = record {
+  joined = made-append;
+  refined = λ cs l ss end a.
+      let r = calls-refine cs l ss end a in
+      (r .seen-alike, record { head = r .head-alike; lent = r .lent-alike; since = replay-ends cs l .since });
+}
+
+-- a panel switched on late, over two lists of calls from heads of zeros, made by the book model
+pub late-panel : {m k : ℕ} {morning late : World} → SwitchedOnLate ByModel m k morning late → ShownAlike ByModel m k morning late
+late-panel = panel ByModel model-sound
+
+-- and of the code's own calls, each meeting its contract on what the one before left
+pub late-panel-code : {m k : ℕ} {morning late : World} → SwitchedOnLate AllMade m k morning late → ShownAlike AllMade m k morning late
+late-panel-code = panel AllMade code-sound
