@@ -74,7 +74,8 @@ module _ (o : Outputs) (k : Expected) where
   feeds (Preview x) = feeds-preview x (answered (Preview x)) s
 
 -- after a list of calls its quotes are those that were taken
-pub quotes-taken : (cs : List Lending) (k : Expected) → runs expectedStep cs k .1 .reference .quotes ≡ quotesTaken cs (runs expectedStep cs k .0) (k .reference .quotes)
+pub quotes-taken : (cs : List Lending) (k : Expected)
+    → runs expectedStep cs k .1 .reference .quotes ≡ quotesTaken cs (runs expectedStep cs k .0) (k .reference .quotes)
 unfolding runs quotesTaken
 quotes-taken [] k = refl
 quotes-taken (c ∷ cs) k =

@@ -1,26 +1,24 @@
 -- Two reference models with the same settings, one with the quotes of the other behind m that the other missed: their lists, past lists, rows
 -- and changes.
-use mathlib.Core.Path.{_≡_, refl, sym, ap, _∙_}
+use mathlib.Core.Path.{_≡_, sym, ap, _∙_}
 use Prim.Native.Nat.{ℕ, suc, _+_, _-_, _≤_}
 use native.Mathlib.Omega.{arith}
-use mathlib.Core.Bool.{Bool, true, false, cond}
 use mathlib.Core.List.{List, [], _∷_, _++_, map, append-assoc}
-use lib.Dec.{ltb, eqb}
-use lib.ListN.{length, getD, length-append, length-map}
+use lib.Dec.{ltb}
+use lib.ListN.{length, length-append, length-map}
 use lib.Seq.{getD-append-add}
 use borrow.Author.Tests.{ltb-true, lt-ltb}
-use Rattle.lists.specs.Lists.{filter, run, between}
+use Rattle.lists.specs.Lists.{filter, between}
 use Rattle.lists.proofs.Booleans.{agree}
 use Rattle.lists.proofs.Filters.{filter-map, map-map}
 use Rattle.lists.proofs.Members.{filter-same-mem, map-same-mem}
-use Rattle.lists.proofs.Runs.{length-run, of-run}
-use Rattle.dominance.specs.Dominance.{dominates}
-use Rattle.dominance.specs.Renewal.{quoteAt, equalColumns, renewed}
-use Rattle.skyline.specs.Skyline.{windowStart, skyline}
-use Rattle.skyline.specs.Past.{lowerEnd, upperEnd}
+use Rattle.lists.proofs.Runs.{of-run}
+use Rattle.dominance.specs.Renewal.{quoteAt, renewed}
+use Rattle.skyline.specs.Skyline.{windowStart}
+use Rattle.skyline.specs.Past.{upperEnd}
 use Rattle.model.specs.Rows.{Row, isLive, liveRows}
 use Rattle.model.specs.Reference.{Reference, newest, over, skylineOf, pastOf, rowOf, rowsOf, withQuote}
-use Rattle.late.specs.Shift.{moved, lift, shifted, liftedRow, ListChange, movedChange, listChanges, Behind}
+use Rattle.late.specs.Shift.{moved, shifted, liftedRow, movedChange, listChanges, Behind}
 use Rattle.late.proofs.Shifting.{lift-none, start-moved, between-moved, lower-moved, upper-moved, skyline-moved, changes-moved}
 
 -- a quote behind those that were missed
@@ -136,7 +134,8 @@ newest-quoted s x = length-append (s .quotes) (x ∷ []) ∙ omega arith
 module _ {m : ℕ} {morning late : Reference} (b : Behind m morning late) (x : List ℕ) where
   -- the changes of n with a quote that both take, once n quotes are in before it
   pub late-changes : (n : ℕ) → n ≤ newest late
-      → listChanges (skylineOf morning n) (skylineOf (withQuote morning x) n) ≡ map (movedChange m) (listChanges (skylineOf late n) (skylineOf (withQuote late x) n))
+      → listChanges (skylineOf morning n) (skylineOf (withQuote morning x) n)
+      ≡ map (movedChange m) (listChanges (skylineOf late n) (skylineOf (withQuote late x) n))
   late-changes n h =
       rw (late-list b n h, late-list (behind-quote b x) n (rw (newest-quoted late x) (omega arith)))
       (changes-moved m (skylineOf late n) (skylineOf (withQuote late x) n))

@@ -1,40 +1,37 @@
 -- A panel switched on late over lists of calls: two books that calls left, made by the book model or by the code, show the same.
 use mathlib.Core.Path.{_≡_, refl, sym, ap, ap₂, subst, _∙_}
 use mathlib.Core.Logic.{_⊎_, inl, inr}
-use Prim.Native.Nat.{ℕ, suc, _+_, _≤_, _<_}
-use native.Mathlib.Nat.{le-refl}
+use Prim.Native.Nat.{ℕ, _≤_, _<_}
 use native.Mathlib.Omega.{arith}
-use mathlib.Core.Bool.{Bool, true, false, _&&_, not, cond}
+use mathlib.Core.Bool.{true, false}
 use mathlib.Core.List.{List, [], _∷_, _++_, map, append-nil}
-use lib.Dec.{eqb}
 use lib.ListN.{length, drop}
 use lib.Seq.{drop-append-seam}
-use borrow.Author.Tests.{eq-eqb, ne-eqb, not-false}
-use Rattle.lists.specs.Lists.{any, headOr, contains}
-use Rattle.lists.proofs.Booleans.{clash, both}
+use borrow.Author.Tests.{ne-eqb, not-false}
+use Rattle.lists.specs.Lists.{headOr, contains}
+use Rattle.lists.proofs.Booleans.{clash}
 use Rattle.lists.proofs.Members.{mem-any, contains-mem}
 use Rattle.refusals.specs.Refusals.{granted}
 use Rattle.refusals.proofs.Numbers.{zero-passed}
 use Rattle.head.specs.declared.Head.{Head}
 use Rattle.head.specs.declared.Desk.{Desk}
-use Rattle.head.specs.Heads.{settingsHold, lastPosition}
-use Rattle.head.specs.Desks.{deskUnit, sizeIn, watchOf}
-use Rattle.model.specs.Shares.{ofDesk}
+use Rattle.head.specs.Heads.{settingsHold}
+use Rattle.head.specs.Desks.{deskUnit, watchOf}
 use Rattle.model.specs.Reference.{Reference, unopened, newest, skylineOf, pastOf, paired, pairOf, headOf, isOpen, withQuote, opening, tells, referenceStep}
-use Rattle.model.specs.Book.{standing, bookRows, pastListOf, listOf, lookCells, pastCells}
-use Rattle.model.specs.Calls.{Call, Open, Outputs, Lending, Lent, Seen, World, Expected, lengthsOf, bookStep, expectedStep, runs, worldFirst, expectedFirst, expectedAtEnd}
+use Rattle.model.specs.Book.{standing, lookCells, pastCells}
+use Rattle.model.specs.Calls.{Call, Open, Watch, Pair, Outputs, Lending, Lent, Seen, World, Expected, lengthsOf, bookStep, expectedStep, runs, worldFirst, expectedFirst, expectedAtEnd}
 use Rattle.watcher.specs.Watcher.{Follower, OfSize, OfPair, sizedFor, watchedFor, listFor}
-use Rattle.claims.specs.Claims.{AllMade, none, next, Refines, isOpening, acceptedIn}
-use Rattle.model.proofs.Desks.{size-of-watch, watch-own}
-use Rattle.model.proofs.Simulation.{Invariant, Simulation, Bounded, bounded, simulation-rows, watches-read, skyline-read, past-read, watched-pair}
+use Rattle.claims.specs.Claims.{AllMade, none, next}
+use Rattle.model.proofs.Simulation.{Invariant, Simulation, Bounded, bounded, watches-read, skyline-read, past-read, watched-pair}
 use Rattle.model.proofs.Replay.{replay, replay-ends}
 use Rattle.claims.proofs.Refining.{calls-refine}
-use Rattle.late.specs.Shift.{moved, shifted, movedChange, listChanges, Behind}
-use Rattle.late.specs.Feeding.{offers, quotesTaken, changesFor}
-use Rattle.late.specs.Late.{Making, ByModel, openingCall, SwitchedOnLate, Takes, ShownAlike}
+use Rattle.late.specs.Shift.{shifted, Joins, movedChange, listChanges, Behind}
+use Rattle.late.specs.Feeding.{quotesTaken, changesFor}
+use Rattle.late.specs.Late.{Making, ByModel, SwitchedOnLate, Accepts, Takes, ShownAlike}
+use Rattle.late.proofs.Shifting.{joins-moved}
 use Rattle.late.proofs.Models.{newest-moved, late-list, late-past, late-live, late-held, late-changes, late-pair-changes}
 use Rattle.late.proofs.Feeding.{settings, answered, quotes-taken, settings-stay, taken-behind}
-use Rattle.late.proofs.Reading.{offer-read}
+use Rattle.late.proofs.Reading.{sized-own, offer-read, watch-read, pair-read}
 use Rattle.late.proofs.Tables.{tables-lifted}
 
 -- ---- calls behind calls
@@ -42,7 +39,8 @@ use Rattle.late.proofs.Tables.{tables-lifted}
 module _ {S : Type 0} (step : Call → Outputs → S → Seen × S) where
   -- what is seen of calls behind others, and where they end
   runs-append : (cs ds : List Lending) (s : S)
-      → (runs step (cs ++ ds) s .0 ≡ runs step cs s .0 ++ runs step ds (runs step cs s .1) .0) × (runs step (cs ++ ds) s .1 ≡ runs step ds (runs step cs s .1) .1)
+      → (runs step (cs ++ ds) s .0 ≡ runs step cs s .0 ++ runs step ds (runs step cs s .1) .0)
+      × (runs step (cs ++ ds) s .1 ≡ runs step ds (runs step cs s .1) .1)
   unfolding runs
   runs-append [] ds s = (refl, refl)
   runs-append (c ∷ cs) ds s =
@@ -130,11 +128,11 @@ module _ (k : Expected) (w : World) (j : Simulation k w) (f : Invariant (k .refe
   -- a watch that stands in the records is watched
   watch-stands : (desk : Desk) (n : ℕ) → n < deskUnit → contains (watchOf desk n) (standing (w .lent .watches)) ≡ true
       → watchedFor (OfSize desk n) (k .reference) ≡ true
-  unfolding watchedFor sizedFor
+  unfolding watchedFor
   watch-stands desk n h t =
       let stands : contains (watchOf desk n) (k .reference .watched) ≡ true = rw (j .lent, watches-read (k .reference) (k .lent) f) at t in
-      mem-any (sizedFor (OfSize desk n)) (watchOf desk n) (k .reference .watched) (contains-mem (watchOf desk n) (k .reference .watched) stands)
-      (both (ofDesk desk (watchOf desk n)) (eqb (sizeIn (watchOf desk n)) n) (watch-own desk n h) (eq-eqb (sizeIn (watchOf desk n)) n (size-of-watch desk n h)))
+      mem-any (sizedFor (OfSize desk n)) (watchOf desk n) (k .reference .watched)
+      (contains-mem (watchOf desk n) (k .reference .watched) stands) (sized-own desk n h)
 
 -- a pair is watched where its n1 is not 0, and its list is the past list
 pair-listed : (s : Reference) → 1 ≤ s .n1 → (paired s ≡ true) × (pairOf s ≡ pastOf s (s .n1) (s .n2))
@@ -142,19 +140,37 @@ unfolding paired pairOf
 pair-listed s h = let e = ne-eqb (s .n1) 0 (λ z. omega arith) in (rw e, rw e)
 
 module _ (made : Making) (sound : Sound made) {k : Expected} {w : World} (r : Reaches made sound k w) where
+  -- what is seen of the next call, and that the reference model accepts it
+  accepts-one : {c : Call} {s : Seen} (q : Accepts made c w s) → (s ≡ expectedStep c (q .outputs) k .0) × (answered (q .outputs) k c ≡ 0)
+  accepts-one {c} {s} q =
+      let one = reaches-one made sound r (q .made-next) in
+      (one .0, ap (λ (v : Seen). v .outcome .number) (sym (one .0)) ∙ q .accepted)
+
+  abbrev ok : Bounded (k .reference)
+  ok = bounded (k .reference) (k .lent) (simulates made sound r .since)
+
   -- what a watcher whose list is watched reads of the next quote that is taken
   takes-read : (f : Follower) → watchedFor f (k .reference) ≡ true → (x : List ℕ) (s : Seen) → Takes made x w s
       → changesFor f s ≡ listChanges (listFor f (k .reference)) (listFor f (withQuote (k .reference) x))
   takes-read f t x s q =
-      let one = reaches-one made sound r (q .made-next) in
-      let ok = bounded (k .reference) (k .lent) (simulates made sound r .since) in
-      let zero : answered (q .call .outputs) k (q .call .call) ≡ 0 = ap (λ (v : Seen). v .outcome .number) (sym (one .0)) ∙ q .accepted in
-      ap (changesFor f) (one .0) ∙ offer-read f (q .call .call) (q .call .outputs) k ok x (q .offered) zero t
+      let one = accepts-one (q .accepts) in
+      ap (changesFor f) (one .0) ∙ offer-read f (q .call) (q .accepts .outputs) k ok x (q .offered) (one .1) t
+
+  -- what is read of the next call if it sets a watch
+  watching-read : (desk : Desk) (n : ℕ) (s : Seen) → Accepts made (Watch desk n) w s → changesFor (OfSize desk n) s ≡ map Joins (skylineOf (k .reference) n)
+  watching-read desk n s q = let one = accepts-one q in ap (changesFor (OfSize desk n)) (one .0) ∙ watch-read desk n (q .outputs) k ok (one .1)
+
+  -- or the pair
+  pairing-read : (n1 n2 : ℕ) (s : Seen) → Accepts made (Pair n1 n2) w s → (n1 ≤ n2) × (changesFor OfPair s ≡ map Joins (pastOf (k .reference) n1 n2))
+  pairing-read n1 n2 s q =
+      let one = accepts-one q in
+      let t = pair-read n1 n2 (q .outputs) k ok (one .1) in
+      (t .0, ap (changesFor OfPair) (one .0) ∙ t .1)
 
 -- ---- two books
 
-module _ (made : Making) (sound : Sound made) {m : ℕ} {k k' : Expected} {morning late : World} (r : Reaches made sound k morning) (r' : Reaches made sound k' late)
-    (b : Behind m (k .reference) (k' .reference)) (opens : isOpen (k .reference) ≡ true) (opens' : isOpen (k' .reference) ≡ true) where
+module _ (made : Making) (sound : Sound made) {m : ℕ} {k k' : Expected} {morning late : World}
+    (r : Reaches made sound k morning) (r' : Reaches made sound k' late) (b : Behind m (k .reference) (k' .reference)) (opens : isOpen (k .reference) ≡ true) (opens' : isOpen (k' .reference) ≡ true) where
   abbrev s : Reference
   s = k .reference
 
@@ -207,6 +223,23 @@ module _ (made : Making) (sound : Sound made) {m : ℕ} {k k' : Expected} {morni
       ∙ ap (map (movedChange m)) (sym (takes-read made sound r' OfPair (pair-listed s' h .0) x v q'
       ∙ ap₂ (λ (a c : List ℕ). listChanges a c) (pair-listed s' h .1) (pair-listed (withQuote s' x) h .1)))
 
+  watch-shifted : (desk other : Desk) (n : ℕ) → n ≤ newest s' → (u v : Seen) → Accepts made (Watch desk n) morning u → Accepts made (Watch other n) late v
+      → changesFor (OfSize desk n) u ≡ map (movedChange m) (changesFor (OfSize other n) v)
+  watch-shifted desk other n g u v q q' =
+      watching-read made sound r desk n u q
+      ∙ ap (map Joins) (late-list b n g)
+      ∙ joins-moved m (skylineOf s' n)
+      ∙ ap (map (movedChange m)) (sym (watching-read made sound r' other n v q'))
+
+  pairing-shifted : (n1 n2 : ℕ) → n2 ≤ newest s' → (u v : Seen) → Accepts made (Pair n1 n2) morning u → Accepts made (Pair n1 n2) late v
+      → changesFor OfPair u ≡ map (movedChange m) (changesFor OfPair v)
+  pairing-shifted n1 n2 g u v q q' =
+      let t = pairing-read made sound r n1 n2 u q in
+      t .1
+      ∙ ap (map Joins) (late-past b n1 n2 (t .0) g)
+      ∙ joins-moved m (pastOf s' n1 n2)
+      ∙ ap (map (movedChange m)) (sym (pairing-read made sound r' n1 n2 v q' .1))
+
   -- the settings and the pair of the late head are the reference model's
   capacity-is : late .head .capacity ≡ s' .capacity
   unfolding headOf
@@ -226,14 +259,16 @@ module _ (made : Making) (sound : Sound made) {m : ℕ} {k k' : Expected} {morni
   shown-alike = record {
     newest-late = ap Head.newest (j' .head);
     newest-morning = ap Head.newest (j .head) ∙ newest-moved b;
-    lists = λ n h i g. list-shifted n h (rw capacity-is at i) g;
-    pasts = λ n1 n2 h o i g. past-shifted n1 n2 h o (rw capacity-is at i) g;
+    lists = λ n h i g. list-shifted n h (rw capacity-is at i) (omega arith);
+    pasts = λ n1 n2 h o i g. past-shifted n1 n2 h o (rw capacity-is at i) (omega arith);
     tables = λ g. rw (j .lent, j' .lent, j' .head) (tables-lifted b (rw capacity-is at g) (k .lent) f (k' .lent) f');
     live = λ g. ap Head.live (j .head) ∙ late-live b (rw capacity-is at g) ∙ sym (ap Head.live (j' .head));
     held = λ g. ap Head.held (j .head) ∙ late-held b (rw capacity-is at g) ∙ sym (ap Head.held (j' .head));
-    changes = changes-shifted;
+    changes = λ desk other n t t' g. changes-shifted desk other n t t' (omega arith);
     pair-changes = λ h e e' g.
-        pair-shifted (rw n1-is at h) (sym (ap Head.n1 (j .head)) ∙ e ∙ n1-is) (sym (ap Head.n2 (j .head)) ∙ e' ∙ n2-is) (rw n2-is at g);
+        pair-shifted (rw n1-is at h) (sym (ap Head.n1 (j .head)) ∙ e ∙ n1-is) (sym (ap Head.n2 (j .head)) ∙ e' ∙ n2-is) (omega (arith, n2-is));
+    watch-joins = λ desk other n g. watch-shifted desk other n (omega arith);
+    pair-joins = λ n1 n2 g. pairing-shifted n1 n2 (omega arith);
   }
 
 -- ---- two lists of calls
@@ -315,7 +350,9 @@ module _ (made : Making) (sound : Sound made) {m k : ℕ} {morning late : World}
 
   missed-quotes : length (at-split .reference .quotes) ≡ m
   missed-quotes =
-      ap length (quotes-taken (p .before) (expectedFirst (p .lent)) ∙ ap (λ (ss : List Seen). quotesTaken (p .before) ss []) (sym (split-reached .0))) ∙ p .missed
+      ap length
+      (quotes-taken (p .before) (expectedFirst (p .lent)) ∙ ap (λ (ss : List Seen). quotesTaken (p .before) ss []) (sym (split-reached .0)))
+      ∙ p .missed
 
   behind : Behind m (now .reference) (late-now .reference)
   behind =
@@ -373,5 +410,5 @@ pub late-panel : {m k : ℕ} {morning late : World} → SwitchedOnLate ByModel m
 late-panel = panel ByModel model-sound
 
 -- and of the code's own calls, each meeting its contract on what the one before left
-pub late-panel-code : {m k : ℕ} {morning late : World} → SwitchedOnLate AllMade m k morning late → ShownAlike AllMade m k morning late
-late-panel-code = panel AllMade code-sound
+pub calls-late : {m k : ℕ} {morning late : World} → SwitchedOnLate AllMade m k morning late → ShownAlike AllMade m k morning late
+calls-late = panel AllMade code-sound

@@ -1,17 +1,17 @@
 -- What a watcher reads of an accepted quote: the changes from its list before to its list after.
-use mathlib.Core.Path.{_≡_, refl, sym, ap, ap₂, _∙_}
+use mathlib.Core.Path.{_≡_, refl, ap, ap₂, _∙_}
 use mathlib.Core.Logic.{_⊎_, inl, inr}
-use Prim.Native.Nat.{ℕ, zero, suc, _≤_, _<_}
+use Prim.Native.Nat.{ℕ, suc, _≤_, _<_}
 use native.Mathlib.Nat.{le-refl}
 use native.Mathlib.Omega.{arith}
-use mathlib.Core.Bool.{Bool, true, false, _&&_, not, cond}
+use mathlib.Core.Bool.{Bool, true, false, _&&_, cond}
 use mathlib.Core.List.{List, [], _∷_, _++_, map, append-nil}
 use lib.Dec.{eqb}
-use lib.ListN.{length, take, drop}
+use lib.ListN.{length, drop}
 use lib.Seq.{take-append-seam}
 use borrow.Author.Tests.{eqb-true, eqb-false, eq-eqb, leb-false}
 use Rattle.lists.specs.Lists.{any, headOr, flat, contains, rising, laid}
-use Rattle.lists.proofs.Booleans.{either, clash, refute, and-left, and-right, or-left, or-right}
+use Rattle.lists.proofs.Booleans.{both, either, clash, refute, and-left, or-left, or-right}
 use Rattle.lists.proofs.Filters.{flat-append, map-append}
 use Rattle.lists.proofs.Rising.{Rises, rising-cons, rising-above}
 use Rattle.refusals.specs.Refusals.{granted}
@@ -19,21 +19,19 @@ use Rattle.refusals.proofs.Numbers.{zero-passed}
 use Rattle.head.specs.declared.Desk.{Desk}
 use Rattle.head.specs.declared.Desk.the-variants.{One, Two}
 use Rattle.head.specs.Heads.{lastPosition}
-use Rattle.head.specs.Desks.{deskNumber, deskIn, sizeIn, watchOf}
+use Rattle.head.specs.Desks.{deskNumber, deskUnit, deskIn, sizeIn, watchOf}
 use Rattle.frames.specs.declared.Message.{Message}
-use Rattle.frames.specs.Frames.{messagesFrom}
 use Rattle.model.specs.Changes.{leaveKindOf, joinKindOf, leave, join, pairLeave, pairJoin, missing, changesBy, changes, allChanges, pairChanges, frames}
 use Rattle.model.specs.Shares.{ofDesk}
-use Rattle.model.specs.Reference.{Reference, newest, skylineOf, pairOf, withQuote, tells, referenceStep}
+use Rattle.model.specs.Reference.{Reference, newest, skylineOf, pastOf, pairOf, withQuote, tells, referenceStep}
 use Rattle.model.specs.Book.{isWatch}
 use Rattle.model.specs.Calls.{Call, Open, Quote, Look, Watch, End, Past, Pair, Unpair, Due, Preview, Outputs, Seen, Expected, lengthsOf, expectedStep}
 use Rattle.watcher.specs.Watcher.{Follower, OfSize, OfPair, sizedFor, watchedFor, listFor}
-use Rattle.model.proofs.Desks.{watch-desk, highest}
-use Rattle.model.proofs.Records.{Records}
-use Rattle.model.proofs.Simulation.{Bounded}
+use Rattle.model.proofs.Desks.{size-of-watch, watch-own, watch-desk, highest}
+use Rattle.model.proofs.Simulation.{Bounded, in-unit, in-pair-range}
 use Rattle.watcher.proofs.Applying.{same-size, sized-once}
 use Rattle.watcher.proofs.ReadBack.{Sent, read-back}
-use Rattle.watcher.proofs.Following.{sent-quote}
+use Rattle.watcher.proofs.Following.{sent-watch, sent-pairing, sent-quote}
 use Rattle.late.specs.Shift.{ListChange, Leaves, Joins, listChanges}
 use Rattle.late.specs.Feeding.{offers, changeBy, sizedChange, pairedChange, changeFor, changesAmong, changesFor}
 use Rattle.late.proofs.Feeding.{answered}
@@ -64,14 +62,16 @@ module _ (f : Follower) (leaves joins : ℕ → Message) (before after : List �
   unfolding changesBy listChanges
   own-changes e g =
       among-append f (map leaves (missing before after)) (map joins (missing after before))
-      ∙ ap₂ {C = List ListChange} (λ (x y : List ListChange). x ++ y) (among-own f leaves Leaves e (missing before after)) (among-own f joins Joins g (missing after before))
+      ∙ ap₂ {C = List ListChange} (λ (x y : List ListChange). x ++ y)
+      (among-own f leaves Leaves e (missing before after)) (among-own f joins Joins g (missing after before))
 
   -- those of another's
   other-changes : ((p : ℕ) → changeFor f (leaves p) ≡ []) → ((p : ℕ) → changeFor f (joins p) ≡ []) → changesAmong f (changesBy leaves joins before after) ≡ []
   unfolding changesBy
   other-changes e g =
       among-append f (map leaves (missing before after)) (map joins (missing after before))
-      ∙ ap₂ {C = List ListChange} (λ (x y : List ListChange). x ++ y) (among-none f leaves e (missing before after)) (among-none f joins g (missing after before))
+      ∙ ap₂ {C = List ListChange} (λ (x y : List ListChange). x ++ y)
+      (among-none f leaves e (missing before after)) (among-none f joins g (missing after before))
 
 -- ---- whose changes are whose
 
@@ -120,6 +120,12 @@ module _ (desk : Desk) (n w : ℕ) where
       go true e = other-kinds desk (deskIn w) (watch-desk N w fine) (fails (ofDesk desk w) e) p
       go false e = (refl, refl)
 
+-- a desk's watch of n is its watcher's
+pub sized-own : (desk : Desk) (n : ℕ) → n < deskUnit → sizedFor (OfSize desk n) (watchOf desk n) ≡ true
+unfolding sizedFor
+sized-own desk n h =
+    both (ofDesk desk (watchOf desk n)) (eqb (sizeIn (watchOf desk n)) n) (watch-own desk n h) (eq-eqb (sizeIn (watchOf desk n)) n (size-of-watch desk n h))
+
 -- ---- the changes of every watch, and those of the pair
 
 module _ (before after : ℕ → List ℕ) where
@@ -162,7 +168,8 @@ module _ (before after : ℕ → List ℕ) where
           (append-nil (listChanges (before n) (after n)))
       pick (inr s) u more =
           let fine = each w (or-left (eqb w w) (contains w ws) (eq-eqb w w refl)) in
-          rw (other-changes (OfSize desk n) (leave w) (join w) (before (sizeIn w)) (after (sizeIn w)) (λ p. other-read desk n w N fine s p .0) (λ p. other-read desk n w N fine s p .1))
+          rw (other-changes (OfSize desk n) (leave w) (join w) (before (sizeIn w)) (after (sizeIn w))
+          (λ p. other-read desk n w N fine s p .0) (λ p. other-read desk n w N fine s p .1))
           (more (rw s at t))
 
 -- ---- an accepted quote
@@ -226,3 +233,31 @@ offer-read f (Pair n1 n2) o k ok x h e t = absurd (offers-one x h)
 offer-read f Unpair o k ok x h e t = absurd (offers-one x h)
 offer-read f Due o k ok x h e t = absurd (offers-one x h)
 offer-read f (Preview y) o k ok x h e t = absurd (offers-one x h)
+
+-- ---- an accepted watch
+
+-- the joins of a watch, of its watcher
+pub watch-read : (desk : Desk) (n : ℕ) (o : Outputs) (k : Expected) → Bounded (k .reference) → answered o k (Watch desk n) ≡ 0
+    → changesFor (OfSize desk n) (expectedStep (Watch desk n) o k .0) ≡ map Joins (skylineOf (k .reference) n)
+unfolding expectedStep referenceStep tells lengthsOf granted
+watch-read desk n o k ok e =
+    let s = k .reference in
+    let inside = zero-passed _ _ _ (zero-passed _ _ _ e .1) .0 in
+    let mine = sized-own desk n (in-unit s n ok inside) in
+    frames-read (OfSize desk n) (map (join (watchOf desk n)) (skylineOf s n)) (sent-watch s ok desk n inside)
+    (expectedStep (Watch desk n) o k .0) (o .bytes) (rw e) (rw e)
+    ∙ among-own (OfSize desk n) (join (watchOf desk n)) Joins (λ p. mine-read desk n (watchOf desk n) mine p .1) (skylineOf s n)
+
+-- those of the pair, whose n1 is not above n2
+pub pair-read : (n1 n2 : ℕ) (o : Outputs) (k : Expected) → Bounded (k .reference) → answered o k (Pair n1 n2) ≡ 0
+    → (n1 ≤ n2) × (changesFor OfPair (expectedStep (Pair n1 n2) o k .0) ≡ map Joins (pastOf (k .reference) n1 n2))
+unfolding expectedStep referenceStep tells lengthsOf granted changeFor pairedChange changeBy
+pair-read n1 n2 o k ok e =
+    let s = k .reference in
+    let a = zero-passed _ _ _ (zero-passed _ _ _ e .1) in
+    let within = in-pair-range s n1 n2 (a .0) (zero-passed _ _ _ (a .1) .0) in
+    let two = within .two in (
+      within .order,
+      frames-read OfPair (map pairJoin (pastOf s n1 n2)) (sent-pairing s ok n1 n2 (omega arith)) (expectedStep (Pair n1 n2) o k .0) (o .bytes) (rw e) (rw e)
+          ∙ among-own OfPair pairJoin Joins (λ p. refl) (pastOf s n1 n2),
+    )

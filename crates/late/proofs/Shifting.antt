@@ -1,19 +1,19 @@
 -- The shift over any dominance that shifts: of a window, its skyline, both ends of a position, and the changes between two lists.
-use mathlib.Core.Path.{_≡_, refl, sym, ap, ap₂, _∙_}
-use Prim.Native.Nat.{ℕ, zero, suc, _+_, _-_, _≤_, _<_}
+use mathlib.Core.Path.{_≡_, refl, sym, ap, _∙_}
+use Prim.Native.Nat.{ℕ, suc, _+_, _-_, _≤_}
 use native.Mathlib.Omega.{arith}
 use mathlib.Core.Bool.{Bool, true, false, not, cond}
-use mathlib.Core.List.{List, [], _∷_, _++_, map}
+use mathlib.Core.List.{List, [], _∷_, map}
 use lib.Dec.{eqb}
 use borrow.Author.Tests.{eq-eqb, ne-eqb, eqb-true, eqb-false}
-use Rattle.lists.specs.Lists.{filter, any, headOr, lastOr, run, between, contains}
+use Rattle.lists.specs.Lists.{filter, any, headOr, lastOr, between, contains}
 use Rattle.lists.proofs.Booleans.{agree}
 use Rattle.lists.proofs.Filters.{filter-map, any-map, map-map, map-append}
 use Rattle.lists.proofs.Runs.{filter-same, any-same, map-same, run-from}
 use Rattle.skyline.specs.Skyline.{windowStart, dominatedIn, skyline}
 use Rattle.skyline.specs.Past.{lowerEnd, upperEnd}
 use Rattle.model.specs.Changes.{missing}
-use Rattle.late.specs.Shift.{moved, lift, shifted, ListChange, Leaves, Joins, movedChange, listChanges}
+use Rattle.late.specs.Shift.{moved, lift, shifted, Leaves, Joins, movedChange, listChanges}
 
 -- ---- ends
 
@@ -141,3 +141,8 @@ changes-moved m before after =
       map-map (movedChange m) Leaves (missing before after),
       map-map (movedChange m) Joins (missing after before),
     )
+
+-- the joins of a list
+pub joins-moved : (m : ℕ) (l : List ℕ) → map Joins (shifted m l) ≡ map (movedChange m) (map Joins l)
+unfolding movedChange
+joins-moved m l = map-map Joins (moved m) l ∙ sym (map-map (movedChange m) Joins l)

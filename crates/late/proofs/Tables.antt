@@ -1,10 +1,10 @@
 -- The four tables of two books, once N quotes are in on the late one: the same N places, positions moved and both ends lifted.
 use mathlib.Core.Path.{_≡_, refl, sym, ap, ap₂, _∙_}
-use Prim.Native.Nat.{ℕ, suc, _+_, _-_, _*_, _≤_}
+use Prim.Native.Nat.{ℕ, suc, _-_, _*_, _≤_}
 use native.Mathlib.Omega.{arith}
-use mathlib.Core.List.{List, [], _++_, map, append-nil}
+use mathlib.Core.List.{List, _++_, map, append-nil}
 use lib.ListN.{length, take, replicate, length-map}
-use Rattle.lists.specs.Lists.{flat, run, between, padded}
+use Rattle.lists.specs.Lists.{flat, between, padded}
 use Rattle.lists.proofs.Filters.{map-map, map-id}
 use Rattle.lists.proofs.Members.{map-same-mem}
 use Rattle.lists.proofs.Runs.{length-run}
@@ -16,7 +16,7 @@ use Rattle.model.specs.Calls.{Lent}
 use Rattle.model.proofs.Tables.{cells-counted}
 use Rattle.model.proofs.Sound.{rows-wide}
 use Rattle.model.proofs.Simulation.{Invariant}
-use Rattle.late.specs.Shift.{moved, lift, shifted, liftedRow, LiftedTables, Behind}
+use Rattle.late.specs.Shift.{moved, lift, liftedRow, LiftedTables, Behind}
 use Rattle.late.proofs.Models.{late-rows}
 
 -- the first n cells of a table that is filled from n cells
@@ -65,7 +65,8 @@ module _ {m : ℕ} {morning late : Reference} (b : Behind m morning late) (full 
   columns-front : take (late .capacity * late .dimensions) (l .tables .columns) ≡ take (late .capacity * late .dimensions) (l' .tables .columns)
   unfolding filled liftedRow
   columns-front =
-      let same : map Row.columns (rowsOf morning) ≡ map Row.columns (rowsOf late) = field-mapped Row.columns (λ (c : List ℕ). c) (λ r. refl) ∙ map-id (map Row.columns (rowsOf late)) in
+      let same : map Row.columns (rowsOf morning) ≡ map Row.columns (rowsOf late) =
+      field-mapped Row.columns (λ (c : List ℕ). c) (λ r. refl) ∙ map-id (map Row.columns (rowsOf late)) in
       let cells = flat (map Row.columns (rowsOf late)) in
       let long : length cells ≡ late .capacity * late .dimensions =
       cells-counted (late .dimensions) (rowsOf late) (rows-wide late (f' .wide)) ∙ ap (λ (n : ℕ). n * late .dimensions) (rows-full late full) in

@@ -1,5 +1,4 @@
 -- What calls feed a book: the quotes that were accepted since its last accepted opening; and the changes that a watcher reads of a call.
-use mathlib.Core.Path.{_≡_}
 use Prim.Native.Nat.{ℕ}
 use mathlib.Core.Bool.{cond}
 use mathlib.Core.List.{List, [], _∷_, _++_, map}

@@ -1,14 +1,14 @@
 -- A panel switched on late beside one on since the morning (02, 13/13): when two books are so, and what they then show alike.
 use mathlib.Core.Path.{_≡_}
 use Prim.Native.Nat.{ℕ, _≤_}
-use mathlib.Core.Bool.{Bool, true}
+use mathlib.Core.Bool.{true}
 use mathlib.Core.List.{List, [], _∷_, map}
 use lib.ListN.{length}
 use Rattle.lists.specs.Lists.{contains}
 use Rattle.head.specs.declared.Desk.{Desk}
 use Rattle.head.specs.Desks.{watchOf}
 use Rattle.model.specs.Book.{standing, lookCells, pastCells}
-use Rattle.model.specs.Calls.{Open, Watch, Pair, Outputs, Lending, Lent, Seen, World, bookStep, runs, worldFirst}
+use Rattle.model.specs.Calls.{Call, Open, Watch, Pair, Outputs, Lending, Lent, Seen, World, bookStep, runs, worldFirst}
 use Rattle.watcher.specs.Watcher.{OfSize, OfPair}
 use Rattle.claims.specs.Claims.{isOpening, acceptedIn}
 use Rattle.late.specs.Shift.{moved, shifted, movedChange, LiftedTables}
@@ -24,10 +24,6 @@ Making = List Lending → World → List Seen → World → Type 0
 pub record ByModel (cs : List Lending) (w : World) (ss : List Seen) (end : World) : Type 0 where
   pub seen : ss ≡ runs bookStep cs w .0
   pub ends : end ≡ runs bookStep cs w .1
-
--- an opening among the calls
-abbrev pub openingCall : ℕ → ℕ → ℕ → Outputs → Lending
-openingCall d N directions o = record { call = Open d N directions; outputs = o }
 
 -- ---- two panels
 
@@ -58,7 +54,7 @@ module _ (made : Making) where
     pub lateSince : List Lending
     pub seenLate : List Seen
     pub made-earlier : made earlier (worldFirst lateLent) seenEarlier off
-    pub made-opening : made (openingCall d N directions outputs ∷ []) off (seenOpening ∷ []) on
+    pub made-opening : made (record { call = Open d N directions; outputs = outputs } ∷ []) off (seenOpening ∷ []) on
     pub opened : seenOpening .outcome .number ≡ 0
     pub made-late : made lateSince on seenLate late
     -- equal settings
@@ -73,13 +69,18 @@ module _ (made : Making) where
     pub same-quotes : quotesTaken since seenSince [] ≡ quotesTaken lateSince seenLate []
     pub counted : length (quotesTaken lateSince seenLate []) ≡ k
 
-  -- the next call on a book is accepted, and takes the quote x; this is seen of it
-  pub record Takes (x : List ℕ) (w : World) (s : Seen) : Type 0 where
-    pub call : Lending
+  -- this is the next call on a book, and is accepted; this is seen of it
+  pub record Accepts (c : Call) (w : World) (s : Seen) : Type 0 where
+    pub outputs : Outputs
     pub after : World
-    pub made-next : made (call ∷ []) w (s ∷ []) after
+    pub made-next : made (record { call = c; outputs = outputs } ∷ []) w (s ∷ []) after
     pub accepted : s .outcome .number ≡ 0
-    pub offered : offers (call .call) ≡ x ∷ []
+
+  -- the next call on a book is accepted and takes the quote x; this is seen of it
+  pub record Takes (x : List ℕ) (w : World) (s : Seen) : Type 0 where
+    pub call : Call
+    pub accepts : Accepts call w s
+    pub offered : offers call ≡ x ∷ []
 
   -- what the two books show alike, the late one's positions m quotes further on
   pub record ShownAlike (m k : ℕ) (morning late : World) : Type 0 where
@@ -104,4 +105,9 @@ module _ (made : Making) where
     -- those of a pair n1 and n2 that stands on both, once n2 are in
     pub pair-changes : 1 ≤ late .head .n1 → morning .head .n1 ≡ late .head .n1 → morning .head .n2 ≡ late .head .n2
         → late .head .n2 ≤ k → (x : List ℕ) (s t : Seen) → Takes x morning s → Takes x late t
+        → changesFor OfPair s ≡ map (movedChange m) (changesFor OfPair t)
+    -- the joins that setting a watch of n on both writes, of whichever desk on either, once n are in, and those of the pair n1 and n2, once n2 are in
+    pub watch-joins : (desk other : Desk) (n : ℕ) → n ≤ k → (s t : Seen) → Accepts (Watch desk n) morning s → Accepts (Watch other n) late t
+        → changesFor (OfSize desk n) s ≡ map (movedChange m) (changesFor (OfSize other n) t)
+    pub pair-joins : (n1 n2 : ℕ) → n2 ≤ k → (s t : Seen) → Accepts (Pair n1 n2) morning s → Accepts (Pair n1 n2) late t
         → changesFor OfPair s ≡ map (movedChange m) (changesFor OfPair t)
