@@ -37,7 +37,7 @@ proofs:
 	@rt ci 2>&1 | tools/progress.sh build/ci.txt
 
 # beside the first crates, on what they leave idle: the tests built, and the models held against small tapes and themselves
-models: build/plain_model build/random_calls build/late_panel build/notation rules rule-plants
+models: build/plain_model build/random_calls build/late_book build/notation rules rule-plants
 
 run: $(PRINTER)
 	@$(PRINTER) < $(TAPE)
@@ -57,9 +57,9 @@ random: build/plain_model $(PRINTER)
 random-calls: build/random_calls $(PLAYER)
 	@build/random_calls $(PLAYER) $(SEED) $(LISTS)
 
-# a panel switched on late against one on since the morning, both played by the printer
-late: build/late_panel $(PRINTER)
-	@build/late_panel $(PRINTER) $(SEED) $(PAIRS)
+# a book switched on late against one on since the morning, both played by the printer
+late: build/late_book $(PRINTER)
+	@build/late_book $(PRINTER) $(SEED) $(PAIRS)
 
 # the audit's plain rules, lists and what is due, as that model has them, against every tape of small settings; its
 # previews against its quotes; what a desk sees of a list against what it sees of one that differs in all else
@@ -77,8 +77,8 @@ plant-in-tapes-%: build/plain_model $(PRINTER)
 plant-in-calls-%: build/random_calls $(PLAYER)
 	@tests/planted.sh calls-$* 'the answers differ' build/random_calls --plant $* $(PLAYER) $(SEED) 1000
 
-plant-in-late-%: build/late_panel $(PRINTER)
-	@tests/planted.sh late-$* 'the panels differ' build/late_panel --plant $* $(PRINTER) $(SEED) $(PAIRS)
+plant-in-late-%: build/late_book $(PRINTER)
+	@tests/planted.sh late-$* 'the books differ' build/late_book --plant $* $(PRINTER) $(SEED) $(PAIRS)
 
 plant-in-rules-%: build/random_calls
 	@$(IDLE) tests/planted.sh rules-$* 'the rules differ' build/random_calls --plant $* --rules

@@ -4,4 +4,4 @@ pub mod Models
 pub mod Feeding
 pub mod Reading
 pub mod Tables
-pub mod Panels
+pub mod Late

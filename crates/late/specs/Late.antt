@@ -1,4 +1,4 @@
--- A panel switched on late beside one on since the morning (02, 13/13): when two books are so, and what they then show alike.
+-- A book switched on late beside one on since the morning (02, 13/13): when two books are so, and what they then show alike.
 use mathlib.Core.Path.{_≡_}
 use Prim.Native.Nat.{ℕ, _≤_}
 use mathlib.Core.Bool.{true}
@@ -25,62 +25,66 @@ pub record ByModel (cs : List Lending) (w : World) (ss : List Seen) (end : World
   pub seen : ss ≡ runs bookStep cs w .0
   pub ends : end ≡ runs bookStep cs w .1
 
--- ---- two panels
+-- ---- two books
 
 module _ (made : Making) where
-  -- a book on since the morning, m quotes after its last accepted opening at the split, and one switched on there: now, after k quotes
+  -- calls that were made on a book and left another, and what was seen after each
+  pub record Run (from to : World) : Type 0 where
+    pub calls : List Lending
+    pub seen : List Seen
+    pub made-all : made calls from seen to
+
+  -- this is the next call on a book, it is accepted, and this is seen of it
+  pub record Accepts (c : Call) (from : World) (s : Seen) (to : World) : Type 0 where
+    pub outputs : Outputs
+    pub made-next : made (record { call = c; outputs = outputs } ∷ []) from (s ∷ []) to
+    pub accepted : s .outcome .number ≡ 0
+
+  -- the next call on a book is accepted and takes the quote x; this is seen of it
+  pub record Takes (x : List ℕ) (from : World) (s : Seen) : Type 0 where
+    pub to : World
+    pub call : Call
+    pub accepts : Accepts call from s to
+    pub offered : offers call ≡ x ∷ []
+
+  -- the quotes that calls put into a book
+  abbrev pub taken : {from to : World} → Run from to → List (List ℕ)
+  taken r = quotesTaken (r .calls) (r .seen) []
+
+  -- none of them is an accepted opening
+  abbrev pub Unopened : {from to : World} → Run from to → Type 0
+  Unopened r = acceptedIn isOpening (r .calls) (r .seen) ≡ 0
+
+  -- a book on since the morning, and one switched on at the split, m quotes after the last accepted opening of the first: now, after k quotes
   -- that both took
   pub record SwitchedOnLate (m k : ℕ) (morning late : World) : Type 0 where
     -- the calls on the first from a head of zeros up to the split, earlier books among them, and those behind it
     pub lent : Lent
-    pub before : List Lending
-    pub since : List Lending
-    pub seenBefore : List Seen
-    pub seenSince : List Seen
     pub split : World
-    pub made-before : made before (worldFirst lent) seenBefore split
-    pub made-since : made since split seenSince morning
+    pub before : Run (worldFirst lent) split
+    pub since : Run split morning
     -- the calls on the second from a head of zeros, earlier books among them, its opening, and those behind it
     pub lateLent : Lent
-    pub earlier : List Lending
-    pub seenEarlier : List Seen
     pub off : World
+    pub earlier : Run (worldFirst lateLent) off
     pub d : ℕ
     pub N : ℕ
     pub directions : ℕ
-    pub outputs : Outputs
     pub seenOpening : Seen
     pub on : World
-    pub lateSince : List Lending
-    pub seenLate : List Seen
-    pub made-earlier : made earlier (worldFirst lateLent) seenEarlier off
-    pub made-opening : made (record { call = Open d N directions; outputs = outputs } ∷ []) off (seenOpening ∷ []) on
-    pub opened : seenOpening .outcome .number ≡ 0
-    pub made-late : made lateSince on seenLate late
+    pub opening : Accepts (Open d N directions) off seenOpening on
+    pub lateSince : Run on late
     -- equal settings
     pub same-dimensions : split .head .dimensions ≡ d
     pub same-capacity : split .head .capacity ≡ N
     pub same-directions : split .head .directions ≡ directions
-    -- how many quotes the second missed
-    pub missed : length (quotesTaken before seenBefore []) ≡ m
-    -- since the late opening neither accepted an opening, and both accepted the same quotes
-    pub unopened : acceptedIn isOpening since seenSince ≡ 0
-    pub late-unopened : acceptedIn isOpening lateSince seenLate ≡ 0
-    pub same-quotes : quotesTaken since seenSince [] ≡ quotesTaken lateSince seenLate []
-    pub counted : length (quotesTaken lateSince seenLate []) ≡ k
-
-  -- this is the next call on a book, and is accepted; this is seen of it
-  pub record Accepts (c : Call) (w : World) (s : Seen) : Type 0 where
-    pub outputs : Outputs
-    pub after : World
-    pub made-next : made (record { call = c; outputs = outputs } ∷ []) w (s ∷ []) after
-    pub accepted : s .outcome .number ≡ 0
-
-  -- the next call on a book is accepted and takes the quote x; this is seen of it
-  pub record Takes (x : List ℕ) (w : World) (s : Seen) : Type 0 where
-    pub call : Call
-    pub accepts : Accepts call w s
-    pub offered : offers call ≡ x ∷ []
+    -- since then neither accepted an opening, and both accepted the same quotes
+    pub unopened : Unopened since
+    pub late-unopened : Unopened lateSince
+    pub same-quotes : taken since ≡ taken lateSince
+    -- how many quotes the second missed, and how many it took
+    pub missed : length (taken before) ≡ m
+    pub counted : length (taken lateSince) ≡ k
 
   -- what the two books show alike, the late one's positions m quotes further on
   pub record ShownAlike (m k : ℕ) (morning late : World) : Type 0 where
@@ -106,8 +110,10 @@ module _ (made : Making) where
     pub pair-changes : 1 ≤ late .head .n1 → morning .head .n1 ≡ late .head .n1 → morning .head .n2 ≡ late .head .n2
         → late .head .n2 ≤ k → (x : List ℕ) (s t : Seen) → Takes x morning s → Takes x late t
         → changesFor OfPair s ≡ map (movedChange m) (changesFor OfPair t)
-    -- the joins that setting a watch of n on both writes, of whichever desk on either, once n are in, and those of the pair n1 and n2, once n2 are in
-    pub watch-joins : (desk other : Desk) (n : ℕ) → n ≤ k → (s t : Seen) → Accepts (Watch desk n) morning s → Accepts (Watch other n) late t
+    -- the joins that setting a watch of n writes on both, of whichever desk on either, once n are in, and those of a pair, once n2 are in
+    pub watch-joins : (desk other : Desk) (n : ℕ) → n ≤ k
+        → (s t : Seen) (v w : World) → Accepts (Watch desk n) morning s v → Accepts (Watch other n) late t w
         → changesFor (OfSize desk n) s ≡ map (movedChange m) (changesFor (OfSize other n) t)
-    pub pair-joins : (n1 n2 : ℕ) → n2 ≤ k → (s t : Seen) → Accepts (Pair n1 n2) morning s → Accepts (Pair n1 n2) late t
+    pub pair-joins : (n1 n2 : ℕ) → n2 ≤ k
+        → (s t : Seen) (v w : World) → Accepts (Pair n1 n2) morning s v → Accepts (Pair n1 n2) late t w
         → changesFor OfPair s ≡ map (movedChange m) (changesFor OfPair t)

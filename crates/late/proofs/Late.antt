@@ -1,4 +1,4 @@
--- A panel switched on late over lists of calls: two books that calls left, made by the book model or by the code, show the same.
+-- A book switched on late, over two lists of calls: what the two books show, made by the book model or by the code, is the same, shifted.
 use mathlib.Core.Path.{_≡_, refl, sym, ap, ap₂, subst, _∙_}
 use mathlib.Core.Logic.{_⊎_, inl, inr}
 use Prim.Native.Nat.{ℕ, _≤_, _<_}
@@ -27,7 +27,7 @@ use Rattle.model.proofs.Replay.{replay, replay-ends}
 use Rattle.claims.proofs.Refining.{calls-refine}
 use Rattle.late.specs.Shift.{shifted, Joins, movedChange, listChanges, Behind}
 use Rattle.late.specs.Feeding.{quotesTaken, changesFor}
-use Rattle.late.specs.Late.{Making, ByModel, SwitchedOnLate, Accepts, Takes, ShownAlike}
+use Rattle.late.specs.Late.{Making, ByModel, Accepts, Takes, taken, SwitchedOnLate, ShownAlike}
 use Rattle.late.proofs.Shifting.{joins-moved}
 use Rattle.late.proofs.Models.{newest-moved, late-list, late-past, late-live, late-held, late-changes, late-pair-changes}
 use Rattle.late.proofs.Feeding.{settings, answered, quotes-taken, settings-stay, taken-behind}
@@ -141,8 +141,8 @@ pair-listed s h = let e = ne-eqb (s .n1) 0 (λ z. omega arith) in (rw e, rw e)
 
 module _ (made : Making) (sound : Sound made) {k : Expected} {w : World} (r : Reaches made sound k w) where
   -- what is seen of the next call, and that the reference model accepts it
-  accepts-one : {c : Call} {s : Seen} (q : Accepts made c w s) → (s ≡ expectedStep c (q .outputs) k .0) × (answered (q .outputs) k c ≡ 0)
-  accepts-one {c} {s} q =
+  accepts-one : {c : Call} {s : Seen} {v : World} (q : Accepts made c w s v) → (s ≡ expectedStep c (q .outputs) k .0) × (answered (q .outputs) k c ≡ 0)
+  accepts-one {c} {s} {v} q =
       let one = reaches-one made sound r (q .made-next) in
       (one .0, ap (λ (v : Seen). v .outcome .number) (sym (one .0)) ∙ q .accepted)
 
@@ -157,11 +157,11 @@ module _ (made : Making) (sound : Sound made) {k : Expected} {w : World} (r : Re
       ap (changesFor f) (one .0) ∙ offer-read f (q .call) (q .accepts .outputs) k ok x (q .offered) (one .1) t
 
   -- what is read of the next call if it sets a watch
-  watching-read : (desk : Desk) (n : ℕ) (s : Seen) → Accepts made (Watch desk n) w s → changesFor (OfSize desk n) s ≡ map Joins (skylineOf (k .reference) n)
+  watching-read : (desk : Desk) (n : ℕ) (s : Seen) {v : World} → Accepts made (Watch desk n) w s v → changesFor (OfSize desk n) s ≡ map Joins (skylineOf (k .reference) n)
   watching-read desk n s q = let one = accepts-one q in ap (changesFor (OfSize desk n)) (one .0) ∙ watch-read desk n (q .outputs) k ok (one .1)
 
   -- or the pair
-  pairing-read : (n1 n2 : ℕ) (s : Seen) → Accepts made (Pair n1 n2) w s → (n1 ≤ n2) × (changesFor OfPair s ≡ map Joins (pastOf (k .reference) n1 n2))
+  pairing-read : (n1 n2 : ℕ) (s : Seen) {v : World} → Accepts made (Pair n1 n2) w s v → (n1 ≤ n2) × (changesFor OfPair s ≡ map Joins (pastOf (k .reference) n1 n2))
   pairing-read n1 n2 s q =
       let one = accepts-one q in
       let t = pair-read n1 n2 (q .outputs) k ok (one .1) in
@@ -223,17 +223,19 @@ module _ (made : Making) (sound : Sound made) {m : ℕ} {k k' : Expected} {morni
       ∙ ap (map (movedChange m)) (sym (takes-read made sound r' OfPair (pair-listed s' h .0) x v q'
       ∙ ap₂ (λ (a c : List ℕ). listChanges a c) (pair-listed s' h .1) (pair-listed (withQuote s' x) h .1)))
 
-  watch-shifted : (desk other : Desk) (n : ℕ) → n ≤ newest s' → (u v : Seen) → Accepts made (Watch desk n) morning u → Accepts made (Watch other n) late v
+  watch-shifted : (desk other : Desk) (n : ℕ) → n ≤ newest s' → (u v : Seen) (x y : World)
+      → Accepts made (Watch desk n) morning u x → Accepts made (Watch other n) late v y
       → changesFor (OfSize desk n) u ≡ map (movedChange m) (changesFor (OfSize other n) v)
-  watch-shifted desk other n g u v q q' =
+  watch-shifted desk other n g u v x y q q' =
       watching-read made sound r desk n u q
       ∙ ap (map Joins) (late-list b n g)
       ∙ joins-moved m (skylineOf s' n)
       ∙ ap (map (movedChange m)) (sym (watching-read made sound r' other n v q'))
 
-  pairing-shifted : (n1 n2 : ℕ) → n2 ≤ newest s' → (u v : Seen) → Accepts made (Pair n1 n2) morning u → Accepts made (Pair n1 n2) late v
+  pairing-shifted : (n1 n2 : ℕ) → n2 ≤ newest s' → (u v : Seen) (x y : World)
+      → Accepts made (Pair n1 n2) morning u x → Accepts made (Pair n1 n2) late v y
       → changesFor OfPair u ≡ map (movedChange m) (changesFor OfPair v)
-  pairing-shifted n1 n2 g u v q q' =
+  pairing-shifted n1 n2 g u v x y q q' =
       let t = pairing-read made sound r n1 n2 u q in
       t .1
       ∙ ap (map Joins) (late-past b n1 n2 (t .0) g)
@@ -287,42 +289,41 @@ open-by s d N directions e t = ap (λ (x : ℕ × ℕ × ℕ). settingsHold (x .
 module _ (made : Making) (sound : Sound made) {m k : ℕ} {morning late : World} (p : SwitchedOnLate made m k morning late) where
   -- the first book: at the split, and now
   abbrev at-split : Expected
-  at-split = expectedAtEnd (p .before) (p .lent)
+  at-split = expectedAtEnd (p .before .calls) (p .lent)
 
-  abbrev split-reached : (p .seenBefore ≡ runs expectedStep (p .before) (expectedFirst (p .lent)) .0) × Reaches made sound at-split (p .split)
-  split-reached = reaches-first made sound (p .made-before)
+  abbrev split-reached : (p .before .seen ≡ runs expectedStep (p .before .calls) (expectedFirst (p .lent)) .0) × Reaches made sound at-split (p .split)
+  split-reached = reaches-first made sound (p .before .made-all)
 
   abbrev now : Expected
-  now = runs expectedStep (p .since) at-split .1
+  now = runs expectedStep (p .since .calls) at-split .1
 
-  abbrev now-reached : (p .seenSince ≡ runs expectedStep (p .since) at-split .0) × Reaches made sound now morning
-  now-reached = reaches-next made sound (split-reached .1) (p .made-since)
+  abbrev now-reached : (p .since .seen ≡ runs expectedStep (p .since .calls) at-split .0) × Reaches made sound now morning
+  now-reached = reaches-next made sound (split-reached .1) (p .since .made-all)
 
   -- the second: before its opening, behind it, and now
   abbrev at-off : Expected
-  at-off = expectedAtEnd (p .earlier) (p .lateLent)
+  at-off = expectedAtEnd (p .earlier .calls) (p .lateLent)
 
-  abbrev opening-step : Seen × Expected
-  opening-step = expectedStep (Open (p .d) (p .N) (p .directions)) (p .outputs) at-off
+  abbrev off-reached : Reaches made sound at-off (p .off)
+  off-reached = reaches-first made sound (p .earlier .made-all) .1
 
-  abbrev on-reached : (p .seenOpening ≡ opening-step .0) × Reaches made sound (opening-step .1) (p .on)
-  on-reached = reaches-one made sound (reaches-first made sound (p .made-earlier) .1) (p .made-opening)
+  abbrev at-on : Expected
+  at-on = expectedStep (Open (p .d) (p .N) (p .directions)) (p .opening .outputs) at-off .1
 
   abbrev late-now : Expected
-  late-now = runs expectedStep (p .lateSince) (opening-step .1) .1
+  late-now = runs expectedStep (p .lateSince .calls) at-on .1
 
-  abbrev late-reached : (p .seenLate ≡ runs expectedStep (p .lateSince) (opening-step .1) .0) × Reaches made sound late-now late
-  late-reached = reaches-next made sound (on-reached .1) (p .made-late)
+  abbrev late-reached : (p .lateSince .seen ≡ runs expectedStep (p .lateSince .calls) at-on .0) × Reaches made sound late-now late
+  late-reached = reaches-next made sound (reaches-one made sound off-reached (p .opening .made-next) .1) (p .lateSince .made-all)
 
-  just-opened : (opening-step .1 .reference ≡ opening (p .d) (p .N) (p .directions)) × (settingsHold (p .d) (p .N) (p .directions) ≡ true)
-  just-opened =
-      opened-is (p .d) (p .N) (p .directions) (p .outputs) at-off (ap (λ (v : Seen). v .outcome .number) (sym (on-reached .0)) ∙ p .opened)
+  just-opened : (at-on .reference ≡ opening (p .d) (p .N) (p .directions)) × (settingsHold (p .d) (p .N) (p .directions) ≡ true)
+  just-opened = opened-is (p .d) (p .N) (p .directions) (p .opening .outputs) at-off (accepts-one made sound off-reached (p .opening) .1)
 
   -- both have the settings of the late opening
   late-settings : settings (late-now .reference) ≡ (p .d, p .N, p .directions)
   unfolding opening
   late-settings =
-      settings-stay (p .lateSince) (opening-step .1) (rw (late-reached .0) at (p .late-unopened))
+      settings-stay (p .lateSince .calls) at-on (rw (late-reached .0) at (p .late-unopened))
       ∙ ap settings (just-opened .0)
 
   morning-settings : settings (now .reference) ≡ (p .d, p .N, p .directions)
@@ -332,26 +333,26 @@ module _ (made : Making) (sound : Sound made) {m k : ℕ} {morning late : World}
       let e0 : at-split .reference .dimensions ≡ p .d = sym (ap Head.dimensions h) ∙ p .same-dimensions in
       let e1 : at-split .reference .capacity ≡ p .N = sym (ap Head.capacity h) ∙ p .same-capacity in
       let e2 : at-split .reference .directions ≡ p .directions = sym (ap Head.directions h) ∙ p .same-directions in
-      settings-stay (p .since) at-split (rw (now-reached .0) at (p .unopened))
+      settings-stay (p .since .calls) at-split (rw (now-reached .0) at (p .unopened))
       ∙ (λ i. (e0 i, e1 i, e2 i))
 
   -- and the first has the second's quotes behind those that the second missed
-  late-quotes : late-now .reference .quotes ≡ quotesTaken (p .lateSince) (p .seenLate) []
+  late-quotes : late-now .reference .quotes ≡ taken made (p .lateSince)
   unfolding opening
   late-quotes =
-      quotes-taken (p .lateSince) (opening-step .1)
-      ∙ ap₂ (λ (ss : List Seen) (qs : List (List ℕ)). quotesTaken (p .lateSince) ss qs) (sym (late-reached .0)) (ap Reference.quotes (just-opened .0))
+      quotes-taken (p .lateSince .calls) at-on
+      ∙ ap₂ (λ (ss : List Seen) (qs : List (List ℕ)). quotesTaken (p .lateSince .calls) ss qs) (sym (late-reached .0)) (ap Reference.quotes (just-opened .0))
 
-  morning-quotes : now .reference .quotes ≡ at-split .reference .quotes ++ quotesTaken (p .since) (p .seenSince) []
+  morning-quotes : now .reference .quotes ≡ at-split .reference .quotes ++ taken made (p .since)
   morning-quotes =
-      quotes-taken (p .since) at-split
-      ∙ ap₂ (λ (ss : List Seen) (qs : List (List ℕ)). quotesTaken (p .since) ss qs) (sym (now-reached .0)) (sym (append-nil (at-split .reference .quotes)))
-      ∙ taken-behind (p .since) (p .seenSince) (at-split .reference .quotes) [] (p .unopened)
+      quotes-taken (p .since .calls) at-split
+      ∙ ap₂ (λ (ss : List Seen) (qs : List (List ℕ)). quotesTaken (p .since .calls) ss qs) (sym (now-reached .0)) (sym (append-nil (at-split .reference .quotes)))
+      ∙ taken-behind (p .since .calls) (p .since .seen) (at-split .reference .quotes) [] (p .unopened)
 
   missed-quotes : length (at-split .reference .quotes) ≡ m
   missed-quotes =
       ap length
-      (quotes-taken (p .before) (expectedFirst (p .lent)) ∙ ap (λ (ss : List Seen). quotesTaken (p .before) ss []) (sym (split-reached .0)))
+      (quotes-taken (p .before .calls) (expectedFirst (p .lent)) ∙ ap (λ (ss : List Seen). quotesTaken (p .before .calls) ss []) (sym (split-reached .0)))
       ∙ p .missed
 
   behind : Behind m (now .reference) (late-now .reference)
@@ -366,9 +367,9 @@ module _ (made : Making) (sound : Sound made) {m k : ℕ} {morning late : World}
         directions = ap (λ (x : ℕ × ℕ × ℕ). x .2) e;
       }
 
-  -- a panel that was switched on late shows what one on since the morning shows, positions shifted
-  panel : ShownAlike made m k morning late
-  panel =
+  -- a book that was switched on late shows what one on since the morning shows, positions shifted
+  alike : ShownAlike made m k morning late
+  alike =
       subst (λ (n : ℕ). ShownAlike made m n morning late) (ap length late-quotes ∙ p .counted)
       (shown-alike made sound (now-reached .1) (late-reached .1) behind
       (open-by (now .reference) (p .d) (p .N) (p .directions) morning-settings (just-opened .1))
@@ -405,10 +406,10 @@ code-sound = record {
       (r .seen-alike, record { head = r .head-alike; lent = r .lent-alike; since = replay-ends cs l .since });
 }
 
--- a panel switched on late, over two lists of calls from heads of zeros, made by the book model
+-- a book switched on late, over two lists of calls from heads of zeros, made by the book model
 pub late-panel : {m k : ℕ} {morning late : World} → SwitchedOnLate ByModel m k morning late → ShownAlike ByModel m k morning late
-late-panel = panel ByModel model-sound
+late-panel = alike ByModel model-sound
 
 -- and of the code's own calls, each meeting its contract on what the one before left
 pub calls-late : {m k : ℕ} {morning late : World} → SwitchedOnLate AllMade m k morning late → ShownAlike AllMade m k morning late
-calls-late = panel AllMade code-sound
+calls-late = alike AllMade code-sound

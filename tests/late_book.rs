@@ -1,7 +1,7 @@
 //! Plays pairs of tapes through the tape printer: one on since the morning, and one switched on late that has the same quotes from there
 //! on. Compares their prints: lists, past lists, changes and row counts are the same, positions less the quotes missed.
 //!
-//! usage: late_panel [--plant NAME] PRINTER [SEED [PAIRS]]
+//! usage: late_book [--plant NAME] PRINTER [SEED [PAIRS]]
 //!                                       compare the two prints, or compare them by a wrong reading of what they have in common
 
 mod frames;
@@ -30,7 +30,7 @@ enum Plant {
     PairEarly,
     /// The counts of live rows are the same once N - 1 quotes are in.
     RowsEarly,
-    /// The late panel may have other directions.
+    /// The late book may have other directions.
     OtherDirections,
 }
 
@@ -192,26 +192,26 @@ fn compare_all(printer: &str, plant: Plant, seed: u64, pairs: u64) -> bool {
     for index in 0..pairs {
         let pair = late_tapes::pair(seed, index, plant == Plant::OtherDirections);
         if let Err(message) = compare_pair(printer, &pair, plant, &mut tally) {
-            eprintln!("late_panel: pair {index} of seed {seed}, {} quotes missed: the panels differ: {message}", pair.missed);
+            eprintln!("late_book: pair {index} of seed {seed}, {} quotes missed: the books differ: {message}", pair.missed);
             return false;
         }
     }
     let said: Vec<_> = SORTS.iter().zip(tally.0).map(|(sort, times)| format!("{times} {sort}")).collect();
-    println!("late_panel: {pairs} pairs of tapes shown alike: {}", said.join(", "));
+    println!("late_book: {pairs} pairs of tapes shown alike: {}", said.join(", "));
     tally.0.iter().all(|&times| times > 0)
 }
 
 fn main() {
     let mut arguments = std::env::args().skip(1).peekable();
     let name = arguments.next_if_eq("--plant").map(|_| arguments.next().expect("the name of a planted reading"));
-    let printer = arguments.next().expect("usage: late_panel [--plant NAME] PRINTER [SEED [PAIRS]]");
+    let printer = arguments.next().expect("usage: late_book [--plant NAME] PRINTER [SEED [PAIRS]]");
     let seed: u64 = arguments.next().map_or(1, |s| s.parse().expect("a seed"));
     let pairs: u64 = arguments.next().map_or(1_000, |s| s.parse().expect("a number of pairs"));
     let named = |name: &String| PLANTS.iter().find(|plant| plant.0 == name).expect("a planted reading").1;
     let plant = name.as_ref().map_or(Plant::Nothing, named);
     let start = Instant::now();
     let right = compare_all(&printer, plant, seed, pairs);
-    println!("late_panel: {:.1} s", start.elapsed().as_secs_f64());
+    println!("late_book: {:.1} s", start.elapsed().as_secs_f64());
     if !right {
         std::process::exit(1);
     }
