@@ -157,11 +157,13 @@ module _ (made : Making) (sound : Sound made) {k : Expected} {w : World} (r : Re
       ap (changesFor f) (one .0) ∙ offer-read f (q .call) (q .accepts .outputs) k ok x (q .offered) (one .1) t
 
   -- what is read of the next call if it sets a watch
-  watching-read : (desk : Desk) (n : ℕ) (s : Seen) {v : World} → Accepts made (Watch desk n) w s v → changesFor (OfSize desk n) s ≡ map Joins (skylineOf (k .reference) n)
+  watching-read : (desk : Desk) (n : ℕ) (s : Seen) {v : World} → Accepts made (Watch desk n) w s v
+      → changesFor (OfSize desk n) s ≡ map Joins (skylineOf (k .reference) n)
   watching-read desk n s q = let one = accepts-one q in ap (changesFor (OfSize desk n)) (one .0) ∙ watch-read desk n (q .outputs) k ok (one .1)
 
   -- or the pair
-  pairing-read : (n1 n2 : ℕ) (s : Seen) {v : World} → Accepts made (Pair n1 n2) w s v → (n1 ≤ n2) × (changesFor OfPair s ≡ map Joins (pastOf (k .reference) n1 n2))
+  pairing-read : (n1 n2 : ℕ) (s : Seen) {v : World} → Accepts made (Pair n1 n2) w s v
+      → (n1 ≤ n2) × (changesFor OfPair s ≡ map Joins (pastOf (k .reference) n1 n2))
   pairing-read n1 n2 s q =
       let one = accepts-one q in
       let t = pair-read n1 n2 (q .outputs) k ok (one .1) in
@@ -170,7 +172,8 @@ module _ (made : Making) (sound : Sound made) {k : Expected} {w : World} (r : Re
 -- ---- two books
 
 module _ (made : Making) (sound : Sound made) {m : ℕ} {k k' : Expected} {morning late : World}
-    (r : Reaches made sound k morning) (r' : Reaches made sound k' late) (b : Behind m (k .reference) (k' .reference)) (opens : isOpen (k .reference) ≡ true) (opens' : isOpen (k' .reference) ≡ true) where
+    (r : Reaches made sound k morning) (r' : Reaches made sound k' late) (b : Behind m (k .reference) (k' .reference))
+    (opens : isOpen (k .reference) ≡ true) (opens' : isOpen (k' .reference) ≡ true) where
   abbrev s : Reference
   s = k .reference
 
@@ -346,7 +349,8 @@ module _ (made : Making) (sound : Sound made) {m k : ℕ} {morning late : World}
   morning-quotes : now .reference .quotes ≡ at-split .reference .quotes ++ taken made (p .since)
   morning-quotes =
       quotes-taken (p .since .calls) at-split
-      ∙ ap₂ (λ (ss : List Seen) (qs : List (List ℕ)). quotesTaken (p .since .calls) ss qs) (sym (now-reached .0)) (sym (append-nil (at-split .reference .quotes)))
+      ∙ ap₂ (λ (ss : List Seen) (qs : List (List ℕ)). quotesTaken (p .since .calls) ss qs)
+      (sym (now-reached .0)) (sym (append-nil (at-split .reference .quotes)))
       ∙ taken-behind (p .since .calls) (p .since .seen) (at-split .reference .quotes) [] (p .unopened)
 
   missed-quotes : length (at-split .reference .quotes) ≡ m
