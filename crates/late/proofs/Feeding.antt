@@ -38,11 +38,11 @@ unfolding granted quotesAfter offers isOpening opening
 feeds-opening d N directions zero s = record { quotes = refl; settled = λ t. absurd (clash true refl t) }
 feeds-opening d N directions (suc k) s = record { quotes = refl; settled = λ t. refl }
 
--- a quote goes behind the others
-feeds-quote : (x : List ℕ) (a : ℕ) (s : Reference) → Feeds (Quote x) a s (granted a (withQuote s x) s)
-unfolding granted quotesAfter offers isOpening withQuote
-feeds-quote x zero s = record { quotes = refl; settled = λ t. refl }
-feeds-quote x (suc k) s = record { quotes = refl; settled = λ t. refl }
+-- the quote that a call offers goes behind the others
+feeds-quote : (c : Call) (x : List ℕ) (a : ℕ) (s : Reference) → offers c ≡ x ∷ [] → isOpening c ≡ false → Feeds c a s (granted a (withQuote s x) s)
+unfolding granted quotesAfter withQuote
+feeds-quote c x zero s o i = record { quotes = rw (o, i); settled = λ t. refl }
+feeds-quote c x (suc k) s o i = record { quotes = refl; settled = λ t. refl }
 
 -- a preview leaves the model as it is, whatever its answer
 feeds-preview : (x : List ℕ) (a : ℕ) (s : Reference) → Feeds (Preview x) a s s
@@ -62,7 +62,7 @@ module _ (o : Outputs) (k : Expected) where
   feeds : (c : Call) → Feeds c (answered c) s (expectedStep c o k .1 .reference)
   unfolding expectedStep referenceStep tells foretells lengthsOf isOpening offers withWatched withPairOf
   feeds (Open d N directions) = feeds-opening d N directions (answered (Open d N directions)) s
-  feeds (Quote x) = feeds-quote x (answered (Quote x)) s
+  feeds (Quote x) = feeds-quote (Quote x) x (answered (Quote x)) s refl refl
   feeds (Look n) = feeds-none (Look n) (answered (Look n)) s s refl refl refl refl
   feeds (Watch desk n) =
       feeds-none (Watch desk n) (answered (Watch desk n)) s (withWatched s (insert (watchOf desk n) (s .watched))) refl refl refl refl

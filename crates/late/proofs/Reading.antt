@@ -201,16 +201,21 @@ quote-changes OfPair s ok x t =
       own-changes OfPair pairLeave pairJoin (pairOf s) (pairOf (withQuote s x)) (λ p. refl) (λ p. refl),
     )
 
--- what a watcher whose list is watched reads of an accepted quote
-pub quote-read : (f : Follower) (o : Outputs) (k : Expected) → Bounded (k .reference) → (x : List ℕ) → answered o k (Quote x) ≡ 0
+-- what a watcher whose list is watched reads of a call that writes the changes of a quote
+quote-told : (f : Follower) (s : Reference) → Bounded s → (x : List ℕ) → newest s < lastPosition → watchedFor f s ≡ true → (seen : Seen) (before : List ℕ)
+    → let written = frames (allChanges (s .watched) (skylineOf s) (skylineOf (withQuote s x)) ++ pairChanges (pairOf s) (pairOf (withQuote s x))) in
+    seen .outcome .count ≡ length written → seen .outputs .bytes ≡ laid written before
+    → changesFor f seen ≡ listChanges (listFor f s) (listFor f (withQuote s x))
+quote-told f s ok x room t seen before c o = frames-read f _ (sent-quote s ok x room) seen before c o ∙ quote-changes f s ok x t
+
+-- so of an accepted quote
+quote-read : (f : Follower) (o : Outputs) (k : Expected) → Bounded (k .reference) → (x : List ℕ) → answered o k (Quote x) ≡ 0
     → watchedFor f (k .reference) ≡ true
     → changesFor f (expectedStep (Quote x) o k .0) ≡ listChanges (listFor f (k .reference)) (listFor f (withQuote (k .reference) x))
 unfolding expectedStep referenceStep tells lengthsOf granted
 quote-read f o k ok x e t =
-    let s = k .reference in
-    let ms = allChanges (s .watched) (skylineOf s) (skylineOf (withQuote s x)) ++ pairChanges (pairOf s) (pairOf (withQuote s x)) in
-    let room = leb-false lastPosition (newest s) (zero-passed _ _ _ (zero-passed _ _ _ (zero-passed _ _ _ e .1) .1) .0) in
-    frames-read f ms (sent-quote s ok x room) (expectedStep (Quote x) o k .0) (o .bytes) (rw e) (rw e) ∙ quote-changes f s ok x t
+    let room = leb-false lastPosition (newest (k .reference)) (zero-passed _ _ _ (zero-passed _ _ _ (zero-passed _ _ _ e .1) .1) .0) in
+    quote-told f (k .reference) ok x room t (expectedStep (Quote x) o k .0) (o .bytes) (rw e) (rw e)
 
 -- a call that offers none offers not one
 offers-one : (x : List ℕ) → _≡_ {A = List (List ℕ)} [] (x ∷ []) → ⊥
