@@ -5,3 +5,4 @@ pub mod Feeding
 pub mod Reading
 pub mod Tables
 pub mod Late
+pub mod Worked
