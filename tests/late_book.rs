@@ -192,7 +192,8 @@ fn compare_all(printer: &str, plant: Plant, seed: u64, pairs: u64) -> bool {
     for index in 0..pairs {
         let pair = late_tapes::pair(seed, index, plant == Plant::OtherDirections);
         if let Err(message) = compare_pair(printer, &pair, plant, &mut tally) {
-            eprintln!("late_book: pair {index} of seed {seed}, {} quotes missed: the books differ: {message}", pair.missed);
+            let missed = pair.missed;
+            eprintln!("late_book: pair {index} of seed {seed}, {missed} quotes missed: the books differ: {message}");
             return false;
         }
     }

@@ -12,6 +12,9 @@ pub struct Change {
     pub position: u32,
 }
 
+/// A change with its watch; no watch of one of the pair.
+type Said = (Option<Watch>, Change);
+
 /// What was printed from behind one quote, or from the split, up to the next quote and its changes.
 #[derive(Clone, Default)]
 pub struct Step {
@@ -43,8 +46,8 @@ fn parsed(line: &str) -> (&str, Vec<u32>) {
     (word, fields.map(|field| field.parse().expect("a number")).collect())
 }
 
-/// The watch and the change that a line of a change says; no watch of one of the pair.
-fn change(word: &str, numbers: &[u32]) -> (Option<Watch>, Change) {
+/// What a line of a change says.
+fn change(word: &str, numbers: &[u32]) -> Said {
     let position = *numbers.last().expect("a position");
     let desk = if word.ends_with('2') { 2 } else { 1 };
     let watch = if numbers.len() == 2 { Some((desk, numbers[0] as usize)) } else { None };
@@ -64,7 +67,7 @@ fn parts(print: &str) -> Vec<Vec<&str>> {
 }
 
 /// Takes in what a frame that is no look printed: a watch set or ended, the pair set or ended.
-fn take_other(step: &mut Step, word: &str, numbers: &[u32], changes: Vec<(Option<Watch>, Change)>) {
+fn take_other(step: &mut Step, word: &str, numbers: &[u32], changes: Vec<Said>) {
     let desk = if word.ends_with('2') { 2 } else { 1 };
     match word {
         "W" | "W2" => {
@@ -90,7 +93,7 @@ fn take_look(step: &mut Step, word: &str, numbers: &[u32]) -> Result<(), String>
 }
 
 /// Takes in a quote's line and its changes, and begins the next step.
-fn take_quote(step: &mut Step, word: &str, numbers: &[u32], changes: Vec<(Option<Watch>, Change)>) -> Result<Step, String> {
+fn take_quote(step: &mut Step, word: &str, numbers: &[u32], changes: Vec<Said>) -> Result<Step, String> {
     if word != "Q" {
         return Err(format!("a quote was printed as {word}"));
     }
