@@ -2,7 +2,7 @@
 # What rt prints goes to a log under build/; standard error gets a line for each crate.
 SHELL := /bin/bash
 .SHELLFLAGS := -euo pipefail -c
-.PHONY: test proofs models try run host random random-calls rules plants rule-plants yardstick notation citations tapes test-slow bench
+.PHONY: test proofs models try run host random random-calls rules plants rule-plants yardstick notation citations tapes test-slow bench late
 
 PRINTER ?= target/bin/tape_printer
 WRITER ?= target/bin/tape_writer
@@ -11,6 +11,7 @@ TAPE ?= tapes/worked.tape
 SEED ?= 1
 TAPES ?= 10000
 LISTS ?= 10000
+PAIRS ?= 1000
 RUNS ?= 9
 PLANTS := equals-stay earlier-stands oldest window kept misprint upper pair-first nine-first pair-end nine-at-eight \
   desk-two-first watch2-by-one
@@ -19,6 +20,7 @@ CALL_PLANTS := renamed torn-first past-memory early live-lower overwritten retir
   equals-stay earlier-stands nine-at-eight shares-free thirteen-fits desk-two-first watch2-by-one desk-left
 RULE_PLANTS := upper-free pair-end due-equal preview-settles preview-held preview-head equals-stay earlier-stands \
   watch2-by-one
+LATE_PLANTS := unshifted list-early past-early changes-early pair-early rows-early other-directions
 SAMPLES := $(basename $(wildcard tapes/*.txt))
 # of a command, the program that is made here; another's stands already
 made = $(filter target/bin/% build/%,$(firstword $(1)))
@@ -28,7 +30,7 @@ RUSTC := env -u MAKEFLAGS $(IDLE) rustc --edition 2021 -O -D warnings
 
 test: citations
 	@$(MAKE) --no-print-directory -j2 proofs models
-	@$(MAKE) --no-print-directory -j2 host random random-calls plants notation
+	@$(MAKE) --no-print-directory -j2 host random random-calls late plants notation
 	@tools/dearest.sh build/ci.txt
 	@tail -n 1 build/ci.txt | grep -Ex '[0-9]+ passed, 0 failed'
 
@@ -37,7 +39,7 @@ proofs:
 	@rt ci 2>&1 | tools/progress.sh build/ci.txt
 
 # beside the first crates, on what they leave idle: the tests built, and the models held against small tapes and themselves
-models: build/plain_model build/random_calls build/notation rules rule-plants
+models: build/plain_model build/random_calls build/late_book build/notation rules rule-plants
 
 # the printer on the worked tape before anything is proved, by the toolchain's own trial, with its print
 try:
@@ -64,13 +66,17 @@ random: build/plain_model $(call made,$(PRINTER))
 random-calls: build/random_calls $(call made,$(PLAYER))
 	@build/random_calls '$(PLAYER)' $(SEED) $(LISTS)
 
+# a book switched on late against one on since the morning, both played by the printer
+late: build/late_book $(PRINTER)
+	@build/late_book $(PRINTER) $(SEED) $(PAIRS)
+
 # the audit's plain rules, lists and what is due, as that model has them, against every tape of small settings; its
 # previews against its quotes; what a desk sees of a list against what it sees of one that differs in all else
 rules: build/random_calls
 	@$(IDLE) build/random_calls --rules
 
 # a model with a bug planted must not agree with the printer, the player or the tapes
-plants: $(PLANTS:%=plant-in-tapes-%) $(CALL_PLANTS:%=plant-in-calls-%)
+plants: $(PLANTS:%=plant-in-tapes-%) $(CALL_PLANTS:%=plant-in-calls-%) $(LATE_PLANTS:%=plant-in-late-%)
 
 rule-plants: $(RULE_PLANTS:%=plant-in-rules-%)
 
@@ -79,6 +85,9 @@ plant-in-tapes-%: build/plain_model $(PRINTER)
 
 plant-in-calls-%: build/random_calls $(PLAYER)
 	@tests/planted.sh calls-$* 'the answers differ' build/random_calls --plant $* $(PLAYER) $(SEED) 1000
+
+plant-in-late-%: build/late_book $(PRINTER)
+	@tests/planted.sh late-$* 'the books differ' build/late_book --plant $* $(PRINTER) $(SEED) $(PAIRS)
 
 plant-in-rules-%: build/random_calls
 	@$(IDLE) tests/planted.sh rules-$* 'the rules differ' build/random_calls --plant $* --rules
