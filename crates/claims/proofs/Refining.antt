@@ -16,7 +16,7 @@ use Rattle.claims.proofs.Due.{due-row-joins, due-row-not-before, due-sp
 use Rattle.audit_model.proofs.Passing.{simulation-passes}
 
 -- what is seen of a call that met its promise is what the book model says
-made-seen : {c : Call} {o : Outputs} {w : World} {s : Seen} → Made c o w s → s ≡ bookSeen c o w
+pub made-seen : {c : Call} {o : Outputs} {w : World} {s : Seen} → Made c o w s → s ≡ bookSeen c o w
 unfolding bookSeen
 made-seen (opened m) = rw (m .reply, m .lent, m .watches)
 made-seen (quoted m) = rw (m .reply, m .lent, m .out)
