@@ -164,19 +164,14 @@ changes-none concern leaves joins e f before after =
 pub other-changes : (concern : Concern) (N w : ℕ) → isWatch N w ≡ true → ofDesk (concern .desk) w ≡ false → (p : ℕ)
     → (isChangeOf concern (leave w p) ≡ false) × (isChangeOf concern (join w p) ≡ false)
 unfolding isChangeOf leaveKindOf joinKindOf ofDesk
-other-changes concern N w fine e p = by (concern .desk) e (watch-desk N w fine)
+other-changes concern N w fine e p = by (concern .desk) refl e (watch-desk N w fine)
   where
-    -- no change of the watch is of this desk's kinds
-    Other : Desk → Type 0
-    Other desk =
-        ((eqb (leaveKindOf (deskIn w)) (leaveKindOf (deskNumber desk)) || eqb (leaveKindOf (deskIn w)) (joinKindOf (deskNumber desk))) ≡ false)
-        × ((eqb (joinKindOf (deskIn w)) (leaveKindOf (deskNumber desk)) || eqb (joinKindOf (deskIn w)) (joinKindOf (deskNumber desk))) ≡ false)
-
-    by : (desk : Desk) → eqb (deskIn w) (deskNumber desk) ≡ false → (deskIn w ≡ 1) ⊎ (deskIn w ≡ 2) → Other desk
-    by One e (inl d) = absurd (clash (eqb (deskIn w) 1) (rw d) e)
-    by One e (inr d) = rw d (refl, refl)
-    by Two e (inl d) = rw d (refl, refl)
-    by Two e (inr d) = absurd (clash (eqb (deskIn w) 2) (rw d) e)
+    by : (desk : Desk) → concern .desk ≡ desk → eqb (deskIn w) (deskNumber desk) ≡ false → (deskIn w ≡ 1) ⊎ (deskIn w ≡ 2)
+        → (isChangeOf concern (leave w p) ≡ false) × (isChangeOf concern (join w p) ≡ false)
+    by One c e (inl d) = absurd (clash (eqb (deskIn w) 1) (rw d) e)
+    by One c e (inr d) = rw (c, d) (refl, refl)
+    by Two c e (inl d) = rw (c, d) (refl, refl)
+    by Two c e (inr d) = absurd (clash (eqb (deskIn w) 2) (rw d) e)
 
 other-watch : (concern : Concern) (N w : ℕ) → isWatch N w ≡ true → ofDesk (concern .desk) w ≡ false → (before after : List ℕ)
     → filter (isChangeOf concern) (changes w before after) ≡ []
