@@ -38,7 +38,7 @@ made-seen (dueLooked m) = rw (m .reply, m .out)
 made-seen (previewed m) = rw (m .reply, m .counts, m .out)
 
 -- so is what is seen of a list of calls, and the book at its end
-all-made : {cs : List Lending} {w : World} {ss : List Seen} {end : World} → AllMade cs w ss end → (ss ≡ runs bookStep cs w .0) × (end ≡ runs bookStep cs w .1)
+pub all-made : {cs : List Lending} {w : World} {ss : List Seen} {end : World} → AllMade cs w ss end → (ss ≡ runs bookStep cs w .0) × (end ≡ runs bookStep cs w .1)
 unfolding runs bookStep
 all-made none = (refl, refl)
 all-made (next {c} {cs} {w} {s} {ss} {end} m rest) =

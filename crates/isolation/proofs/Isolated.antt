@@ -35,8 +35,9 @@ use Rattle.model.proofs.Reached.{expected, reached-simulation}
 use Rattle.model.proofs.Lengths.{Since, since-step, lengths-step}
 use Rattle.watcher.proofs.ReadBack.{Sent}
 use Rattle.watcher.proofs.Following.{sent-watch, sent-pairing, sent-quote}
+use Rattle.claims.proofs.Shares.{own-insert, other-insert, other-without}
 use Rattle.claims.proofs.Refining.{made-seen, calls-refine}
-use Rattle.isolation.proofs.Alone.{own, refusals, messages, leaves, shows, own-insert, other-insert, other-without, none-own, other-changes, pair-change, quote-own, granted-none, changes-read, changes-unread, view-read, view-unread}
+use Rattle.isolation.proofs.Alone.{own, refusals, messages, leaves, shows, none-own, other-changes, pair-change, quote-own, granted-none, changes-read, changes-unread, view-read, view-unread}
 
 -- ---- what concerns a desk
 
