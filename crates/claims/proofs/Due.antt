@@ -247,7 +247,7 @@ all-accepted (c ∷ cs) k opened closed fit space =
       arith,
       one,
       all-accepted cs (expectedStep (c .call) (c .outputs) k .1) (later-open later ∙ opened) (omega arith)
-      (rw (later .dimensions) (and-right fits (fitQuotes d cs) fit)) (omega (arith, later-newest later, one)),
+          (rw (later .dimensions) (and-right fits (fitQuotes d cs) fit)) (omega (arith, later-newest later, one)),
     )
   where
     rest : ℕ

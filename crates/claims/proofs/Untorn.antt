@@ -50,8 +50,7 @@ accepted-untorn h t ws more e =
     let b = zero-passed _ _ _ (a .1) in
     let c = zero-passed _ _ _ (b .1) in
     let torn = tornRows h (bookRows h t) in
-    let book = none-left (torn || tornPair h) (tornWatches (h .capacity) ws) (c .0) in
-    (
+    let book = none-left (torn || tornPair h) (tornWatches (h .capacity) ws) (c .0) in (
       record {
         settings = not-false (settingsHold (h .dimensions) (h .capacity) (h .directions)) (a .0);
         long = b .0;
@@ -83,8 +82,7 @@ pub covers-within : (a b lower position upper : ℕ) → covers a b lower positi
 unfolding covers
 covers-within a b lower position upper t =
     let from = ltb lower a && leb a position in
-    let in-window = and-left (from && leb position b) (eqb upper 0 || ltb b upper) t in
-    (
+    let in-window = and-left (from && leb position b) (eqb upper 0 || ltb b upper) t in (
       leb-true a position (and-right (ltb lower a) (leb a position) (and-left from (leb position b) in-window)),
       leb-true position b (and-right from (leb position b) in-window),
     )
