@@ -215,7 +215,8 @@ module _ (o : Outputs) (k : Expected) where
       rw (opened, wide, lt-leb lastPosition (newest (k .reference)) space, le-ltb (length (o .bytes)) changeRoom (leb-true changeRoom (length (o .bytes)) room))
 
   -- so is a call that is a fit quote
-  fit-accepted : (c : Call) → isOpen (k .reference) ≡ true → not (isQuote c) || wideQuote (k .reference .dimensions) c && leb changeRoom (length (o .bytes)) ≡ true
+  fit-accepted : (c : Call) → isOpen (k .reference) ≡ true
+      → not (isQuote c) || wideQuote (k .reference .dimensions) c && leb changeRoom (length (o .bytes)) ≡ true
       → newest (k .reference) + cond (isQuote c) 1 0 ≤ lastPosition → _≡_ {A = ℕ} (cond (isQuote c && eqb (answered o k c) 0) 1 0) (cond (isQuote c) 1 0)
   unfolding isQuote wideQuote
   fit-accepted (Open d N directions) opened fit space = refl

@@ -92,7 +92,8 @@ within-range h n e =
 
 -- ---- free again
 
-module _ (h : Head) (t : Tables) (ws : List ℕ) (desk giver : Desk) (m : ℕ) (gave : endAnswer h giver m t ws ≡ 0) (room-for : MakesRoom desk giver (standing ws)) where
+module _ (h : Head) (t : Tables) (ws : List ℕ) (desk giver : Desk) (m : ℕ) (gave : endAnswer h giver m t ws ≡ 0)
+    (room-for : MakesRoom desk giver (standing ws)) where
   -- the watches left
   abbrev less : List ℕ
   less = without (watchOf giver m) (standing ws)
@@ -132,7 +133,8 @@ module _ (h : Head) (t : Tables) (ws : List ℕ) (desk giver : Desk) (m : ℕ) (
   not-nine n room e = not-given 8 _ refl (sym (free-again-answer n room) ∙ e)
 
 -- what is seen of the end of a watch and of a watch after it, by the book model
-seen-again : (desk giver : Desk) (m n : ℕ) (o o' : Outputs) (w : World) → bookSeen (End giver m) o w .outcome .number ≡ 0 → MakesRoom desk giver (standing (w .lent .watches))
+seen-again : (desk giver : Desk) (m n : ℕ) (o o' : Outputs) (w : World) → bookSeen (End giver m) o w .outcome .number ≡ 0
+    → MakesRoom desk giver (standing (w .lent .watches))
     → bookSeen (Watch desk n) o' (worldAfter (End giver m) (bookSeen (End giver m) o w) w) .outcome .number ≡ number NoFreeRecord → ⊥
 unfolding bookSeen worldAfter headAfter endReply watchReply replyOf granted
 seen-again desk giver m n o o' w e g nine =
@@ -193,7 +195,8 @@ module _ (h : Head) (t : Tables) (ws : List ℕ) (desk other : Desk) (n room : �
   -- so 8 is said to it for its own watch of n alone
   pub both-watch-answer : (room' : ℕ)
       → watchAnswer h desk n t (watchWatches h other n t ws room) room'
-      ≡ firstOf ((contains (watchOf desk n) (standing ws), number AlreadyWatched) ∷ (deskFull desk more, number NoFreeRecord) ∷ (ltb room' changeRoom, number ShortOutput) ∷ [])
+      ≡ firstOf ((contains (watchOf desk n) (standing ws), number AlreadyWatched) ∷ (deskFull desk more, number NoFreeRecord)
+      ∷ (ltb room' changeRoom, number ShortOutput) ∷ [])
   unfolding watchAnswer watchWatches granted firstOf
   both-watch-answer room' =
       let passed = set-passed h t ws other n room set in
@@ -232,11 +235,13 @@ seen-both desk other n o o' w apart e free few enough =
     let stands = both-standing h t ws desk other n (length (o .bytes)) apart e free few (length (o' .bytes)) enough in
     rw e record {
       accepted = both-accepted h t ws desk other n (length (o .bytes)) apart e free few (length (o' .bytes)) enough;
-      own = rw stands (contains-insert (watchOf desk n) (watchOf desk n) more ∙ or-left (eqb (watchOf desk n) (watchOf desk n)) _ (eq-eqb (watchOf desk n) (watchOf desk n) refl));
+      own = rw stands (contains-insert (watchOf desk n) (watchOf desk n) more
+          ∙ or-left (eqb (watchOf desk n) (watchOf desk n)) _ (eq-eqb (watchOf desk n) (watchOf desk n) refl));
       others =
           rw stands (contains-insert (watchOf other n) (watchOf desk n) more
           ∙ or-right (eqb (watchOf other n) (watchOf desk n)) _
-          (contains-insert (watchOf other n) (watchOf other n) (standing ws) ∙ or-left (eqb (watchOf other n) (watchOf other n)) _ (eq-eqb (watchOf other n) (watchOf other n) refl)));
+          (contains-insert (watchOf other n) (watchOf other n) (standing ws)
+          ∙ or-left (eqb (watchOf other n) (watchOf other n)) _ (eq-eqb (watchOf other n) (watchOf other n) refl)));
     }
 
 -- both desks may watch the same n: behind one desk's accepted watch of n the other's is accepted too, if it has fewer than 3 watches and does

@@ -38,7 +38,8 @@ made-seen (dueLooked m) = rw (m .reply, m .out)
 made-seen (previewed m) = rw (m .reply, m .counts, m .out)
 
 -- so is what is seen of a list of calls, and the book at its end
-pub all-made : {cs : List Lending} {w : World} {ss : List Seen} {end : World} → AllMade cs w ss end → (ss ≡ runs bookStep cs w .0) × (end ≡ runs bookStep cs w .1)
+pub all-made : {cs : List Lending} {w : World} {ss : List Seen} {end : World} → AllMade cs w ss end
+    → (ss ≡ runs bookStep cs w .0) × (end ≡ runs bookStep cs w .1)
 unfolding runs bookStep
 all-made none = (refl, refl)
 all-made (next {c} {cs} {w} {s} {ss} {end} m rest) =
@@ -107,7 +108,8 @@ calls-refine cs l ss end m =
     }
   where
     audits : (k : ℕ)
-        → auditFinding (lastHead (take k cs) (take k (runs bookStep cs (worldFirst l) .0)) (freshHead 0 0 0)) (lastLent (take k (runs bookStep cs (worldFirst l) .0)) l .tables)
+        → auditFinding (lastHead (take k cs) (take k (runs bookStep cs (worldFirst l) .0)) (freshHead 0 0 0))
+        (lastLent (take k (runs bookStep cs (worldFirst l) .0)) l .tables)
         ≡ cond (isOpen (referenceAtEnd (take k cs) l)) yes (refused (number Settings))
     audits k =
         rw (← (first-seen bookStep k cs (worldFirst l)), ← (head-seen (take k cs) (worldFirst l)), ← (lent-seen (take k cs) (worldFirst l)))

@@ -108,7 +108,8 @@ own-insert desk lo hi w ws mine low high free risen =
     rising-ext lo hi (filter f (insert w ws)) (insert w (filter f ws))
     (rising-filter f lo hi (insert w ws) (rising-insert lo hi w ws low high free risen))
     (rising-insert lo hi w (filter f ws) low high (contains-filter f w ws ∙ rw free) (rising-filter f lo hi ws risen))
-    (λ p. contains-filter f p (insert w ws) ∙ rw (contains-insert p w ws, contains-insert p w (filter f ws), contains-filter f p ws) (go p (eqb p w) refl (contains p ws)))
+    (λ p. contains-filter f p (insert w ws) ∙ rw (contains-insert p w ws, contains-insert p w (filter f ws), contains-filter f p ws)
+    (go p (eqb p w) refl (contains p ws)))
   where
     f : ℕ → Bool
     f = ofDesk desk

@@ -43,7 +43,8 @@ unfolding watchfulAnswer firstOf
 judged-untorn u more = rw (u .settings, u .long, u .rows, u .pair, u .watches)
 
 -- an accepted call was made on a book that is not torn
-pub accepted-untorn : (h : Head) (t : Tables) (ws : List ℕ) (more : List (Bool × ℕ)) → watchfulAnswer h t ws more ≡ 0 → Untorn (world h t ws) × (firstOf more ≡ 0)
+pub accepted-untorn : (h : Head) (t : Tables) (ws : List ℕ) (more : List (Bool × ℕ)) → watchfulAnswer h t ws more ≡ 0
+    → Untorn (world h t ws) × (firstOf more ≡ 0)
 unfolding watchfulAnswer
 accepted-untorn h t ws more e =
     let a = zero-passed _ _ _ e in
@@ -172,7 +173,11 @@ module _ (w : World) (u : Untorn w) where
   rewatched l r = record {
     settings = u .settings;
     long =
-        rw (long-tables t ws d N (u .long), length-padded 8 l ws (eight-records r) (long-records t ws d N (u .long)), le-ltb (length ws) 8 (long-records t ws d N (u .long)));
+        rw (
+          long-tables t ws d N (u .long),
+          length-padded 8 l ws (eight-records r) (long-records t ws d N (u .long)),
+          le-ltb (length ws) 8 (long-records t ws d N (u .long)),
+        );
     rows = u .rows;
     pair = u .pair;
     watches = watches-sound N l ws r;
@@ -273,7 +278,9 @@ module _ (w : World) (u : Untorn w) where
     -- the head after it
     pub head-after : (quoteHead h x t ws .newest ≡ M + 1) × (quoteHead h x t ws .held ≡ length after) × SameSettings h (quoteHead h x t ws)
     unfolding quoteHead afterQuote
-    head-after = rw (lt-ltb M lastPosition (quote-passed .1)) (refl, refl, record { dimensions = refl; capacity = refl; directions = refl; n1 = refl; n2 = refl })
+    head-after =
+        rw (lt-ltb M lastPosition (quote-passed .1))
+        (refl, refl, record { dimensions = refl; capacity = refl; directions = refl; n1 = refl; n2 = refl })
 
     -- the rows are read back
     whole-next : Whole (quoteHead h x t ws) after
@@ -314,7 +321,10 @@ module _ (w : World) (u : Untorn w) where
         moved : Row → Row
         moved = rowAfter d (h .directions) x (M + 1) g
 
-        go : List·Memᴰ r (map moved left) ⊎ List·Memᴰ r (record { position = M + 1; lowerEnd = lowerEndAmong d (h .directions) x left; upperEnd = 0; columns = x } ∷ []) → length (r .columns) ≡ d
+        new : Row
+        new = record { position = M + 1; lowerEnd = lowerEndAmong d (h .directions) x left; upperEnd = 0; columns = x }
+
+        go : List·Memᴰ r (map moved left) ⊎ List·Memᴰ r (new ∷ []) → length (r .columns) ≡ d
         go (inl n) =
             let q = of-map moved r left n in
             rw (q .2) (fit-before (q .0) (of-filter (λ q. not (eqb (q .position) g)) (q .0) rs (q .1) .0))

@@ -131,7 +131,8 @@ quotes-accepted (q ∷ qs) w u fit space =
     rw (answered w u (q .0) (q .1), e)
     (omega (
       arith,
-      quotes-accepted qs (bookStep (Quote (q .0)) (q .1) w .1) (one .untorn) (rw (one .settings .dimensions) (and-right (wide && room) (allFit d qs) fit)) (omega arith),
+      quotes-accepted qs (bookStep (Quote (q .0)) (q .1) w .1) (one .untorn)
+          (rw (one .settings .dimensions) (and-right (wide && room) (allFit d qs) fit)) (omega arith),
     ))
 
 -- ---- what is due

@@ -198,7 +198,8 @@ pub record Refines (cs : List Lending) (l : Lent) (ss : List Seen) (end : World)
       → newest (referenceAtEnd (take i cs) l) + countIn isQuote (stretch i j cs) ≤ lastPosition
       → acceptedIn isQuote (stretch i j cs) (stretch i j ss) ≡ countIn isQuote (stretch i j cs)
   -- a preview and a quote of the same columns that are made on the book at the end, each with the same outputs, show the same
-  pub preview-is-quote : (x : List ℕ) (o : Outputs) (quote preview : Seen) → Made (Quote x) o end quote → Made (Preview x) o end preview → AsQuoted quote preview
+  pub preview-is-quote : (x : List ℕ) (o : Outputs) (quote preview : Seen) → Made (Quote x) o end quote → Made (Preview x) o end preview
+      → AsQuoted quote preview
   -- after each call the book, with the head and the tables that were seen, passes the audit once an opening was accepted; before that its head
   -- of zeros is refused with 3
   pub audit-says : (k : ℕ)

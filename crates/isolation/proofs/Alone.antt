@@ -101,12 +101,14 @@ shows concern a ms = record { number = a; changes = granted a (filter (isChangeO
 -- ---- a desk's changes among all
 
 -- messages that are none of the concern's changes
-pub none-own : (concern : Concern) (message : ℕ → Message) → ((p : ℕ) → isChangeOf concern (message p) ≡ false) → (l : List ℕ) → filter (isChangeOf concern) (map message l) ≡ []
+pub none-own : (concern : Concern) (message : ℕ → Message) → ((p : ℕ) → isChangeOf concern (message p) ≡ false)
+    → (l : List ℕ) → filter (isChangeOf concern) (map message l) ≡ []
 unfolding filter
 none-own concern message e [] = refl
 none-own concern message e (p ∷ l) = rw (e p) (none-own concern message e l)
 
-changes-none : (concern : Concern) (leaves joins : ℕ → Message) → ((p : ℕ) → isChangeOf concern (leaves p) ≡ false) → ((p : ℕ) → isChangeOf concern (joins p) ≡ false)
+changes-none : (concern : Concern) (leaves joins : ℕ → Message) → ((p : ℕ) → isChangeOf concern (leaves p) ≡ false)
+    → ((p : ℕ) → isChangeOf concern (joins p) ≡ false)
     → (before after : List ℕ) → filter (isChangeOf concern) (changesBy leaves joins before after) ≡ []
 unfolding changesBy
 changes-none concern leaves joins e f before after =
@@ -168,7 +170,8 @@ pair-change concern e p = rw e (refl, refl)
 
 -- so are those of the pair
 pair-own : (concern : Concern) (s next : Reference)
-    → filter (isChangeOf concern) (pairChanges (pairOf s) (pairOf next)) ≡ filter (isChangeOf concern) (pairChanges (pairOf (own concern s)) (pairOf (own concern next)))
+    → filter (isChangeOf concern) (pairChanges (pairOf s) (pairOf next))
+    ≡ filter (isChangeOf concern) (pairChanges (pairOf (own concern s)) (pairOf (own concern next)))
 unfolding pairChanges pairOf paired pastOf
 pair-own concern s next = go (concern .pair) refl
   where
@@ -200,7 +203,8 @@ unfolding skylineOf withQuote
 quote-own concern N x s each =
     let next = withQuote s x in
     filter-append (isChangeOf concern) (allChanges (s .watched) (skylineOf s) (skylineOf next)) (pairChanges (pairOf s) (pairOf next))
-    ∙ ap₂ {C = List Message} (λ (ms ns : List Message). ms ++ ns) (watches-own concern N (s .watched) (skylineOf s) (skylineOf next) each) (pair-own concern s next)
+    ∙ ap₂ {C = List Message} (λ (ms ns : List Message). ms ++ ns) (watches-own concern N (s .watched) (skylineOf s) (skylineOf next) each)
+    (pair-own concern s next)
     ∙ sym (filter-append (isChangeOf concern) (allChanges (filter (ofDesk (concern .desk)) (s .watched)) (skylineOf s) (skylineOf next))
     (pairChanges (pairOf (own concern s)) (pairOf (own concern next))))
 
@@ -238,6 +242,7 @@ unfolding viewOf
 view-read concern c ms a out seen w sent e n o = ap₂ viewed e (changes-read concern c ms a out seen w sent n o)
 
 -- or by its answer alone
-pub view-unread : (concern : Concern) (c : Call) (a : ℕ) (seen : Seen) → writesFrames c ≡ false → seen .outcome .number ≡ a → viewOf concern c seen ≡ shows concern a []
+pub view-unread : (concern : Concern) (c : Call) (a : ℕ) (seen : Seen) → writesFrames c ≡ false → seen .outcome .number ≡ a
+    → viewOf concern c seen ≡ shows concern a []
 unfolding viewOf filter
 view-unread concern c a seen w e = ap₂ viewed e (changes-unread concern c seen w ∙ sym (granted-none {A = Message} a))

@@ -126,7 +126,8 @@ module _ (concern : Concern) (o : Outputs) (k : Expected) (f : Since k) where
       saw zero h = rw (h refl)
       saw (suc j) h = refl
 
-      went : (a : ℕ) → (a ≡ 0 → own concern (leaves c s) ≡ leaves c (own concern s)) → own concern (granted a (leaves c s) s) ≡ granted a (leaves c (own concern s)) (own concern s)
+      went : (a : ℕ) → (a ≡ 0 → own concern (leaves c s) ≡ leaves c (own concern s))
+          → own concern (granted a (leaves c s) s) ≡ granted a (leaves c (own concern s)) (own concern s)
       went zero h = h refl
       went (suc j) h = refl
 
@@ -167,7 +168,8 @@ module _ (concern : Concern) (o : Outputs) (k : Expected) (f : Since k) where
     unfolding expectedStep referenceStep tells lengthsOf isOpen outside
     watch-alone =
         firstOf-alike p (number Settings) ((q, number WindowSize) ∷ more (contains watch (own concern s .watched))) ((q, number WindowSize) ∷ more r)
-        (λ _. firstOf-alike q (number WindowSize) (more (contains watch (own concern s .watched))) (more r) (λ e. ap (λ (b : Bool). firstOf (more b)) (contains-own e)))
+        (λ _. firstOf-alike q (number WindowSize) (more (contains watch (own concern s .watched))) (more r)
+        (λ e. ap (λ (b : Bool). firstOf (more b)) (contains-own e)))
         ∙ told-by-nine p q r (deskFull desk (s .watched)) (ltb (length (o .bytes)) changeRoom)
       where
         p : Bool
@@ -186,7 +188,8 @@ module _ (concern : Concern) (o : Outputs) (k : Expected) (f : Since k) where
     unfolding expectedStep referenceStep tells lengthsOf skylineOf withWatched writesFrames
     watches =
         let c = Watch desk n in
-        follows-by c watch-answer watch-alone (view-read concern c (messages c s) watch-answer (o .bytes) (seen c) refl sent refl refl refl) refl (λ _. refl) kept
+        follows-by c watch-answer watch-alone (view-read concern c (messages c s) watch-answer (o .bytes) (seen c) refl sent refl refl refl)
+        refl (λ _. refl) kept
       where
         inside : watch-answer ≡ 0 → outside s n ≡ false
         inside e = zero-passed _ _ _ (zero-passed _ _ _ e .1) .0
@@ -242,7 +245,8 @@ module _ (concern : Concern) (o : Outputs) (k : Expected) (f : Since k) where
       unfolding expectedStep referenceStep tells lengthsOf pastOf withPairOf writesFrames
       pairs =
           let c = Pair n1 n2 in
-          follows-by c pair-answer pair-alone (view-read concern c (messages c s) pair-answer (o .bytes) (seen c) refl sent refl refl refl) refl (λ _. refl) (λ _. rw its)
+          follows-by c pair-answer pair-alone (view-read concern c (messages c s) pair-answer (o .bytes) (seen c) refl sent refl refl refl)
+          refl (λ _. refl) (λ _. rw its)
         where
           sent : pair-answer ≡ 0 → Sent (messages (Pair n1 n2) s)
           sent e =
@@ -342,7 +346,8 @@ module _ (concern : Concern) (o : Outputs) (k : Expected) (f : Since k) where
       let small = in-unit s n ok (inside e) in
       let r = in-range s n (inside e) in
       let fine = watch-is (s .capacity) other n small (r .0) (r .1) in
-      none-own concern (join (watchOf other n)) (λ p. other-changes concern (s .capacity) (watchOf other n) fine (watch-other other n small desk t) p .1) (skylineOf s n))
+      none-own concern (join (watchOf other n)) (λ p. other-changes concern (s .capacity) (watchOf other n) fine (watch-other other n small desk t) p .1)
+      (skylineOf s n))
     where
       inside : seen (Watch other n) .outcome .number ≡ 0 → outside s n ≡ false
       inside e = zero-passed _ _ _ (zero-passed _ _ _ e .1) .0
@@ -415,7 +420,8 @@ views-alone concern (c ∷ cs) k f =
 
     go : Rest → (b : Bool) → concerns concern (c .call) ≡ b
         → cond b (viewOf concern (c .call) (one .0) ∷ views concern cs ss) (views concern cs ss)
-        ≡ alone-sees concern (lentLengths (k .lent)) (cond b (asks ∷ concerning concern cs) (concerning concern cs)) (cond b (got ∷ nines concern cs ss) (nines concern cs ss)) (own concern (k .reference))
+        ≡ alone-sees concern (lentLengths (k .lent)) (cond b (asks ∷ concerning concern cs) (concerning concern cs))
+        (cond b (got ∷ nines concern cs ss) (nines concern cs ss)) (own concern (k .reference))
     go r true t =
         let h = follows concern (c .outputs) k f (c .call) t in
         ap₂ {C = List View} (λ (v : View) (vs : List View). v ∷ vs) (h .sees) (rest r _ (h .goes))
@@ -504,7 +510,8 @@ calls-isolated concern cs cs' l l' ss ss' end end' m m' g =
     rw (e, e') (isolated concern cs cs' l l' (rw (e, e') at g))
 
 -- a call that was made on a book that calls left, is none of a concern's and no preview, says nothing to it
-pub others-silent : (concern : Concern) (c : Call) (o : Outputs) {w : World} (s : Seen) → Reached w → Made c o w s → concerns concern c ≡ false → isPreview c ≡ false
+pub others-silent : (concern : Concern) (c : Call) (o : Outputs) {w : World} (s : Seen) → Reached w → Made c o w s
+    → concerns concern c ≡ false → isPreview c ≡ false
     → Silent concern c o s
 unfolding bookStep
 others-silent concern c o {w} s r m t u =

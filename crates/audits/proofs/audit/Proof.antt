@@ -30,7 +30,8 @@ returns-2 c =
     let at-settings-hold = at-if1 .before in
     let at-columns = at-settings-hold .before .before .before .before in
     audited _ _ (λ i. omega (arith, at-columns .shared-slice-known .given i)) _
-    (sym (too-short _ _ (sym (at-settings-hold .settings-hold .ensures) ∙ not-false _ (at-if1 .if1 .left)) (sym (c .before .short-tables .ensures) ∙ c .if2 .taken)))
+    (sym (too-short _ _ (sym (at-settings-hold .settings-hold .ensures) ∙ not-false _ (at-if1 .if1 .left))
+    (sym (c .before .short-tables .ensures) ∙ c .if2 .taken)))
 
 meets-rules-requires : tie.Need-meets-rules-requires
 meets-rules-requires c κs =
@@ -49,7 +50,8 @@ returns-3 c =
     let at-settings-hold = at-if1 .before in
     let at-columns = at-settings-hold .before .before .before .before in
     audited _ _ (λ i. omega (arith, at-columns .shared-slice-known .given i)) _
-    (sym (by-rules _ _ (sym (at-settings-hold .settings-hold .ensures) ∙ not-false _ (at-if1 .if1 .left)) (sym (at-short-tables .short-tables .ensures) ∙ at-if2 .if2 .left) _ (sym (c .before .meets-rules .ensures) ∙ c .if3 .taken)))
+    (sym (by-rules _ _ (sym (at-settings-hold .settings-hold .ensures) ∙ not-false _ (at-if1 .if1 .left))
+    (sym (at-short-tables .short-tables .ensures) ∙ at-if2 .if2 .left) _ (sym (c .before .meets-rules .ensures) ∙ c .if3 .taken)))
 
 returns-4 : tie.Need-returns-4
 unfolding findingOf
@@ -60,7 +62,8 @@ returns-4 c =
     let at-settings-hold = at-if1 .before in
     let at-columns = at-settings-hold .before .before .before .before in
     audited _ _ (λ i. omega (arith, at-columns .shared-slice-known .given i)) _
-    (sym (by-rules _ _ (sym (at-settings-hold .settings-hold .ensures) ∙ not-false _ (at-if1 .if1 .left)) (sym (at-short-tables .short-tables .ensures) ∙ at-if2 .if2 .left) _ (sym (c .before .meets-rules .ensures) ∙ c .if3 .left)))
+    (sym (by-rules _ _ (sym (at-settings-hold .settings-hold .ensures) ∙ not-false _ (at-if1 .if1 .left))
+    (sym (at-short-tables .short-tables .ensures) ∙ at-if2 .if2 .left) _ (sym (c .before .meets-rules .ensures) ∙ c .if3 .left)))
 
 pub audit-spec : {M : Type 1} → statement M
 audit-spec =
