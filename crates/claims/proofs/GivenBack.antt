@@ -1,28 +1,28 @@
 -- Records that are given back: a desk that was refused with 9 is not once the other gave back a watch above its 3, or it gave one back
 -- itself. And both desks may watch the same n.
 use mathlib.Core.Path.{_≡_, refl, sym, ap, _∙_}
-use mathlib.Core.Logic.{_⊎_, inl, inr}
+use mathlib.Core.Logic.{inl, inr}
 use Prim.Native.Nat.{ℕ, suc, _+_, _-_, _≤_, _<_}
 use native.Mathlib.Omega.{arith}
-use mathlib.Core.Bool.{Bool, true, false, _&&_, _||_, not}
+use mathlib.Core.Bool.{Bool, true, false, _&&_, not}
 use mathlib.Core.List.{List, [], _∷_}
 use lib.Dec.{ltb, leb, eqb}
 use lib.ListN.{length}
 use borrow.Author.Tests.{leb-true, eqb-true, eqb-false, eq-eqb, ne-eqb, not-false, lt-leb, le-ltb}
-use Rattle.lists.specs.Lists.{filter, any, contains, insert, without, padded}
-use Rattle.lists.proofs.Booleans.{clash, and-left, and-right, or-left, or-right}
+use Rattle.lists.specs.Lists.{any, contains, insert, without}
+use Rattle.lists.proofs.Booleans.{and-left, and-right, or-left, or-right}
 use Rattle.lists.proofs.Rising.{contains-insert}
 use Rattle.head.specs.declared.Head.{Head}
 use Rattle.head.specs.declared.Desk.{Desk}
 use Rattle.head.specs.declared.Desk.the-variants.{One, Two}
-use Rattle.refusals.specs.declared.Refusal.the-variants.{WindowSize, AlreadyWatched, NoFreeRecord, NotWatched, ShortOutput}
+use Rattle.refusals.specs.declared.Refusal.the-variants.{WindowSize, AlreadyWatched, NoFreeRecord, ShortOutput}
 use Rattle.refusals.specs.Refusals.{number, firstOf, granted}
 use Rattle.refusals.proofs.Numbers.{zero-passed}
 use Rattle.head.specs.Desks.{deskUnit, deskNumber, deskIn, watchOf}
 use Rattle.model.specs.Rows.{Tables}
 use Rattle.model.specs.Changes.{changeRoom}
 use Rattle.model.specs.Shares.{ofDesk, countOf, aboveShares, deskFull}
-use Rattle.model.specs.Book.{standing, outOfRange, replyOf, watchfulAnswer, watchAnswer, watchReply, watchWatches, endAnswer, endReply, endWatches}
+use Rattle.model.specs.Book.{standing, outOfRange, replyOf, watchAnswer, watchReply, watchWatches, endAnswer, endReply, endWatches}
 use Rattle.model.specs.Calls.{Watch, End, Outputs, Seen, World, bookSeen, headAfter, worldAfter}
 use Rattle.model.specs.Promises.{world}
 use Rattle.claims.specs.Claims.{Made}

@@ -6,7 +6,7 @@ use Prim.Native.Nat.{ℕ, suc, _+_, _-_, _*_, _≤_, _<_}
 use native.Mathlib.Nat.{le-refl}
 use native.Mathlib.Omega.{arith}
 use mathlib.Core.Bool.{Bool, true, false, _&&_, _||_, not, cond}
-use mathlib.Core.List.{List, [], _∷_, _++_, map, List·Memᴰ, List·Memᴰ·eq-of-singleton, List·Memᴰ·append-cases, Memᴰ·append-left}
+use mathlib.Core.List.{List, [], _∷_, map, List·Memᴰ, List·Memᴰ·eq-of-singleton, List·Memᴰ·append-cases, Memᴰ·append-left}
 use lib.Dec.{ltb, leb, eqb}
 use lib.ListN.{length, length-map}
 use borrow.Author.Tests.{ltb-true, ltb-false, leb-true, leb-false, eqb-true, eqb-false, not-false, lt-ltb, le-ltb, le-leb, eq-eqb, ne-eqb}
@@ -18,13 +18,12 @@ use Rattle.lists.proofs.Rising.{cons-rising, rising-between, rising-filter, ris
 use Rattle.lists.proofs.Writing.{length-padded}
 use Rattle.skyline.specs.Skyline.{windowStart}
 use Rattle.skyline.specs.Past.{covers}
-use Rattle.refusals.specs.declared.Refusal.the-variants.{Settings, ShortLoan, Torn}
-use Rattle.refusals.specs.Refusals.{number, firstOf, granted}
+use Rattle.refusals.specs.Refusals.{firstOf, granted}
 use Rattle.refusals.proofs.Numbers.{zero-passed}
 use Rattle.head.specs.declared.Head.{Head}
 use Rattle.head.specs.Heads.{lastPosition, settingsHold, afterQuote, tornPair}
 use Rattle.head.proofs.Settings.{settings-within}
-use Rattle.model.specs.Rows.{Row, Tables, rowsIn, filled, liveRows, listed, expiring, renamed, lowerEndAmong, rowAfter, rowsAfter}
+use Rattle.model.specs.Rows.{Row, Tables, filled, liveRows, listed, expiring, renamed, lowerEndAmong, rowAfter, rowsAfter}
 use Rattle.model.specs.Book.{shortTables, shortLoan, tornRows, tornWatches, bookRows, pastListOf, watchfulAnswer, replyOf, quoteRows, quoteHead, quoteAnswer, quoteReply, quoteTables, pastCells}
 use Rattle.model.specs.Calls.{Quote, Outputs, World, bookSeen, headAfter, worldAfter, bookStep, positionsIn}
 use Rattle.model.specs.Promises.{world}
@@ -33,7 +32,7 @@ use Rattle.model.proofs.Tables.{Fit, rows-filled, filled-long, length-read}
 use Rattle.model.proofs.Records.{Records, eight-records}
 use Rattle.model.proofs.Sound.{watches-sound}
 use Rattle.model.proofs.Torn.{Whole, lowerAstray, upperAstray, upper-place, window-bounded, untorn-whole, whole-untorn}
-use Rattle.model.proofs.QuoteUntorn.{whole-after, quote-untorn, pair-untorn}
+use Rattle.model.proofs.QuoteUntorn.{whole-after, pair-untorn}
 use Rattle.model.proofs.Simulation.{long-tables, long-records}
 use Rattle.audit_model.proofs.AuditTables.{read-fit}
 

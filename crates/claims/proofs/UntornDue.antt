@@ -16,13 +16,13 @@ use Rattle.skyline.specs.Past.{covers}
 use Rattle.refusals.specs.Refusals.{firstOf, granted}
 use Rattle.head.specs.declared.Head.{Head}
 use Rattle.head.specs.Heads.{lastPosition}
-use Rattle.model.specs.Rows.{Row, Tables, listed, dueRows, joinsAfter, expiring}
+use Rattle.model.specs.Rows.{Row, listed, dueRows, joinsAfter, expiring}
 use Rattle.model.specs.Changes.{changeRoom}
 use Rattle.model.specs.Book.{bookRows, pairStands, pastListOf, pastCells, replyOf, quoteAnswer, quoteReply, quoteTables, dueIn}
 use Rattle.model.specs.Calls.{Quote, Outputs, Seen, World, bookSeen, headAfter, worldAfter, bookStep, runs}
 use Rattle.claims.specs.Claims.{AllMade, isQuote, acceptedIn}
 use Rattle.claims.specs.Untorn.{Untorn, quotesOf, allFit}
-use Rattle.model.proofs.Torn.{PairWithin, pair-within}
+use Rattle.model.proofs.Torn.{pair-within}
 use Rattle.claims.proofs.Refining.{all-made}
 use Rattle.claims.proofs.Untorn.{RowAt, SameSettings, covers-within, row-lower, judged-untorn, listed-last, head-after, next-is, untorn-after, row-stays}
 

@@ -2,19 +2,17 @@
 -- the call gets 9.
 use mathlib.Core.Path.{_≡_, refl, sym, ap, ap₂, _∙_}
 use mathlib.Core.Logic.{_⊎_, inl, inr}
-use Prim.Native.Nat.{ℕ, zero, suc, _≤_}
+use Prim.Native.Nat.{ℕ, zero, suc}
 use native.Mathlib.Nat.{le-refl}
-use mathlib.Core.Bool.{Bool, true, false, _&&_, _||_, not, cond}
+use mathlib.Core.Bool.{Bool, true, false, not, cond}
 use mathlib.Core.List.{List, [], _∷_, _++_, map}
 use lib.Dec.{ltb, leb, eqb}
 use lib.ListN.{length, drop}
 use lib.Seq.{take-append-seam}
-use borrow.Author.Tests.{eqb-true, eq-eqb}
-use Rattle.lists.specs.Lists.{keep, filter, any, flat, contains, rising, insert, without, laid}
+use borrow.Author.Tests.{eq-eqb}
+use Rattle.lists.specs.Lists.{keep, filter, any, flat, contains, insert, without, laid}
 use Rattle.lists.proofs.Booleans.{clash, or-left, or-right}
-use Rattle.lists.proofs.Filters.{filter-append, filter-filter}
-use Rattle.lists.proofs.Members.{filter-same-mem, contains-filter}
-use Rattle.lists.proofs.Rising.{rising-filter, rising-ext, contains-insert, rising-insert}
+use Rattle.lists.proofs.Filters.{filter-append}
 use Rattle.head.specs.declared.Desk.{Desk}
 use Rattle.head.specs.declared.Desk.the-variants.{One, Two}
 use Rattle.refusals.specs.declared.Refusal.the-variants.{Settings, ColumnCount, WindowSize, TapeFull, AlreadyWatched, NoFreeRecord, NotWatched, ShortLoan, ShortOutput, WindowOrder}

@@ -1,13 +1,12 @@
 -- M5 for every list of quotes: in a book of N = 1 one row is live once a quote was accepted.
 use mathlib.Core.Path.{_≡_, refl, _∙_}
-use Prim.Native.Nat.{ℕ, suc, _+_, _-_, _≤_}
+use Prim.Native.Nat.{ℕ, suc, _-_, _≤_}
 use native.Mathlib.Omega.{arith}
 use mathlib.Core.List.{List, [], _∷_}
 use lib.ListN.{length}
 use Rattle.lists.specs.Lists.{filter, headOr, run, between}
 use Rattle.skyline.specs.Skyline.{windowStart}
 use Rattle.skyline.specs.Past.{upperEnd}
-use Rattle.refusals.specs.Refusals.{granted}
 use Rattle.model.specs.Rows.{isLive, liveRows}
 use Rattle.model.specs.Reference.{Reference, Quote, ample, newest, rowOf, rowsOf, withQuote, opening, tells, referenceStep}
 use Rattle.audit_model.specs.Audit.{plays}
