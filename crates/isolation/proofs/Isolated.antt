@@ -25,7 +25,7 @@ use Rattle.model.specs.Changes.{join, pairJoin, frames, changeRoom}
 use Rattle.model.specs.Shares.{ofDesk, deskFull}
 use Rattle.model.specs.Reference.{Reference, Lengths, newest, skylineOf, pastOf, paired, isOpen, outside, outsidePair, withQuote, withWatched, withPairOf, opening, tells, foretells, referenceStep}
 use Rattle.model.specs.Calls.{Call, Open, Quote, Look, Watch, End, Past, Pair, Unpair, Due, Preview, Outputs, Lending, Lent, Seen, World, lengthsOf, Expected, bookStep, expectedStep, runs, worldFirst, expectedFirst, Reached}
-use Rattle.isolation.specs.Isolation.{Concern, sameDesk, concerns, isChangeOf, writesFrames, isPreview, changesOf, View, viewOf, ofConcerning, views, nines, changesIn, Asking, concerning, lentLengths, SameConcern, SameShown, Silent}
+use Rattle.isolation.specs.Isolation.{Concern, sameDesk, concerns, isChangeOf, writesFrames, isPreview, changesOf, View, viewOf, ofConcerning, views, nines, issued, changesIn, Asking, concerning, lentLengths, SameConcern, SameShown, Silent}
 use Rattle.claims.specs.Claims.{Made, AllMade}
 use Rattle.model.proofs.Desks.{watch-own, watch-other, watch-is, watch-range, highest}
 use Rattle.model.proofs.Records.{filter-swap}
@@ -443,6 +443,15 @@ no-preview concern Unpair t = refl
 no-preview concern Due t = refl
 no-preview concern (Preview x) t = absurd (clash false t refl)
 
+-- a preview issues no change, any other call those among its frames
+issued-preview : (concern : Concern) (c : Call) (seen : Seen) → isPreview c ≡ true → issued concern c seen ≡ []
+unfolding issued
+issued-preview concern c seen u = rw u
+
+issued-own : (concern : Concern) (c : Call) (seen : Seen) → isPreview c ≡ false → issued concern c seen ≡ changesOf concern c seen
+unfolding issued
+issued-own concern c seen u = rw u
+
 -- the changes of a concern among all that was written are those that it sees of its own calls
 written-viewed : (concern : Concern) (cs : List Lending) (k : Expected) → Since k
     → changesIn concern cs (runs expectedStep cs k .0) ≡ flat (map View.changes (views concern cs (runs expectedStep cs k .0)))
@@ -461,17 +470,17 @@ written-viewed concern (c ∷ cs) k f =
     first : List Message
     first = changesOf concern (c .call) (one .0)
 
-    unseen : concerns concern (c .call) ≡ false → cond (isPreview (c .call)) [] first ≡ []
+    unseen : concerns concern (c .call) ≡ false → issued concern (c .call) (one .0) ≡ []
     unseen t = by (isPreview (c .call)) refl
       where
-        by : (b : Bool) → isPreview (c .call) ≡ b → cond b [] first ≡ []
-        by true u = refl
-        by false u = silent concern (c .outputs) k f (c .call) t u .none
+        by : (b : Bool) → isPreview (c .call) ≡ b → issued concern (c .call) (one .0) ≡ []
+        by true u = issued-preview concern (c .call) (one .0) u
+        by false u = issued-own concern (c .call) (one .0) u ∙ silent concern (c .outputs) k f (c .call) t u .none
 
     go : changesIn concern cs ss ≡ flat (map View.changes (views concern cs ss)) → (b : Bool) → concerns concern (c .call) ≡ b
-        → cond (isPreview (c .call)) [] first ++ changesIn concern cs ss
+        → issued concern (c .call) (one .0) ++ changesIn concern cs ss
         ≡ flat (map View.changes (cond b (viewOf concern (c .call) (one .0) ∷ views concern cs ss) (views concern cs ss)))
-    go r true t = rw (no-preview concern (c .call) t) (ap (λ (ms : List Message). first ++ ms) r)
+    go r true t = rw (issued-own concern (c .call) (one .0) (no-preview concern (c .call) t)) (ap (λ (ms : List Message). first ++ ms) r)
     go r false t = rw (unseen t) r
 
 -- ---- isolation

@@ -111,11 +111,15 @@ views concern = ofConcerning concern (λ c s. viewOf concern (c .call) s)
 unfoldable pub nines : Concern → List Lending → List Seen → List Bool
 nines concern = ofConcerning concern (λ c s. eqb (s .outcome .number) (number NoFreeRecord))
 
+-- a concern's changes that a call issues: those among the frames that it wrote, and none of a preview (02: previews left out)
+unfoldable pub issued : Concern → Call → Seen → List Message
+issued concern c seen = cond (isPreview c) [] (changesOf concern c seen)
+
 -- a concern's changes among all that the calls of a list wrote, previews left out
 unfoldable pub changesIn : Concern → List Lending → List Seen → List Message
 changesIn concern [] ss = []
 changesIn concern (c ∷ cs) [] = []
-changesIn concern (c ∷ cs) (s ∷ ss) = cond (isPreview (c .call)) [] (changesOf concern (c .call) s) ++ changesIn concern cs ss
+changesIn concern (c ∷ cs) (s ∷ ss) = issued concern (c .call) s ++ changesIn concern cs ss
 
 -- a call with the lengths of its outputs, whatever they held when they were lent
 pub record Asking : Type 0 where

@@ -1,4 +1,4 @@
--- 01's marked cases M1 to M10 and its worked tape as 02 has them, books with equal rows, a tape with past lists, two with a watched pair
+-- 01's marked cases M1 to M10 and its worked tape as 02 has them, books with equal rows, two tapes with past lists, two with a watched pair
 -- and two with two desks, and torn records: one table of questions with their answers, and the answers that the definitions give.
 use Prim.Native.Nat.{ℕ, _+_, _-_}
 use mathlib.Core.Bool.{Bool, true, false, _&&_, cond}
