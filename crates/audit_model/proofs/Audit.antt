@@ -10,13 +10,13 @@ use Rattle.lists.specs.Lists.{any}
 use Rattle.dominance.specs.Renewal.{quoteAt}
 use Rattle.skyline.specs.Skyline.{windowStart}
 use Rattle.head.specs.declared.Head.{Head}
-use Rattle.replies.specs.Replies.{yes}
+use Rattle.replies.specs.Replies.{Finding, yes}
 use Rattle.head.specs.Heads.{settingsHold, lastPosition}
 use Rattle.head.proofs.Settings.{settings-within}
 use Rattle.model.specs.Rows.{Row, Tables, rowsIn, filled}
 use Rattle.model.specs.Reference.{Reference, newest, headOf, rowOf, rowsOf}
 use Rattle.model.specs.Book.{bookRows}
-use Rattle.audit_model.specs.Audit.{Small, wrongEnd, auditFinding, Tape}
+use Rattle.audit_model.specs.Audit.{Small, wrongEnd, auditFinding, Tape, Audited}
 use Rattle.model.proofs.Tables.{length-read, rows-filled}
 use Rattle.model.proofs.Sound.{Wide, positions-are, row-held, rows-wide, rows-bounded, rows-whole}
 use Rattle.audit_model.proofs.Plays.{holding, opening-plays, opening-took, opening-accepted, accepted-settings, opening-next}
@@ -125,3 +125,7 @@ audit-iff-tape h t small =
       λ e. let p = y .0 e in passes-tape h t (p .0) small (p .1),
       λ T. let hold = accepted-settings h (T .accepted) in y .1 (hold, tape-passes h t hold T),
     )
+
+-- so does every audit that finds what the rules say
+pub audited : (h : Head) (t : Tables) → Small (t .columns) → (finding : Finding) → finding ≡ auditFinding h t → Audited h t finding
+audited h t small finding e = record { found = e; tape = rw e (audit-iff-tape h t small) }

@@ -1,5 +1,6 @@
 -- The audit's rules, and the tape that leaves a book.
 use mathlib.Core.Path.{_≡_}
+use mathlib.Core.Logic.{_↔_}
 use Prim.Native.Nat.{ℕ, zero, suc, _-_, _*_, _≤_}
 use mathlib.Core.Bool.{Bool, true, false, _&&_, _||_, not}
 use mathlib.Core.List.{List, [], _∷_, map}
@@ -85,3 +86,8 @@ pub record Tape (h : Head) (t : Tables) : Type 0 where
   pub live : headOf (plays quotes (tapeOpening h .next)) .live ≡ h .live
   pub held : headOf (plays quotes (tapeOpening h .next)) .held ≡ h .held
   pub tables : filled (h .dimensions) (h .capacity) (rowsOf (plays quotes (tapeOpening h .next))) t ≡ t
+
+-- what an audit finds: what its rules say, and yes exactly if some tape leaves the book
+pub record Audited (h : Head) (t : Tables) (finding : Finding) : Type 0 where
+  pub found : finding ≡ auditFinding h t
+  pub tape : (finding ≡ yes) ↔ Tape h t

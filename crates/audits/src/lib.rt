@@ -12,7 +12,7 @@ ghost use mathlib.Core.List.{[]};
 ghost use lib.ListN.{length};
 ghost use Rattle.lists.specs.Lists.{any, run};
 ghost use Rattle.replies.specs.Replies.{finding};
-ghost use Rattle.audit_model.specs.Audit.{zeroFrom, passes, auditFinding};
+ghost use Rattle.audit_model.specs.Audit.{zeroFrom, passes, Audited};
 ghost use Rattle.model.specs.Promises.{tables};
 ghost use Rattle.audits.specs.Ends.{overYoungerAt, overOlderAt, lowerFound, upperFound, wrongAt};
 
@@ -181,9 +181,8 @@ pub fn audit(
     lower_ends: &[u32],
     upper_ends: &[u32],
 ) -> Verdict
-    ensures { λ r. ⌜ finding r ≡ auditFinding head
-        (tables (now (columns .entry)) (now (positions .entry)) (now («lower_ends» .entry))
-        (now («upper_ends» .entry))) ⌝ }
+    ensures { λ r. ⌜ Audited head (tables (now (columns .entry)) (now (positions .entry))
+        (now («lower_ends» .entry)) (now («upper_ends» .entry))) (finding r) ⌝ }
 {
     if !head.settings_hold() {
         return Verdict::Refused(Refusal::Settings);

@@ -1,12 +1,13 @@
--- When a row that is due comes onto the past list of the pair (000, theorem 4.1): with further quotes, and over a list of calls.
+-- When a row that is due comes onto the past list of the pair (000, theorem 4.1): with further quotes, and over a list of calls; and that the
+-- quotes for it are accepted if the tape has space for them.
 use mathlib.Core.Path.{_≡_, refl, sym, ap, _∙_}
 use Prim.Native.Nat.{ℕ, zero, suc, _+_, _≤_, _<_}
 use native.Mathlib.Omega.{arith}
-use mathlib.Core.Bool.{Bool, true, false, _&&_, cond}
+use mathlib.Core.Bool.{Bool, true, false, _&&_, _||_, not, cond}
 use mathlib.Core.List.{List, [], _∷_, _++_, map, List·Memᴰ, List·Memᴰ·not-nil, append-nil, append-assoc}
-use lib.Dec.{ltb, eqb}
+use lib.Dec.{ltb, leb, eqb}
 use lib.ListN.{length, take, length-append}
-use borrow.Author.Tests.{ltb-true, ne-eqb}
+use borrow.Author.Tests.{ltb-true, leb-true, ne-eqb, lt-leb, le-ltb}
 use Rattle.lists.specs.Lists.{filter, insert, without}
 use Rattle.lists.proofs.Booleans.{clash, and-left, and-right}
 use Rattle.lists.proofs.Members.{of-filter, of-map}
@@ -15,19 +16,18 @@ use Rattle.skyline.specs.Skyline.{windowStart}
 use Rattle.skyline.specs.Past.{lowerEnd}
 use Rattle.skyline.proofs.Ends.{lower-cong}
 use Rattle.skyline.proofs.Due as Joining
-use Rattle.refusals.specs.Refusals.{granted}
+use Rattle.refusals.specs.Refusals.{firstOf, granted}
 use Rattle.head.specs.Heads.{lastPosition, tornPair}
 use Rattle.head.specs.Desks.{watchOf}
 use Rattle.model.specs.Rows.{Row, dueRows}
+use Rattle.model.specs.Changes.{changeRoom}
 use Rattle.model.specs.Reference.{Reference, newest, over, pastOf, paired, rowOf, rowsOf, headOf, dueOf, isOpen, withQuote, withQuotes, withWatched, withPairOf, opening, tells, foretells, referenceStep}
 use Rattle.model.specs.Calls.{Call, Open, Quote, Look, Watch, End, Past, Pair, Unpair, Due, Preview, Outputs, Lending, Lent, Seen, Expected, lengthsOf, expectedStep, bookStep, runs, worldFirst, expectedFirst, expectedAtEnd, referenceAtEnd}
-use Rattle.audit_model.specs.Audit.{plays}
-use Rattle.claims.specs.Claims.{isQuote, isOpening, acceptedIn, stretch, IsDue, dueAfter}
+use Rattle.claims.specs.Claims.{isQuote, isOpening, acceptedIn, countIn, wideQuote, fitQuotes, stretch, IsDue, dueAfter}
 use Rattle.model.proofs.Quotes.{over-within}
 use Rattle.model.proofs.Sound.{row-held}
 use Rattle.model.proofs.Simulation.{Bounded, bounded, watched-pair}
 use Rattle.model.proofs.Replay.{replay, replay-ends}
-use Rattle.audit_model.proofs.Plays.{WideAll, plays-on}
 use Rattle.claims.proofs.Stretches.{stretch-ends, stretch-seen}
 
 -- ---- further quotes
@@ -110,21 +110,24 @@ record Later (s end : Reference) (count : ℕ) : Type 0 where
   more : List (List ℕ)
   counted : length more ≡ count
   dimensions : end .dimensions ≡ s .dimensions
+  capacity : end .capacity ≡ s .capacity
   directions : end .directions ≡ s .directions
   quotes : end .quotes ≡ s .quotes ++ more
 
 -- as many quotes as before
-later-alike : (s end : Reference) → end .dimensions ≡ s .dimensions → end .directions ≡ s .directions → end .quotes ≡ s .quotes → Later s end 0
-later-alike s end d e q = record { more = []; counted = refl; dimensions = d; directions = e; quotes = q ∙ sym (append-nil (s .quotes)) }
+later-alike : (s end : Reference) → end .dimensions ≡ s .dimensions → end .capacity ≡ s .capacity → end .directions ≡ s .directions → end .quotes ≡ s .quotes
+    → Later s end 0
+later-alike s end d n e q = record { more = []; counted = refl; dimensions = d; capacity = n; directions = e; quotes = q ∙ sym (append-nil (s .quotes)) }
 
 later-same : (s : Reference) → Later s s 0
-later-same s = later-alike s s refl refl refl
+later-same s = later-alike s s refl refl refl refl
 
 later-then : {s t u : Reference} {j k : ℕ} → Later s t j → Later t u k → Later s u (j + k)
 later-then {s} a b = record {
   more = a .more ++ b .more;
   counted = length-append (a .more) (b .more) ∙ omega (arith, a .counted, b .counted);
   dimensions = b .dimensions ∙ a .dimensions;
+  capacity = b .capacity ∙ a .capacity;
   directions = b .directions ∙ a .directions;
   quotes = b .quotes ∙ ap (λ (l : List (List ℕ)). l ++ b .more) (a .quotes) ∙ append-assoc (s .quotes) (a .more) (b .more);
 }
@@ -149,7 +152,7 @@ later-unopened (suc k) s next e = later-same s
 -- a quote, accepted or not
 later-quoted : (a : ℕ) (s : Reference) (x : List ℕ) → Later s (granted a (withQuote s x) s) (cond (eqb a 0) 1 0)
 unfolding granted withQuote
-later-quoted zero s x = record { more = x ∷ []; counted = refl; dimensions = refl; directions = refl; quotes = refl }
+later-quoted zero s x = record { more = x ∷ []; counted = refl; dimensions = refl; capacity = refl; directions = refl; quotes = refl }
 later-quoted (suc k) s x = rw (ne-eqb (suc k) 0 (λ e. omega arith)) (later-same s)
 
 module _ (o : Outputs) (k : Expected) where
@@ -167,12 +170,12 @@ module _ (o : Outputs) (k : Expected) where
   later-step (Quote x) e = later-quoted (answered (Quote x)) s x
   later-step (Look n) e = later-granted (answered (Look n)) (later-same s)
   later-step (Watch desk n) e =
-      later-granted (answered (Watch desk n)) (later-alike s (withWatched s (insert (watchOf desk n) (s .watched))) refl refl refl)
+      later-granted (answered (Watch desk n)) (later-alike s (withWatched s (insert (watchOf desk n) (s .watched))) refl refl refl refl)
   later-step (End desk n) e =
-      later-granted (answered (End desk n)) (later-alike s (withWatched s (without (watchOf desk n) (s .watched))) refl refl refl)
+      later-granted (answered (End desk n)) (later-alike s (withWatched s (without (watchOf desk n) (s .watched))) refl refl refl refl)
   later-step (Past n1 n2) e = later-granted (answered (Past n1 n2)) (later-same s)
-  later-step (Pair n1 n2) e = later-granted (answered (Pair n1 n2)) (later-alike s (withPairOf s n1 n2) refl refl refl)
-  later-step Unpair e = later-granted (answered Unpair) (later-alike s (withPairOf s 0 0) refl refl refl)
+  later-step (Pair n1 n2) e = later-granted (answered (Pair n1 n2)) (later-alike s (withPairOf s n1 n2) refl refl refl refl)
+  later-step Unpair e = later-granted (answered Unpair) (later-alike s (withPairOf s 0 0) refl refl refl refl)
   later-step Due e = later-granted (answered Due) (later-same s)
   later-step (Preview x) e = later-same s
 
@@ -192,15 +195,75 @@ later-runs (c ∷ cs) k e =
     unopened true e = absurd (omega arith)
     unopened false e = refl
 
+-- ---- space on the tape
+
+-- settings and quotes alike, opened alike
+later-open : {s end : Reference} {count : ℕ} → Later s end count → isOpen end ≡ isOpen s
+unfolding isOpen
+later-open f = rw (f .dimensions, f .capacity, f .directions)
+
+-- as many quotes more
+later-newest : {s end : Reference} {count : ℕ} → Later s end count → newest end ≡ newest s + count
+later-newest {s} f = ap length (f .quotes) ∙ length-append (s .quotes) (f .more) ∙ omega (arith, f .counted)
+
+module _ (o : Outputs) (k : Expected) where
+  -- a quote of d columns with an output that suffices is accepted on an opened book while the tape has space
+  quote-accepted : (x : List ℕ) → isOpen (k .reference) ≡ true → eqb (length x) (k .reference .dimensions) ≡ true → leb changeRoom (length (o .bytes)) ≡ true
+      → newest (k .reference) < lastPosition → answered o k (Quote x) ≡ 0
+  unfolding expectedStep referenceStep tells lengthsOf firstOf
+  quote-accepted x opened wide room space =
+      rw (opened, wide, lt-leb lastPosition (newest (k .reference)) space, le-ltb (length (o .bytes)) changeRoom (leb-true changeRoom (length (o .bytes)) room))
+
+  -- so is a call that is a fit quote
+  fit-accepted : (c : Call) → isOpen (k .reference) ≡ true
+      → not (isQuote c) || wideQuote (k .reference .dimensions) c && leb changeRoom (length (o .bytes)) ≡ true
+      → newest (k .reference) + cond (isQuote c) 1 0 ≤ lastPosition → _≡_ {A = ℕ} (cond (isQuote c && eqb (answered o k c) 0) 1 0) (cond (isQuote c) 1 0)
+  unfolding isQuote wideQuote
+  fit-accepted (Open d N directions) opened fit space = refl
+  fit-accepted (Quote x) opened fit space =
+      let wide = eqb (length x) (k .reference .dimensions) in
+      let room = leb changeRoom (length (o .bytes)) in
+      rw (quote-accepted x opened (and-left wide room fit) (and-right wide room fit) (omega arith))
+  fit-accepted (Look n) opened fit space = refl
+  fit-accepted (Watch desk n) opened fit space = refl
+  fit-accepted (End desk n) opened fit space = refl
+  fit-accepted (Past n1 n2) opened fit space = refl
+  fit-accepted (Pair n1 n2) opened fit space = refl
+  fit-accepted Unpair opened fit space = refl
+  fit-accepted Due opened fit space = refl
+  fit-accepted (Preview x) opened fit space = refl
+
+-- a list of calls
+all-accepted : (cs : List Lending) (k : Expected) → isOpen (k .reference) ≡ true → acceptedIn isOpening cs (runs expectedStep cs k .0) ≡ 0
+    → fitQuotes (k .reference .dimensions) cs ≡ true → newest (k .reference) + countIn isQuote cs ≤ lastPosition
+    → acceptedIn isQuote cs (runs expectedStep cs k .0) ≡ countIn isQuote cs
+unfolding runs acceptedIn fitQuotes countIn
+all-accepted [] k opened closed fit space = refl
+all-accepted (c ∷ cs) k opened closed fit space =
+    let d = k .reference .dimensions in
+    let fits = not (isQuote (c .call)) || wideQuote d (c .call) && leb changeRoom (length (c .outputs .bytes)) in
+    let one = fit-accepted (c .outputs) k (c .call) opened (and-left fits (fitQuotes d cs) fit) (omega arith) in
+    let later = later-step (c .outputs) k (c .call) (unopened (isOpening (c .call) && eqb (answered (c .outputs) k (c .call)) 0) closed) in
+    omega (
+      arith,
+      one,
+      all-accepted cs (expectedStep (c .call) (c .outputs) k .1) (later-open later ∙ opened) (omega arith)
+          (rw (later .dimensions) (and-right fits (fitQuotes d cs) fit)) (omega (arith, later-newest later, one)),
+    )
+  where
+    rest : ℕ
+    rest = acceptedIn isOpening cs (runs expectedStep cs (expectedStep (c .call) (c .outputs) k .1) .0)
+
+    unopened : (b : Bool) → cond b 1 0 + rest ≡ 0 → b ≡ false
+    unopened true e = absurd (omega arith)
+    unopened false e = refl
+
+-- ---- a list of calls
+
 module _ (cs : List Lending) (l : Lent) where
   -- the reference model is bounded at the end of every list of calls
   pub end-bounded : Bounded (referenceAtEnd cs l)
   end-bounded = bounded (referenceAtEnd cs l) (expectedAtEnd cs l .lent) (replay-ends cs l .since)
-
-  -- an opened one takes any further quotes of d columns while the tape has space for them
-  pub due-space : (more : List (List ℕ)) → isOpen (referenceAtEnd cs l) ≡ true → WideAll (referenceAtEnd cs l .dimensions) more
-      → newest (referenceAtEnd cs l) + length more ≤ lastPosition → plays more (referenceAtEnd cs l) ≡ withQuotes (referenceAtEnd cs l) more
-  due-space more hold wide room = plays-on (referenceAtEnd cs l) hold more wide room
 
 module _ (cs : List Lending) (l : Lent) (i j : ℕ) (h : i ≤ j) where
   -- the reference model after the first i calls, and after the first j
@@ -215,6 +278,14 @@ module _ (cs : List Lending) (l : Lent) (i j : ℕ) (h : i ≤ j) where
   ss = runs bookStep cs (worldFirst l) .0
 
   module _ (closed : acceptedIn isOpening (stretch i j cs) (stretch i j ss) ≡ 0) where
+    -- the quotes of a stretch are accepted if the tape has space for them
+    pub due-space : isOpen from ≡ true → fitQuotes (from .dimensions) (stretch i j cs) ≡ true → newest from + countIn isQuote (stretch i j cs) ≤ lastPosition
+        → acceptedIn isQuote (stretch i j cs) (stretch i j ss) ≡ countIn isQuote (stretch i j cs)
+    due-space opened fit space =
+        rw (replay cs l, stretch-seen expectedStep i j h cs (expectedFirst l))
+        (all-accepted (stretch i j cs) (runs expectedStep (take i cs) (expectedFirst l) .1) opened
+        (rw (replay cs l, stretch-seen expectedStep i j h cs (expectedFirst l)) at closed) fit space)
+
     stretched : Later from to (acceptedIn isQuote (stretch i j cs) (stretch i j ss))
     stretched =
         rw (replay cs l, stretch-seen expectedStep i j h cs (expectedFirst l), ap Expected.reference (stretch-ends expectedStep i j h cs (expectedFirst l)))

@@ -5,7 +5,7 @@ use mathlib.Core.Logic.{_↔_}
 use Prim.Native.Nat.{ℕ, suc, _+_, _-_, _≤_}
 use native.Mathlib.Omega.{arith}
 use mathlib.Core.Bool.{Bool, false}
-use mathlib.Core.List.{List, [], _∷_, map, List·Memᴰ}
+use mathlib.Core.List.{List, map, List·Memᴰ}
 use lib.Dec.{eqb}
 use lib.ListN.{length-append}
 use borrow.Author.Tests.{eqb-true, eq-eqb}
@@ -22,6 +22,7 @@ use Rattle.skyline.proofs.Past.{live-iff-listed, retired-never-listed, held-lis
 use Rattle.model.specs.Rows.{Row, isLive, liveRows}
 use Rattle.model.specs.Reference.{Reference, newest, over, skylineOf, pastOf, rowOf, rowsOf, withQuotes}
 use Rattle.model.specs.Calls.{Lending, Lent, Expected, World, expectedStep, runs, expectedFirst, worldAtEnd, referenceAtEnd, positionsIn, livePositionsIn}
+use Rattle.claims.specs.Claims.{ListedAlone}
 use Rattle.model.proofs.Quotes.{over-within}
 use Rattle.model.proofs.Sound.{positions-are}
 use Rattle.model.proofs.Simulation.{Simulation, simulation-rows}
@@ -87,13 +88,13 @@ module _ (s : Reference) where
       (λ e. retired (live-is p .1 (low, h, sym same ∙ e))) m
 
   -- a held position is the past list with n1 and n2 at its own place
-  pub held-alone : (p : ℕ) → List·Memᴰ p (map Row.position (rowsOf s)) → pastOf s (newest s + 1 - p) (newest s + 1 - p) ≡ p ∷ []
+  pub held-alone : (p : ℕ) → List·Memᴰ p (map Row.position (rowsOf s)) → ListedAlone s p
   unfolding pastOf between windowStart
   held-alone p m =
       let r = of-run S (suc (newest s) - S) p (rw (positions-are s) at m) in
       let a : windowStart (newest s) (newest s + 1 - p) ≡ p = omega arith in
       let b : newest s + 1 - (newest s + 1 - p) ≡ p = omega arith in
-      rw (a, b) (held-listed-alone (over s) irr p)
+      record { some = omega arith; most = omega arith; alone = rw (a, b) (held-listed-alone (over s) irr p) }
 
   -- a position is held exactly if some n1 and n2 with 1 ≤ n1 ≤ n2 ≤ N have it on their past list
   pub held-iff-on-past : (p : ℕ)
@@ -136,7 +137,7 @@ module _ (cs : List Lending) (l : Lent) where
   retired-row-never-listed more p n h k retired = retired-off-skylines s more p n h k (λ m. retired (rw live-at-end m))
 
   -- every position held is the past list with n1 and n2 at its own place
-  pub held-row-listed-alone : (p : ℕ) → List·Memᴰ p (positionsIn (worldAtEnd cs l)) → pastOf s (newest s + 1 - p) (newest s + 1 - p) ≡ p ∷ []
+  pub held-row-listed-alone : (p : ℕ) → List·Memᴰ p (positionsIn (worldAtEnd cs l)) → ListedAlone s p
   held-row-listed-alone p m = held-alone s p (rw positions-at-end at m)
 
   -- a position is held exactly if some n1 and n2 with 1 ≤ n1 ≤ n2 ≤ N have it on their past list

@@ -6,3 +6,6 @@ pub mod Due
 pub mod Refining
 pub mod Previews
 pub mod Shares
+pub mod Untorn
+pub mod UntornDue
+pub mod GivenBack

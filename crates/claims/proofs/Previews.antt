@@ -1,10 +1,11 @@
 -- A preview of a quote: it leaves everything but the output, and shows what the quote would.
 use mathlib.Core.Path.{_≡_, refl}
 use Prim.Native.Nat.{ℕ}
-use mathlib.Core.List.{List, [], _∷_}
+use mathlib.Core.List.{List, []}
+use Rattle.claims.specs.Claims.{AsQuoted}
 use Rattle.model.specs.Reference.{Reference, Lengths, headOf, foretells, referenceStep}
 use Rattle.model.specs.Book.{replyOf, quoteReply, previewReply, previewCounts, previewOut}
-use Rattle.model.specs.Calls.{Quote, Preview, Outputs, Seen, World, bookSeen, headAfter, worldAfter, bookStep, Expected, expectedStep}
+use Rattle.model.specs.Calls.{Quote, Preview, Outputs, World, bookSeen, headAfter, worldAfter, bookStep, Expected, expectedStep}
 
 -- ---- what a preview leaves
 
@@ -32,14 +33,6 @@ unfolding referenceStep foretells
 preview-leaves-reference x l s = record { next = refl; head = refl; cells = refl }
 
 -- ---- what a preview shows
-
--- what is seen of a preview, by what is seen of the quote on the same book: its answer, its count of bytes, every byte of its output, and
--- the live and the held rows of the head that it hands back
-pub record AsQuoted (quote preview : Seen) : Type 0 where
-  pub number : preview .outcome .number ≡ quote .outcome .number
-  pub count : preview .outcome .count ≡ quote .outcome .count
-  pub bytes : preview .outputs .bytes ≡ quote .outputs .bytes
-  pub counts : preview .counts ≡ quote .outcome .head .live ∷ quote .outcome .head .held ∷ []
 
 -- a preview shows what the quote would, by the book model
 pub preview-is-quote : (x : List ℕ) (o : Outputs) (w : World) → AsQuoted (bookStep (Quote x) o w .0) (bookStep (Preview x) o w .0)

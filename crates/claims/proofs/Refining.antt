@@ -2,21 +2,29 @@
 -- model.
 use mathlib.Core.Path.{_≡_, refl, sym, ap, subst, _∙_}
 use Prim.Native.Nat.{ℕ}
-use mathlib.Core.List.{List, _∷_}
+use mathlib.Core.List.{List, [], _∷_}
 use lib.ListN.{take}
-use Rattle.model.specs.Calls.{Call, Outputs, Lending, Lent, Seen, World, bookSeen, worldAfter, bookStep, runs, worldFirst, expectedAtEnd, worldAtEnd, referenceAtEnd}
+use mathlib.Core.Bool.{Bool, cond}
+use Rattle.refusals.specs.declared.Refusal.the-variants.{Settings}
+use Rattle.refusals.specs.Refusals.{number, firstOf}
+use Rattle.replies.specs.Replies.{yes, refused}
+use Rattle.head.specs.Heads.{freshHead, settingsHold}
+use Rattle.model.specs.Reference.{unopened, headOf, isOpen}
+use Rattle.model.specs.Calls.{Call, Quote, Preview, Outputs, Lending, Lent, Seen, Expected, World, bookSeen, worldAfter, bookStep, runs, worldFirst, expectedAtEnd, worldAtEnd, referenceAtEnd}
 use Rattle.watcher.specs.Watcher.{Follower, OfSize, OfPair, Nothing, watcher, heldBy}
-use Rattle.claims.specs.Claims.{Made, opened, quoted, looked, watched, ended, pastLooked, paired, unpaired, dueLooked, previewed, AllMade, none, next, lastHead, Refines}
-use Rattle.model.proofs.Simulation.{shown-same}
+use Rattle.claims.specs.Claims.{Made, opened, quoted, looked, watched, ended, pastLooked, paired, unpaired, dueLooked, previewed, AllMade, none, next, lastHead, lastLent, AsQuoted, Refines}
+use Rattle.audit_model.specs.Audit.{findingOf, auditFinding}
+use Rattle.model.proofs.Simulation.{Simulation, referenceWith, bookWith, simulation, simulation-by, shown-same}
 use Rattle.model.proofs.Replay.{replay, replay-ends}
 use Rattle.claims.proofs.Kept.{live-row-iff-listed, retired-row-never-listed, held-row-listed-alone, held-row-iff-past}
 use Rattle.watcher.proofs.Watcher.{watcher-holds}
 use Rattle.claims.proofs.Stretches.{first-seen}
 use Rattle.claims.proofs.Due.{due-row-joins, due-row-not-before, due-space}
+use Rattle.claims.proofs.Previews.{preview-is-quote}
 use Rattle.audit_model.proofs.Passing.{simulation-passes}
 
 -- what is seen of a call that met its promise is what the book model says
-made-seen : {c : Call} {o : Outputs} {w : World} {s : Seen} → Made c o w s → s ≡ bookSeen c o w
+pub made-seen : {c : Call} {o : Outputs} {w : World} {s : Seen} → Made c o w s → s ≡ bookSeen c o w
 unfolding bookSeen
 made-seen (opened m) = rw (m .reply, m .lent, m .watches)
 made-seen (quoted m) = rw (m .reply, m .lent, m .out)
@@ -30,7 +38,8 @@ made-seen (dueLooked m) = rw (m .reply, m .out)
 made-seen (previewed m) = rw (m .reply, m .counts, m .out)
 
 -- so is what is seen of a list of calls, and the book at its end
-all-made : {cs : List Lending} {w : World} {ss : List Seen} {end : World} → AllMade cs w ss end → (ss ≡ runs bookStep cs w .0) × (end ≡ runs bookStep cs w .1)
+pub all-made : {cs : List Lending} {w : World} {ss : List Seen} {end : World} → AllMade cs w ss end
+    → (ss ≡ runs bookStep cs w .0) × (end ≡ runs bookStep cs w .1)
 unfolding runs bookStep
 all-made none = (refl, refl)
 all-made (next {c} {cs} {w} {s} {ss} {end} m rest) =
@@ -43,6 +52,36 @@ head-made : {cs : List Lending} {w : World} {ss : List Seen} {end : World} → A
 unfolding lastHead worldAfter
 head-made none = refl
 head-made (next m rest) = head-made rest
+
+-- the head and what is lent at the end of a list of calls are those last seen
+head-seen : (cs : List Lending) (w : World) → runs bookStep cs w .1 .head ≡ lastHead cs (runs bookStep cs w .0) (w .head)
+unfolding runs bookStep worldAfter lastHead
+head-seen [] w = refl
+head-seen (c ∷ cs) w = head-seen cs (bookStep (c .call) (c .outputs) w .1)
+
+lent-seen : (cs : List Lending) (w : World) → runs bookStep cs w .1 .lent ≡ lastLent (runs bookStep cs w .0) (w .lent)
+unfolding runs bookStep worldAfter lastLent
+lent-seen [] w = refl
+lent-seen (c ∷ cs) w = lent-seen cs (bookStep (c .call) (c .outputs) w .1)
+
+-- a preview and a quote that were made on a book show the same
+as-quoted : (x : List ℕ) (o : Outputs) (w : World) (quote preview : Seen) → Made (Quote x) o w quote → Made (Preview x) o w preview → AsQuoted quote preview
+unfolding bookStep
+as-quoted x o w quote preview q p = rw (made-seen q, made-seen p) (preview-is-quote x o w)
+
+-- the audit of a book before any opening, and of one that simulates the reference model
+unopened-audited : (l : Lent) → auditFinding (headOf unopened) (l .tables) ≡ cond (isOpen unopened) yes (refused (number Settings))
+unfolding auditFinding findingOf firstOf settingsHold isOpen headOf
+unopened-audited l = refl
+
+simulation-audited : (k : Expected) (w : World) → Simulation k w
+    → auditFinding (w .head) (w .lent .tables) ≡ cond (isOpen (k .reference)) yes (refused (number Settings))
+simulation-audited =
+    simulation-by (λ k w. auditFinding (w .head) (w .lent .tables) ≡ cond (isOpen (k .reference)) yes (refused (number Settings)))
+    unopened-audited
+    (λ s l f.
+    simulation-passes (referenceWith s l) (bookWith s l) (simulation s l f) (f .settings)
+    ∙ ap (λ (b : Bool). cond b yes (refused (number Settings))) (sym (f .settings)))
 
 -- calls that were made from a head of zeros on anything lent refine the reference model
 pub calls-refine : (cs : List Lending) (l : Lent) (ss : List Seen) (end : World) → AllMade cs (worldFirst l) ss end → Refines cs l ss end
@@ -63,9 +102,18 @@ calls-refine cs l ss end m =
       pair-holds-past = λ k. holds k OfPair;
       due-joins = λ i j p due h closed. due-row-joins cs l i j h closed p due;
       due-not-before = λ i j p due h closed. due-row-not-before cs l i j h closed p;
-      due-space = due-space cs l;
-      passes-audit = simulation-passes (expectedAtEnd cs l) (worldAtEnd cs l) j;
+      due-space = λ i j h opened closed. due-space cs l i j h closed opened;
+      preview-is-quote = λ x o quote preview q p. as-quoted x o (runs bookStep cs (worldFirst l) .1) quote preview q p;
+      audit-says = audits;
     }
   where
+    audits : (k : ℕ)
+        → auditFinding (lastHead (take k cs) (take k (runs bookStep cs (worldFirst l) .0)) (freshHead 0 0 0))
+        (lastLent (take k (runs bookStep cs (worldFirst l) .0)) l .tables)
+        ≡ cond (isOpen (referenceAtEnd (take k cs) l)) yes (refused (number Settings))
+    audits k =
+        rw (← (first-seen bookStep k cs (worldFirst l)), ← (head-seen (take k cs) (worldFirst l)), ← (lent-seen (take k cs) (worldFirst l)))
+        (simulation-audited (expectedAtEnd (take k cs) l) (worldAtEnd (take k cs) l) (replay-ends (take k cs) l))
+
     holds : (k : ℕ) (f : Follower) → watcher f (take k cs) (take k (runs bookStep cs (worldFirst l) .0)) Nothing ≡ heldBy f (referenceAtEnd (take k cs) l)
     holds k f = ap (λ (seen : List Seen). watcher f (take k cs) seen Nothing) (sym (first-seen bookStep k cs (worldFirst l))) ∙ watcher-holds f (take k cs) l

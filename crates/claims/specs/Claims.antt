@@ -2,22 +2,25 @@
 use mathlib.Core.Path.{_≡_}
 use mathlib.Core.Logic.{_↔_}
 use Prim.Native.Nat.{ℕ, _+_, _-_, _≤_, _<_}
-use mathlib.Core.Bool.{Bool, true, false, _&&_, cond}
+use mathlib.Core.Bool.{Bool, true, false, _&&_, _||_, not, cond}
 use mathlib.Core.List.{List, [], _∷_, map, List·Memᴰ}
-use lib.Dec.{eqb}
-use lib.ListN.{length, getD, take, drop}
+use lib.Dec.{leb, eqb}
+use lib.ListN.{length, take, drop}
 use Rattle.head.specs.declared.Head.{Head}
 use Rattle.head.specs.declared.Desk.{Desk}
 use Rattle.replies.specs.declared.Reply.{Reply}
 use Rattle.replies.specs.declared.Effect.{Effect}
 use Rattle.head.specs.Heads.{freshHead, lastPosition}
-use Rattle.replies.specs.Replies.{outcome, yes}
+use Rattle.refusals.specs.declared.Refusal.the-variants.{Settings}
+use Rattle.refusals.specs.Refusals.{number}
+use Rattle.replies.specs.Replies.{outcome, yes, refused}
 use Rattle.model.specs.Rows.{Row, Tables, joinsAfter}
+use Rattle.model.specs.Changes.{changeRoom}
 use Rattle.model.specs.Reference.{Reference, newest, skylineOf, pastOf, dueOf, headOf, isOpen, withQuotes}
 use Rattle.model.specs.Calls.{Call, Open, Quote, Look, Watch, End, Past, Pair, Unpair, Due, Preview, Outputs, Lending, Lent, Seen, World, headAfter, worldAfter, shown, expectedStep, runs, expectedFirst, expectedAtEnd, referenceAtEnd, positionsIn, livePositionsIn}
 use Rattle.model.specs.Promises.{world, Opened, Quoted, Looked, PastLooked, Watched, Ended, Paired, Unpaired, DueLooked, Previewed}
 use Rattle.watcher.specs.Watcher.{Nothing, OfSize, OfPair, watcher, heldBy}
-use Rattle.audit_model.specs.Audit.{auditFinding, plays}
+use Rattle.audit_model.specs.Audit.{auditFinding}
 
 -- what is seen of a call that left this reply, these outputs, these tables and these watches
 abbrev pub seen : Reply → Outputs → Tables → List ℕ → Seen
@@ -63,6 +66,19 @@ lastHead [] ss h = h
 lastHead (c ∷ cs) [] h = h
 lastHead (c ∷ cs) (s ∷ ss) h = lastHead cs ss (headAfter (c .call) (s .outcome) h)
 
+-- what is lent after the last call, or this where there was none
+unfoldable pub lastLent : List Seen → Lent → Lent
+lastLent [] l = l
+lastLent (s ∷ ss) l = lastLent ss (s .lent)
+
+-- what is seen of a preview, by what is seen of the quote on the same book: its answer, its count of bytes, every byte of its output, and
+-- the live and the held rows of the head that it hands back
+pub record AsQuoted (quote preview : Seen) : Type 0 where
+  pub number : preview .outcome .number ≡ quote .outcome .number
+  pub count : preview .outcome .count ≡ quote .outcome .count
+  pub bytes : preview .outputs .bytes ≡ quote .outputs .bytes
+  pub counts : preview .counts ≡ quote .outcome .head .live ∷ quote .outcome .head .held ∷ []
+
 -- the call is a quote
 unfoldable pub isQuote : Call → Bool
 isQuote (Open d N directions) = false
@@ -95,6 +111,29 @@ acceptedIn sort [] ss = 0
 acceptedIn sort (c ∷ cs) [] = 0
 acceptedIn sort (c ∷ cs) (s ∷ ss) = cond (sort (c .call) && eqb (s .outcome .number) 0) 1 0 + acceptedIn sort cs ss
 
+-- how many calls are of this sort
+unfoldable pub countIn : (Call → Bool) → List Lending → ℕ
+countIn sort [] = 0
+countIn sort (c ∷ cs) = cond (sort (c .call)) 1 0 + countIn sort cs
+
+-- a call that is a quote has d columns
+unfoldable pub wideQuote : ℕ → Call → Bool
+wideQuote d (Open d' N directions) = true
+wideQuote d (Quote x) = eqb (length x) d
+wideQuote d (Look n) = true
+wideQuote d (Watch desk n) = true
+wideQuote d (End desk n) = true
+wideQuote d (Past n1 n2) = true
+wideQuote d (Pair n1 n2) = true
+wideQuote d Unpair = true
+wideQuote d Due = true
+wideQuote d (Preview x) = true
+
+-- every quote of a list has d columns, and an output that always suffices
+unfoldable pub fitQuotes : ℕ → List Lending → Bool
+fitQuotes d [] = true
+fitQuotes d (c ∷ cs) = (not (isQuote (c .call)) || wideQuote d (c .call) && leb changeRoom (length (c .outputs .bytes))) && fitQuotes d cs
+
 -- those behind the first i, of the first j
 abbrev pub stretch : {A : Type 0} → ℕ → ℕ → List A → List A
 stretch i j xs = drop i (take j xs)
@@ -106,6 +145,12 @@ IsDue s p = List·Memᴰ p (map Row.position (dueOf s))
 -- after how many more quotes the row at position p joins the past list of the pair that is watched
 abbrev pub dueAfter : Reference → ℕ → ℕ
 dueAfter s p = joinsAfter (newest s) (s .n1) p
+
+-- position p is the past list with n1 and n2 at its own place, counted back from the newest: an n from 1 to N
+pub record ListedAlone (s : Reference) (p : ℕ) : Type 0 where
+  pub some : 1 ≤ newest s + 1 - p
+  pub most : newest s + 1 - p ≤ s .capacity
+  pub alone : pastOf s (newest s + 1 - p) (newest s + 1 - p) ≡ p ∷ []
 
 -- all that demand 3 says of a list of calls from a head of zeros on anything lent, of what was seen after each, and of the book at the end
 pub record Refines (cs : List Lending) (l : Lent) (ss : List Seen) (end : World) : Type 0 where
@@ -126,9 +171,8 @@ pub record Refines (cs : List Lending) (l : Lent) (ss : List Seen) (end : World)
   -- one without a live row is listed by no n up to N, then or after any further quotes
   pub retired-never-listed : (more : List (List ℕ)) (p n : ℕ) → p ≤ newest (referenceAtEnd cs l) → n ≤ referenceAtEnd cs l .capacity
       → (List·Memᴰ p (livePositionsIn end) → ⊥) → List·Memᴰ p (skylineOf (withQuotes (referenceAtEnd cs l) more) n) → ⊥
-  -- every position held at the end is the past list with n1 and n2 at its own place
-  pub held-listed-alone : (p : ℕ) → List·Memᴰ p (positionsIn end)
-      → pastOf (referenceAtEnd cs l) (newest (referenceAtEnd cs l) + 1 - p) (newest (referenceAtEnd cs l) + 1 - p) ≡ p ∷ []
+  -- every position held at the end is the past list with n1 and n2 at its own place, an n from 1 to N
+  pub held-listed-alone : (p : ℕ) → List·Memᴰ p (positionsIn end) → ListedAlone (referenceAtEnd cs l) p
   -- a position has a row at the end, live or retired, exactly if some n1 and n2 with 1 ≤ n1 ≤ n2 ≤ N have it on their past list
   pub held-iff-past : (p : ℕ)
       → List·Memᴰ p (positionsIn end) ↔ ((n1 : ℕ) × (n2 : ℕ) × (1 ≤ n1) × (n1 ≤ n2) × (n2 ≤ referenceAtEnd cs l .capacity) × List·Memᴰ p (pastOf (referenceAtEnd cs l) n1 n2))
@@ -147,9 +191,17 @@ pub record Refines (cs : List Lending) (l : Lent) (ss : List Seen) (end : World)
       → acceptedIn isOpening (stretch i j cs) (stretch i j ss) ≡ 0
       → acceptedIn isQuote (stretch i j cs) (stretch i j ss) < dueAfter (referenceAtEnd (take i cs) l) p
       → List·Memᴰ p (pastOf (referenceAtEnd (take j cs) l) (referenceAtEnd (take i cs) l .n1) (referenceAtEnd (take i cs) l .n2)) → ⊥
-  -- once an opening was accepted any further quotes of d columns are accepted while the tape has space for them
-  pub due-space : (more : List (List ℕ)) → isOpen (referenceAtEnd cs l) ≡ true
-      → ((k : ℕ) → k < length more → length (getD more k []) ≡ referenceAtEnd cs l .dimensions)
-      → newest (referenceAtEnd cs l) + length more ≤ lastPosition → plays more (referenceAtEnd cs l) ≡ withQuotes (referenceAtEnd cs l) more
-  -- once an opening was accepted the book passes the audit
-  pub passes-audit : isOpen (referenceAtEnd cs l) ≡ true → auditFinding (end .head) (end .lent .tables) ≡ yes
+  -- if the tape has space for them the quotes of a stretch are accepted, each with d columns and an output that always suffices, once an
+  -- opening was accepted and while no other one is
+  pub due-space : (i j : ℕ) → i ≤ j → isOpen (referenceAtEnd (take i cs) l) ≡ true
+      → acceptedIn isOpening (stretch i j cs) (stretch i j ss) ≡ 0 → fitQuotes (referenceAtEnd (take i cs) l .dimensions) (stretch i j cs) ≡ true
+      → newest (referenceAtEnd (take i cs) l) + countIn isQuote (stretch i j cs) ≤ lastPosition
+      → acceptedIn isQuote (stretch i j cs) (stretch i j ss) ≡ countIn isQuote (stretch i j cs)
+  -- a preview and a quote of the same columns that are made on the book at the end, each with the same outputs, show the same
+  pub preview-is-quote : (x : List ℕ) (o : Outputs) (quote preview : Seen) → Made (Quote x) o end quote → Made (Preview x) o end preview
+      → AsQuoted quote preview
+  -- after each call the book, with the head and the tables that were seen, passes the audit once an opening was accepted; before that its head
+  -- of zeros is refused with 3
+  pub audit-says : (k : ℕ)
+      → auditFinding (lastHead (take k cs) (take k ss) (freshHead 0 0 0)) (lastLent (take k ss) l .tables)
+      ≡ cond (isOpen (referenceAtEnd (take k cs) l)) yes (refused (number Settings))

@@ -1,25 +1,24 @@
--- One desk alone: what concerns a desk of the reference model, and what it sees of a call by that and by whether the call gets 9.
+-- One desk alone, with the pair or without it: what of the reference model is its concern, and what it sees of a call by that and by whether
+-- the call gets 9.
 use mathlib.Core.Path.{_≡_, refl, sym, ap, ap₂, _∙_}
 use mathlib.Core.Logic.{_⊎_, inl, inr}
-use Prim.Native.Nat.{ℕ, zero, suc, _≤_}
+use Prim.Native.Nat.{ℕ, zero, suc}
 use native.Mathlib.Nat.{le-refl}
-use mathlib.Core.Bool.{Bool, true, false, _&&_, _||_, not, cond}
+use mathlib.Core.Bool.{Bool, true, false, not, cond}
 use mathlib.Core.List.{List, [], _∷_, _++_, map}
 use lib.Dec.{ltb, leb, eqb}
 use lib.ListN.{length, drop}
 use lib.Seq.{take-append-seam}
-use borrow.Author.Tests.{eqb-true, eq-eqb}
-use Rattle.lists.specs.Lists.{keep, filter, any, flat, contains, rising, insert, without, laid}
+use borrow.Author.Tests.{eq-eqb}
+use Rattle.lists.specs.Lists.{keep, filter, any, flat, contains, insert, without, laid}
 use Rattle.lists.proofs.Booleans.{clash, or-left, or-right}
-use Rattle.lists.proofs.Filters.{filter-append, filter-filter}
-use Rattle.lists.proofs.Members.{filter-same-mem, contains-filter}
-use Rattle.lists.proofs.Rising.{rising-filter, rising-ext, contains-insert, rising-insert}
+use Rattle.lists.proofs.Filters.{filter-append}
 use Rattle.head.specs.declared.Desk.{Desk}
 use Rattle.head.specs.declared.Desk.the-variants.{One, Two}
 use Rattle.refusals.specs.declared.Refusal.the-variants.{Settings, ColumnCount, WindowSize, TapeFull, AlreadyWatched, NoFreeRecord, NotWatched, ShortLoan, ShortOutput, WindowOrder}
 use Rattle.refusals.specs.Refusals.{number, granted}
 use Rattle.head.specs.Heads.{settingsHold, lastPosition}
-use Rattle.head.specs.Desks.{deskIn, sizeIn, watchOf}
+use Rattle.head.specs.Desks.{deskNumber, deskIn, sizeIn, watchOf}
 use Rattle.frames.specs.declared.Message.{Message}
 use Rattle.frames.specs.Frames.{messagesFrom}
 use Rattle.model.specs.Changes.{leaveKindOf, joinKindOf, leave, join, pairLeave, pairJoin, missing, changesBy, changes, allChanges, pairChanges, frames, changeRoom}
@@ -27,20 +26,20 @@ use Rattle.model.specs.Shares.{ofDesk}
 use Rattle.model.specs.Reference.{Reference, Lengths, newest, skylineOf, pastOf, paired, pairOf, isOpen, outside, outsidePair, withQuote, withWatched, withPairOf, opening, tooShort}
 use Rattle.model.specs.Book.{isWatch}
 use Rattle.model.specs.Calls.{Call, Open, Quote, Look, Watch, End, Past, Pair, Unpair, Due, Preview, Seen}
-use Rattle.isolation.specs.Isolation.{hasPair, isChangeOf, View, viewOf}
+use Rattle.isolation.specs.Isolation.{Concern, isChangeOf, View, writesFrames, wrote, changesOf, viewOf}
 use Rattle.model.proofs.Desks.{watch-desk}
 use Rattle.watcher.proofs.ReadBack.{Sent, read-back}
 
--- what of the reference model concerns a desk: settings, quotes, its own watches, and the pair if the pair is the desk's
-abbrev pub own : Desk → Reference → Reference
-own desk s = record {
+-- what of the reference model is of a concern: settings, quotes, the desk's own watches, and the pair where it is counted in
+abbrev pub own : Concern → Reference → Reference
+own concern s = record {
   dimensions = s .dimensions;
   capacity = s .capacity;
   directions = s .directions;
   quotes = s .quotes;
-  watched = filter (ofDesk desk) (s .watched);
-  n1 = cond (hasPair desk) (s .n1) 0;
-  n2 = cond (hasPair desk) (s .n2) 0;
+  watched = filter (ofDesk (concern .desk)) (s .watched);
+  n1 = cond (concern .pair) (s .n1) 0;
+  n2 = cond (concern .pair) (s .n2) 0;
 }
 
 -- ---- a call by what concerns a desk
@@ -93,112 +92,68 @@ leaves Unpair s = withPairOf s 0 0
 leaves Due s = s
 leaves (Preview x) s = s
 
--- what a desk sees of a call with this answer that writes these messages if it is accepted
-abbrev pub shows : Desk → ℕ → List Message → View
-shows desk a ms = record { number = a; changes = granted a (filter (isChangeOf desk) ms) [] }
-
--- ---- a desk's watches among all
-
--- a watch of the desk more
-pub own-insert : (desk : Desk) (lo hi w : ℕ) (ws : List ℕ) → ofDesk desk w ≡ true → lo ≤ w → w ≤ hi → contains w ws ≡ false → rising lo hi ws ≡ true
-    → filter (ofDesk desk) (insert w ws) ≡ insert w (filter (ofDesk desk) ws)
-own-insert desk lo hi w ws mine low high free risen =
-    rising-ext lo hi (filter f (insert w ws)) (insert w (filter f ws))
-    (rising-filter f lo hi (insert w ws) (rising-insert lo hi w ws low high free risen))
-    (rising-insert lo hi w (filter f ws) low high (contains-filter f w ws ∙ rw free) (rising-filter f lo hi ws risen))
-    (λ p. contains-filter f p (insert w ws) ∙ rw (contains-insert p w ws, contains-insert p w (filter f ws), contains-filter f p ws) (go p (eqb p w) refl (contains p ws)))
-  where
-    f : ℕ → Bool
-    f = ofDesk desk
-
-    go : (p : ℕ) (b : Bool) → eqb p w ≡ b → (c : Bool) → (b || c) && f p ≡ b || (c && f p)
-    go p true e c = rw (eqb-true p w e) mine
-    go p false e c = refl
-
--- a watch of another desk more
-pub other-insert : (desk : Desk) (w : ℕ) (ws : List ℕ) → ofDesk desk w ≡ false → filter (ofDesk desk) (insert w ws) ≡ filter (ofDesk desk) ws
-unfolding insert filter
-other-insert desk w [] e = rw e
-other-insert desk w (v ∷ vs) e = go (ltb w v) (other-insert desk w vs e)
-  where
-    f : ℕ → Bool
-    f = ofDesk desk
-
-    go : (b : Bool) → filter f (insert w vs) ≡ filter f vs → filter f (cond b (w ∷ v ∷ vs) (v ∷ insert w vs)) ≡ keep (f v) v (filter f vs)
-    go true r = rw e
-    go false r = ap (λ (l : List ℕ). keep (f v) v l) r
-
--- without a watch of another desk
-pub other-without : (desk : Desk) (w : ℕ) (ws : List ℕ) → ofDesk desk w ≡ false → filter (ofDesk desk) (without w ws) ≡ filter (ofDesk desk) ws
-unfolding without
-other-without desk w ws e =
-    filter-filter f (λ v. not (eqb w v)) ws ∙ filter-same-mem (λ v. not (eqb w v) && f v) f ws (λ v m. go v (eqb w v) refl)
-  where
-    f : ℕ → Bool
-    f = ofDesk desk
-
-    go : (v : ℕ) (b : Bool) → eqb w v ≡ b → not b && f v ≡ f v
-    go v true s = sym (rw (← (eqb-true w v s)) e)
-    go v false s = refl
+-- what a concern sees of a call with this answer that writes these messages if it is accepted
+abbrev pub shows : Concern → ℕ → List Message → View
+shows concern a ms = record { number = a; changes = granted a (filter (isChangeOf concern) ms) [] }
 
 -- ---- a desk's changes among all
 
--- messages that are none of the desk's changes
-none-own : (desk : Desk) (message : ℕ → Message) → ((p : ℕ) → isChangeOf desk (message p) ≡ false) → (l : List ℕ) → filter (isChangeOf desk) (map message l) ≡ []
+-- messages that are none of the concern's changes
+pub none-own : (concern : Concern) (message : ℕ → Message) → ((p : ℕ) → isChangeOf concern (message p) ≡ false)
+    → (l : List ℕ) → filter (isChangeOf concern) (map message l) ≡ []
 unfolding filter
-none-own desk message e [] = refl
-none-own desk message e (p ∷ l) = rw (e p) (none-own desk message e l)
+none-own concern message e [] = refl
+none-own concern message e (p ∷ l) = rw (e p) (none-own concern message e l)
 
-changes-none : (desk : Desk) (leaves joins : ℕ → Message) → ((p : ℕ) → isChangeOf desk (leaves p) ≡ false) → ((p : ℕ) → isChangeOf desk (joins p) ≡ false)
-    → (before after : List ℕ) → filter (isChangeOf desk) (changesBy leaves joins before after) ≡ []
+changes-none : (concern : Concern) (leaves joins : ℕ → Message) → ((p : ℕ) → isChangeOf concern (leaves p) ≡ false)
+    → ((p : ℕ) → isChangeOf concern (joins p) ≡ false)
+    → (before after : List ℕ) → filter (isChangeOf concern) (changesBy leaves joins before after) ≡ []
 unfolding changesBy
-changes-none desk leaves joins e f before after =
+changes-none concern leaves joins e f before after =
     rw (
-      filter-append (isChangeOf desk) (map leaves (missing before after)) (map joins (missing after before)),
-      none-own desk leaves e (missing before after),
-      none-own desk joins f (missing after before),
+      filter-append (isChangeOf concern) (map leaves (missing before after)) (map joins (missing after before)),
+      none-own concern leaves e (missing before after),
+      none-own concern joins f (missing after before),
     )
 
--- the changes of another desk's watch are none of the desk's
-other-changes : (desk : Desk) (N w : ℕ) → isWatch N w ≡ true → ofDesk desk w ≡ false → (p : ℕ)
-    → (isChangeOf desk (leave w p) ≡ false) × (isChangeOf desk (join w p) ≡ false)
+-- the changes of another desk's watch are none of the concern's
+pub other-changes : (concern : Concern) (N w : ℕ) → isWatch N w ≡ true → ofDesk (concern .desk) w ≡ false → (p : ℕ)
+    → (isChangeOf concern (leave w p) ≡ false) × (isChangeOf concern (join w p) ≡ false)
 unfolding isChangeOf leaveKindOf joinKindOf ofDesk
-other-changes One N w fine e p = go (watch-desk N w fine)
+other-changes concern N w fine e p = by (concern .desk) refl e (watch-desk N w fine)
   where
-    go : (deskIn w ≡ 1) ⊎ (deskIn w ≡ 2) → (isChangeOf One (leave w p) ≡ false) × (isChangeOf One (join w p) ≡ false)
-    go (inl d) = absurd (clash (eqb (deskIn w) 1) (rw d) e)
-    go (inr d) = rw d (refl, refl)
-other-changes Two N w fine e p = go (watch-desk N w fine)
-  where
-    go : (deskIn w ≡ 1) ⊎ (deskIn w ≡ 2) → (isChangeOf Two (leave w p) ≡ false) × (isChangeOf Two (join w p) ≡ false)
-    go (inl d) = rw d (refl, refl)
-    go (inr d) = absurd (clash (eqb (deskIn w) 2) (rw d) e)
+    by : (desk : Desk) → concern .desk ≡ desk → eqb (deskIn w) (deskNumber desk) ≡ false → (deskIn w ≡ 1) ⊎ (deskIn w ≡ 2)
+        → (isChangeOf concern (leave w p) ≡ false) × (isChangeOf concern (join w p) ≡ false)
+    by One c e (inl d) = absurd (clash (eqb (deskIn w) 1) (rw d) e)
+    by One c e (inr d) = rw (c, d) (refl, refl)
+    by Two c e (inl d) = rw (c, d) (refl, refl)
+    by Two c e (inr d) = absurd (clash (eqb (deskIn w) 2) (rw d) e)
 
-other-watch : (desk : Desk) (N w : ℕ) → isWatch N w ≡ true → ofDesk desk w ≡ false → (before after : List ℕ)
-    → filter (isChangeOf desk) (changes w before after) ≡ []
+other-watch : (concern : Concern) (N w : ℕ) → isWatch N w ≡ true → ofDesk (concern .desk) w ≡ false → (before after : List ℕ)
+    → filter (isChangeOf concern) (changes w before after) ≡ []
 unfolding changes
-other-watch desk N w fine e =
-    changes-none desk (leave w) (join w) (λ p. other-changes desk N w fine e p .0) (λ p. other-changes desk N w fine e p .1)
+other-watch concern N w fine e =
+    changes-none concern (leave w) (join w) (λ p. other-changes concern N w fine e p .0) (λ p. other-changes concern N w fine e p .1)
 
--- the desk's changes of all watches are those of its own
-watches-own : (desk : Desk) (N : ℕ) (ws : List ℕ) (before after : ℕ → List ℕ) → ((w : ℕ) → contains w ws ≡ true → isWatch N w ≡ true)
-    → filter (isChangeOf desk) (allChanges ws before after) ≡ filter (isChangeOf desk) (allChanges (filter (ofDesk desk) ws) before after)
+-- the concern's changes of all watches are those of its own
+watches-own : (concern : Concern) (N : ℕ) (ws : List ℕ) (before after : ℕ → List ℕ) → ((w : ℕ) → contains w ws ≡ true → isWatch N w ≡ true)
+    → filter (isChangeOf concern) (allChanges ws before after) ≡ filter (isChangeOf concern) (allChanges (filter (ofDesk (concern .desk)) ws) before after)
 unfolding allChanges flat filter contains any
-watches-own desk N [] before after each = refl
-watches-own desk N (w ∷ ws) before after each =
+watches-own concern N [] before after each = refl
+watches-own concern N (w ∷ ws) before after each =
     filter-append mine (changes w (before (sizeIn w)) (after (sizeIn w))) (allChanges ws before after)
-    ∙ go (ofDesk desk w) refl (watches-own desk N ws before after (λ v t. each v (or-right (eqb v w) (contains v ws) t)))
+    ∙ go (ofDesk (concern .desk) w) refl (watches-own concern N ws before after (λ v t. each v (or-right (eqb v w) (contains v ws) t)))
   where
     mine : Message → Bool
-    mine = isChangeOf desk
+    mine = isChangeOf concern
 
     others : List ℕ
-    others = filter (ofDesk desk) ws
+    others = filter (ofDesk (concern .desk)) ws
 
-    none : ofDesk desk w ≡ false → filter mine (changes w (before (sizeIn w)) (after (sizeIn w))) ≡ []
-    none e = other-watch desk N w (each w (or-left (eqb w w) (contains w ws) (eq-eqb w w refl))) e (before (sizeIn w)) (after (sizeIn w))
+    none : ofDesk (concern .desk) w ≡ false → filter mine (changes w (before (sizeIn w)) (after (sizeIn w))) ≡ []
+    none e = other-watch concern N w (each w (or-left (eqb w w) (contains w ws) (eq-eqb w w refl))) e (before (sizeIn w)) (after (sizeIn w))
 
-    go : (b : Bool) → ofDesk desk w ≡ b → filter mine (allChanges ws before after) ≡ filter mine (allChanges others before after)
+    go : (b : Bool) → ofDesk (concern .desk) w ≡ b → filter mine (allChanges ws before after) ≡ filter mine (allChanges others before after)
         → filter mine (changes w (before (sizeIn w)) (after (sizeIn w))) ++ filter mine (allChanges ws before after)
         ≡ filter mine (allChanges (keep b w others) before after)
     go true e r =
@@ -206,33 +161,86 @@ watches-own desk N (w ∷ ws) before after each =
         ∙ sym (filter-append mine (changes w (before (sizeIn w)) (after (sizeIn w))) (allChanges others before after))
     go false e r = rw (none e) r
 
+-- a change of the pair is of the concern exactly if the pair is counted in
+pub pair-change : (concern : Concern) → concern .pair ≡ false → (p : ℕ) → (isChangeOf concern (pairLeave p) ≡ false) × (isChangeOf concern (pairJoin p) ≡ false)
+unfolding isChangeOf
+pair-change concern e p = rw e (refl, refl)
+
 -- so are those of the pair
-pair-own : (desk : Desk) (s next : Reference)
-    → filter (isChangeOf desk) (pairChanges (pairOf s) (pairOf next)) ≡ filter (isChangeOf desk) (pairChanges (pairOf (own desk s)) (pairOf (own desk next)))
-unfolding pairChanges pairOf paired pastOf hasPair isChangeOf
-pair-own One s next = refl
-pair-own Two s next =
-    changes-none Two pairLeave pairJoin (λ p. refl) (λ p. refl) (pairOf s) (pairOf next)
-    ∙ sym (changes-none Two pairLeave pairJoin (λ p. refl) (λ p. refl) (pairOf (own Two s)) (pairOf (own Two next)))
+pair-own : (concern : Concern) (s next : Reference)
+    → filter (isChangeOf concern) (pairChanges (pairOf s) (pairOf next))
+    ≡ filter (isChangeOf concern) (pairChanges (pairOf (own concern s)) (pairOf (own concern next)))
+unfolding pairChanges pairOf paired pastOf
+pair-own concern s next = go (concern .pair) refl
+  where
+    -- the changes of any two lists are none of the concern's where the pair is not counted in
+    none : concern .pair ≡ false → (before after : List ℕ) → filter (isChangeOf concern) (changesBy pairLeave pairJoin before after) ≡ []
+    none e = changes-none concern pairLeave pairJoin (λ p. pair-change concern e p .0) (λ p. pair-change concern e p .1)
+
+    -- the past list of the pair, counted in or not
+    counted : Bool → Reference → List ℕ
+    counted b t = pairOf (record {
+      dimensions = t .dimensions;
+      capacity = t .capacity;
+      directions = t .directions;
+      quotes = t .quotes;
+      watched = filter (ofDesk (concern .desk)) (t .watched);
+      n1 = cond b (t .n1) 0;
+      n2 = cond b (t .n2) 0;
+    })
+
+    go : (b : Bool) → concern .pair ≡ b
+        → filter (isChangeOf concern) (pairChanges (pairOf s) (pairOf next)) ≡ filter (isChangeOf concern) (pairChanges (counted b s) (counted b next))
+    go true e = refl
+    go false e = none e (pairOf s) (pairOf next) ∙ sym (none e (counted false s) (counted false next))
 
 -- and those of a quote
-pub quote-own : (desk : Desk) (N : ℕ) (x : List ℕ) (s : Reference) → ((w : ℕ) → contains w (s .watched) ≡ true → isWatch N w ≡ true)
-    → filter (isChangeOf desk) (messages (Quote x) s) ≡ filter (isChangeOf desk) (messages (Quote x) (own desk s))
+pub quote-own : (concern : Concern) (N : ℕ) (x : List ℕ) (s : Reference) → ((w : ℕ) → contains w (s .watched) ≡ true → isWatch N w ≡ true)
+    → filter (isChangeOf concern) (messages (Quote x) s) ≡ filter (isChangeOf concern) (messages (Quote x) (own concern s))
 unfolding skylineOf withQuote
-quote-own desk N x s each =
+quote-own concern N x s each =
     let next = withQuote s x in
-    filter-append (isChangeOf desk) (allChanges (s .watched) (skylineOf s) (skylineOf next)) (pairChanges (pairOf s) (pairOf next))
-    ∙ ap₂ {C = List Message} (λ (ms ns : List Message). ms ++ ns) (watches-own desk N (s .watched) (skylineOf s) (skylineOf next) each) (pair-own desk s next)
-    ∙ sym (filter-append (isChangeOf desk) (allChanges (filter (ofDesk desk) (s .watched)) (skylineOf s) (skylineOf next))
-    (pairChanges (pairOf (own desk s)) (pairOf (own desk next))))
+    filter-append (isChangeOf concern) (allChanges (s .watched) (skylineOf s) (skylineOf next)) (pairChanges (pairOf s) (pairOf next))
+    ∙ ap₂ {C = List Message} (λ (ms ns : List Message). ms ++ ns) (watches-own concern N (s .watched) (skylineOf s) (skylineOf next) each)
+    (pair-own concern s next)
+    ∙ sym (filter-append (isChangeOf concern) (allChanges (filter (ofDesk (concern .desk)) (s .watched)) (skylineOf s) (skylineOf next))
+    (pairChanges (pairOf (own concern s)) (pairOf (own concern next))))
 
--- ---- what a desk sees
+-- ---- what a concern sees
+
+-- nothing is granted of nothing
+pub granted-none : {A : Type 0} (a : ℕ) → granted {A = List A} a [] [] ≡ []
+unfolding granted
+granted-none zero = refl
+granted-none (suc k) = refl
 
 -- frames at the start of an output are read as their messages
-pub view-read : (desk : Desk) (ms : List Message) (a : ℕ) (out : List ℕ) (seen : Seen) → (a ≡ 0 → Sent ms)
+pub changes-read : (concern : Concern) (c : Call) (ms : List Message) (a : ℕ) (out : List ℕ) (seen : Seen) → writesFrames c ≡ true → (a ≡ 0 → Sent ms)
+    → seen .outcome .count ≡ granted a (length (frames ms)) 0 → seen .outputs .bytes ≡ laid (granted a (frames ms) []) out
+    → changesOf concern c seen ≡ granted a (filter (isChangeOf concern) ms) []
+unfolding changesOf wrote granted laid messagesFrom filter
+changes-read concern c ms zero out seen w sent e o =
+    rw (w, e, o, take-append-seam (frames ms) (drop (length (frames ms)) out), read-back ms (sent refl) [] (length (frames ms)) (le-refl (length (frames ms))))
+changes-read concern c ms (suc k) out seen w sent e o = rw (w, e)
+
+-- a call that writes no frames shows no change
+pub changes-unread : (concern : Concern) (c : Call) (seen : Seen) → writesFrames c ≡ false → changesOf concern c seen ≡ []
+unfolding changesOf wrote messagesFrom filter
+changes-unread concern c seen w = rw w
+
+-- what is seen of a call with this answer and these changes
+abbrev viewed : ℕ → List Message → View
+viewed a ms = record { number = a; changes = ms }
+
+-- so a call is viewed by its answer and its messages
+pub view-read : (concern : Concern) (c : Call) (ms : List Message) (a : ℕ) (out : List ℕ) (seen : Seen) → writesFrames c ≡ true → (a ≡ 0 → Sent ms)
     → seen .outcome .number ≡ a → seen .outcome .count ≡ granted a (length (frames ms)) 0 → seen .outputs .bytes ≡ laid (granted a (frames ms) []) out
-    → viewOf desk seen ≡ shows desk a ms
-unfolding viewOf granted laid messagesFrom filter
-view-read desk ms zero out seen sent e c o =
-    rw (e, c, o, take-append-seam (frames ms) (drop (length (frames ms)) out), read-back ms (sent refl) [] (length (frames ms)) (le-refl (length (frames ms))))
-view-read desk ms (suc k) out seen sent e c o = rw (e, c)
+    → viewOf concern c seen ≡ shows concern a ms
+unfolding viewOf
+view-read concern c ms a out seen w sent e n o = ap₂ viewed e (changes-read concern c ms a out seen w sent n o)
+
+-- or by its answer alone
+pub view-unread : (concern : Concern) (c : Call) (a : ℕ) (seen : Seen) → writesFrames c ≡ false → seen .outcome .number ≡ a
+    → viewOf concern c seen ≡ shows concern a []
+unfolding viewOf filter
+view-unread concern c a seen w e = ap₂ viewed e (changes-unread concern c seen w ∙ sym (granted-none {A = Message} a))

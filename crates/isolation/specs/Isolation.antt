@@ -1,13 +1,12 @@
--- Two desks on one book (02, 6/13): which calls concern a desk, and what a desk sees of them.
+-- Two desks on one book (02, 6/13): which calls concern a desk, with the pair or without it, what it sees of them, and what two runs show it.
 use mathlib.Core.Path.{_≡_}
 use Prim.Native.Nat.{ℕ}
 use mathlib.Core.Bool.{Bool, true, false, _&&_, _||_, cond}
-use mathlib.Core.List.{List, [], _∷_}
+use mathlib.Core.List.{List, [], _∷_, _++_}
 use lib.Dec.{eqb}
 use lib.ListN.{length, take}
 use Rattle.lists.specs.Lists.{filter}
 use Rattle.head.specs.declared.Desk.{Desk}
-use Rattle.head.specs.declared.Desk.the-variants.{One, Two}
 use Rattle.refusals.specs.declared.Refusal.the-variants.{NoFreeRecord}
 use Rattle.refusals.specs.Refusals.{number}
 use Rattle.head.specs.Desks.{deskNumber}
@@ -17,67 +16,110 @@ use Rattle.frame_kinds.specs.Kinds.{pairLeaveKind, pairJoinKind}
 use Rattle.frames.specs.Frames.{messagesFrom}
 use Rattle.model.specs.Changes.{leaveKindOf, joinKindOf}
 use Rattle.model.specs.Reference.{Lengths}
-use Rattle.model.specs.Calls.{Call, Lending, Lent, Seen, lengthsOf}
+use Rattle.model.specs.Calls.{Call, Outputs, Lending, Lent, Seen, lengthsOf}
 
--- the pair belongs to this desk: to desk one
-unfoldable pub hasPair : Desk → Bool
-hasPair One = true
-hasPair Two = false
+-- whom a statement on isolation is about: a desk with its watches, and the watched pair too where it is counted among what is the desk's
+-- own (02: the pair belongs to desk one)
+pub record Concern : Type 0 where
+  pub desk : Desk
+  pub pair : Bool
 
 -- the desks are one
 unfoldable pub sameDesk : Desk → Desk → Bool
 sameDesk one other = eqb (deskNumber one) (deskNumber other)
 
--- a call concerns a desk: openings, quotes, its own watches and their ends, and the pair and its end if the pair is the desk's
-unfoldable pub concerns : Desk → Call → Bool
-concerns desk (Call.Open d N directions) = true
-concerns desk (Call.Quote x) = true
-concerns desk (Call.Look n) = false
-concerns desk (Call.Watch other n) = sameDesk desk other
-concerns desk (Call.End other n) = sameDesk desk other
-concerns desk (Call.Past n1 n2) = false
-concerns desk (Call.Pair n1 n2) = hasPair desk
-concerns desk Call.Unpair = hasPair desk
-concerns desk Call.Due = false
-concerns desk (Call.Preview x) = false
+-- a call is of this concern: openings, quotes, the desk's own watches and their ends, and the pair and its end where it is counted in
+unfoldable pub concerns : Concern → Call → Bool
+concerns concern (Call.Open d N directions) = true
+concerns concern (Call.Quote x) = true
+concerns concern (Call.Look n) = false
+concerns concern (Call.Watch other n) = sameDesk (concern .desk) other
+concerns concern (Call.End other n) = sameDesk (concern .desk) other
+concerns concern (Call.Past n1 n2) = false
+concerns concern (Call.Pair n1 n2) = concern .pair
+concerns concern Call.Unpair = concern .pair
+concerns concern Call.Due = false
+concerns concern (Call.Preview x) = false
 
--- a message is a change of a desk's: a leave or a join of its watches, and of the pair if the pair is the desk's
-unfoldable pub isChangeOf : Desk → Message → Bool
-isChangeOf desk (Message.Quote k) = false
-isChangeOf desk (Message.Sized k n) = false
-isChangeOf desk (Message.Change k n p) = eqb k (leaveKindOf (deskNumber desk)) || eqb k (joinKindOf (deskNumber desk))
-isChangeOf desk (Message.Pair k n1 n2) = false
-isChangeOf desk (Message.Bare k) = false
-isChangeOf desk (Message.Position k p) = hasPair desk && (eqb k pairLeaveKind || eqb k pairJoinKind)
-isChangeOf desk (Message.Open d N directions) = false
-isChangeOf desk Message.EndOfTape = false
-isChangeOf desk (Message.Refused k) = false
+-- a message is a change of its own: a leave or a join of the desk's watches, and of the pair where it is counted in
+unfoldable pub isChangeOf : Concern → Message → Bool
+isChangeOf concern (Message.Quote k) = false
+isChangeOf concern (Message.Sized k n) = false
+isChangeOf concern (Message.Change k n p) = eqb k (leaveKindOf (deskNumber (concern .desk))) || eqb k (joinKindOf (deskNumber (concern .desk)))
+isChangeOf concern (Message.Pair k n1 n2) = false
+isChangeOf concern (Message.Bare k) = false
+isChangeOf concern (Message.Position k p) = concern .pair && (eqb k pairLeaveKind || eqb k pairJoinKind)
+isChangeOf concern (Message.Open d N directions) = false
+isChangeOf concern Message.EndOfTape = false
+isChangeOf concern (Message.Refused k) = false
 
--- what a desk sees of a call: its answer, and the desk's changes among the frames that it wrote
+-- a call is lent an output for frames: a quote, the setting of a watch or of the pair, a preview
+unfoldable pub writesFrames : Call → Bool
+writesFrames (Call.Open d N directions) = false
+writesFrames (Call.Quote x) = true
+writesFrames (Call.Look n) = false
+writesFrames (Call.Watch desk n) = true
+writesFrames (Call.End desk n) = false
+writesFrames (Call.Past n1 n2) = false
+writesFrames (Call.Pair n1 n2) = true
+writesFrames Call.Unpair = false
+writesFrames Call.Due = false
+writesFrames (Call.Preview x) = true
+
+-- a call is a preview
+unfoldable pub isPreview : Call → Bool
+isPreview (Call.Open d N directions) = false
+isPreview (Call.Quote x) = false
+isPreview (Call.Look n) = false
+isPreview (Call.Watch desk n) = false
+isPreview (Call.End desk n) = false
+isPreview (Call.Past n1 n2) = false
+isPreview (Call.Pair n1 n2) = false
+isPreview Call.Unpair = false
+isPreview Call.Due = false
+isPreview (Call.Preview x) = true
+
+-- the bytes of the frames that a call wrote
+unfoldable pub wrote : Call → Seen → List ℕ
+wrote c seen = cond (writesFrames c) (take (seen .outcome .count) (seen .outputs .bytes)) []
+
+-- a concern's changes among the frames that a call wrote
+unfoldable pub changesOf : Concern → Call → Seen → List Message
+changesOf concern c seen = let bytes = wrote c seen in filter (isChangeOf concern) (messagesFrom (length bytes) bytes 0)
+
+-- what a concern sees of a call: the answer, and its changes among the frames that the call wrote
 pub record View : Type 0 where
   pub number : ℕ
   pub changes : List Message
 
--- what a desk sees of a call of which this was seen
-unfoldable pub viewOf : Desk → Seen → View
-viewOf desk seen =
-    let bytes = take (seen .outcome .count) (seen .outputs .bytes) in
-    record { number = seen .outcome .number; changes = filter (isChangeOf desk) (messagesFrom (length bytes) bytes 0) }
+-- what a concern sees of a call that left this to be seen
+unfoldable pub viewOf : Concern → Call → Seen → View
+viewOf concern c seen = record { number = seen .outcome .number; changes = changesOf concern c seen }
 
-module _ {A : Type 0} (desk : Desk) (of : Lending → Seen → A) where
-  -- something of each call that concerns a desk, by what was seen of it
+module _ {A : Type 0} (concern : Concern) (of : Lending → Seen → A) where
+  -- something of each call of the concern, by what was seen of it
   unfoldable pub ofConcerning : List Lending → List Seen → List A
   ofConcerning [] ss = []
   ofConcerning (c ∷ cs) [] = []
-  ofConcerning (c ∷ cs) (s ∷ ss) = cond (concerns desk (c .call)) (of c s ∷ ofConcerning cs ss) (ofConcerning cs ss)
+  ofConcerning (c ∷ cs) (s ∷ ss) = cond (concerns concern (c .call)) (of c s ∷ ofConcerning cs ss) (ofConcerning cs ss)
 
--- what a desk sees of the calls that concern it
-unfoldable pub views : Desk → List Lending → List Seen → List View
-views desk = ofConcerning desk (λ c s. viewOf desk s)
+-- what a concern sees of its calls
+unfoldable pub views : Concern → List Lending → List Seen → List View
+views concern = ofConcerning concern (λ c s. viewOf concern (c .call) s)
 
--- which of the calls that concern a desk got 9
-unfoldable pub nines : Desk → List Lending → List Seen → List Bool
-nines desk = ofConcerning desk (λ c s. eqb (s .outcome .number) (number NoFreeRecord))
+-- which of the calls of a concern got 9
+unfoldable pub nines : Concern → List Lending → List Seen → List Bool
+nines concern = ofConcerning concern (λ c s. eqb (s .outcome .number) (number NoFreeRecord))
+
+-- a concern's changes that a call issues: those among the frames that it wrote, and none of a preview (02: previews left out)
+unfoldable pub issued : Concern → Call → Seen → List Message
+issued concern c seen = cond (isPreview c) [] (changesOf concern c seen)
+
+-- a concern's changes among all that the calls of a list wrote, previews left out
+unfoldable pub changesIn : Concern → List Lending → List Seen → List Message
+changesIn concern [] ss = []
+changesIn concern (c ∷ cs) [] = []
+changesIn concern (c ∷ cs) (s ∷ ss) = issued concern (c .call) s ++ changesIn concern cs ss
 
 -- a call with the lengths of its outputs, whatever they held when they were lent
 pub record Asking : Type 0 where
@@ -85,19 +127,29 @@ pub record Asking : Type 0 where
   pub bytes : ℕ
   pub cells : ℕ
 
--- the calls that concern a desk, but for what their outputs held
-unfoldable pub concerning : Desk → List Lending → List Asking
-concerning desk [] = []
-concerning desk (c ∷ cs) =
+-- the calls of a concern, but for what their outputs held
+unfoldable pub concerning : Concern → List Lending → List Asking
+concerning concern [] = []
+concerning concern (c ∷ cs) =
     let one : Asking = record { call = c .call; bytes = length (c .outputs .bytes); cells = length (c .outputs .cells) } in
-    cond (concerns desk (c .call)) (one ∷ concerning desk cs) (concerning desk cs)
+    cond (concerns concern (c .call)) (one ∷ concerning concern cs) (concerning concern cs)
 
 -- how long everything lent is
 unfoldable pub lentLengths : Lent → Lengths
 lentLengths l = lengthsOf l (record { bytes = []; cells = [] })
 
--- two runs agree in what concerns a desk: as much was lent, the same calls that concern it were made, and the same of them got 9
-pub record SameConcern (desk : Desk) (cs cs' : List Lending) (l l' : Lent) (ss ss' : List Seen) : Type 0 where
+-- two runs agree in a concern: as much was lent, the same calls of it were made, and the same of them got 9
+pub record SameConcern (concern : Concern) (cs cs' : List Lending) (l l' : Lent) (ss ss' : List Seen) : Type 0 where
   pub lengths : lentLengths l ≡ lentLengths l'
-  pub calls : concerning desk cs ≡ concerning desk cs'
-  pub refused : nines desk cs ss ≡ nines desk cs' ss'
+  pub calls : concerning concern cs ≡ concerning concern cs'
+  pub refused : nines concern cs ss ≡ nines concern cs' ss'
+
+-- two runs show a concern the same: answers and changes of its calls, and its changes among all that was written
+pub record SameShown (concern : Concern) (cs cs' : List Lending) (ss ss' : List Seen) : Type 0 where
+  pub viewed : views concern cs ss ≡ views concern cs' ss'
+  pub written : changesIn concern cs ss ≡ changesIn concern cs' ss'
+
+-- a call says nothing to a concern: no frame that it wrote is a change of its own, and where it is lent no output for frames those bytes stay
+pub record Silent (concern : Concern) (c : Call) (o : Outputs) (seen : Seen) : Type 0 where
+  pub none : changesOf concern c seen ≡ []
+  pub left : writesFrames c ≡ false → seen .outputs .bytes ≡ o .bytes

@@ -1,2 +1,3 @@
 -- The theorems of the crate.
 pub mod Marked
+pub mod OneRow

@@ -1,4 +1,4 @@
--- 01's marked cases M1 to M10 and its worked tape as 02 has them, books with equal rows, a tape with past lists, two with a watched pair
+-- 01's marked cases M1 to M10 and its worked tape as 02 has them, books with equal rows, two tapes with past lists, two with a watched pair
 -- and two with two desks, and torn records: one table of questions with their answers, and the answers that the definitions give.
 use Prim.Native.Nat.{ℕ, _+_, _-_}
 use mathlib.Core.Bool.{Bool, true, false, _&&_, cond}
@@ -150,6 +150,23 @@ pastPrint =
     ∷ (5 ∷ 8 ∷ 3 ∷ [])
     ∷ (14 ∷ 8 ∷ 3 ∷ [])
     ∷ (14 ∷ 8 ∷ 3 ∷ [])
+    ∷ []
+
+-- past lists whose window closed before the first quote, on an empty book and after two quotes, and one that closed with the first
+abbrev closedTape : List Call
+closedTape = Open 2 5 0 ∷ Past 1 5 ∷ quote 5 5 ∷ quote 3 8 ∷ Past 4 5 ∷ Past 3 3 ∷ Past 3 5 ∷ Past 2 5 ∷ []
+
+-- its print: accepted, and nothing listed where b is below 1
+abbrev closedPrint : List (List ℕ)
+closedPrint =
+    (0 ∷ 0 ∷ 0 ∷ [])
+    ∷ (0 ∷ 0 ∷ 0 ∷ [])
+    ∷ (0 ∷ 1 ∷ 1 ∷ [])
+    ∷ (0 ∷ 2 ∷ 2 ∷ [])
+    ∷ (0 ∷ 2 ∷ 2 ∷ [])
+    ∷ (0 ∷ 2 ∷ 2 ∷ [])
+    ∷ (0 ∷ 2 ∷ 2 ∷ [])
+    ∷ (0 ∷ 2 ∷ 2 ∷ 1 ∷ [])
     ∷ []
 
 -- the frame of a leave of the pair
@@ -338,6 +355,7 @@ table =
     -- the tape with past lists
     ∷ record { question = Lines pastTape; answer = pastPrint }
     ∷ record { question = Ends 8; answer = (0 ∷ 0 ∷ 5 ∷ 0 ∷ 0 ∷ []) ∷ (0 ∷ 8 ∷ 8 ∷ 0 ∷ 0 ∷ []) ∷ [] }
+    ∷ record { question = Lines closedTape; answer = closedPrint }
     -- the tapes with a watched pair
     ∷ record { question = Lines pairTape; answer = pairPrint }
     ∷ record { question = Lines bothTape; answer = bothPrint }
