@@ -13,8 +13,8 @@ use Rattle.head.proofs.Settings.{settings-within}
 use Rattle.model.specs.Rows.{Tables}
 use Rattle.model.specs.Calls.{Reached}
 use Rattle.model.specs.Promises.{tables, world}
-use Rattle.sliding.specs.Laid.{Roomy}
-use Rattle.sliding.specs.Slid.{later}
+use Rattle.quoting.specs.Known.{Roomy}
+use Rattle.quoting.specs.Entered.{later}
 use Rattle.turn_lines.specs.Turns.{player}
 use Rattle.tape_sliding.specs.declared.SlidStep.{SlidStep}
 use Rattle.tape_sliding.specs.Steps.{StepSlid}

@@ -18,8 +18,8 @@ use Rattle.model.specs.Book.{quoteTables, quoteReply}
 use Rattle.model.specs.Calls.{Call, Reached, bookSeen, headAfter, worldAfter, bookStep}
 use Rattle.model.specs.Promises.{world}
 use Rattle.claims.proofs.Places.{reached-in-places}
-use Rattle.sliding.specs.declared.Slide.{Slide}
-use Rattle.sliding.specs.Slid.{later, Slid, stayed, slid, QuoteSlid}
+use Rattle.quoting.specs.declared.Entered.{Entered}
+use Rattle.quoting.specs.Entered.{later, Slid, stayed, slid, QuoteEntered}
 use Rattle.asking.specs.declared.Wanted.{Wanted}
 use Rattle.asking.specs.declared.Wanted.the-variants.{Quote}
 use Rattle.asking.proofs.Wanted.{the-type}
@@ -63,13 +63,13 @@ module _ (tape : List ℕ) (place : ℕ) (h : Head) (t : Tables) (ws bytes befor
     {turn : Turn} {step : Step} {t' : Tables} {bytes' after : List ℕ}
     (z : step ≡ record { answer = turn .answer; over = eqb next place; next = next; count = turn .count; head = turn .head; watches = turn .watches }) where
   -- that of a quote
-  pub quote-slides : {n : ℕ} {s : Slide} → w ≡ Quote n → QuoteSlid h (take n x) t ws bytes s t' bytes'
+  pub quote-slides : {n : ℕ} {s : Entered} → w ≡ Quote n → QuoteEntered true h (take n x) t ws bytes s t' bytes'
       → Turned (made (Call.Quote (take n x)) (player h t ws bytes)) before turn (quoteTables h (take n x) t ws (length bytes)) bytes' after
       → StepSlid tape place (player h t ws bytes) before (record { step = step; by = s .by }) t' bytes' after
   quote-slides {n} q s u =
       let m = quote-played tape place h t ws bytes before v z q u in
       let same : step .head ≡ _ = ap Step.head z ∙ quoted-head h (take n x) t ws bytes u ∙ sym (ap Outcome.head (s .quoted .reply)) in
-      record { stepped = stepped-left m; slides = rw (same, ← (m .lent)) (s .slides) }
+      record { stepped = stepped-left m; slides = rw (same, ← (m .lent)) (s .slides refl) }
 
   -- and that of anything else, where nothing slides
   pub other-slides : OneOf (1 ∷ 2 ∷ 3 ∷ 4 ∷ 5 ∷ 6 ∷ 7 ∷ 8 ∷ 9 ∷ 10 ∷ []) (tagOf the-type w) → Turned (unquoted w (player h t ws bytes)) before turn t' bytes' after

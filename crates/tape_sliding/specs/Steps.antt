@@ -2,7 +2,7 @@
 use Prim.Native.Nat.{ℕ}
 use mathlib.Core.List.{List}
 use Rattle.model.specs.Rows.{Tables}
-use Rattle.sliding.specs.Slid.{Slid}
+use Rattle.quoting.specs.Entered.{Slid}
 use Rattle.tape_model.specs.Play.{Player, bookPlay}
 use Rattle.tape.specs.Steps.{Stepped}
 use Rattle.tape_sliding.specs.declared.SlidStep.{SlidStep}

@@ -3,13 +3,13 @@ ghost use Prim.Native.Nat.{_≤_};
 ghost use lib.ListN.{length};
 ghost use Rattle.model.specs.Calls.{Reached};
 ghost use Rattle.model.specs.Promises.{tables, world};
-ghost use Rattle.sliding.specs.Laid.{Roomy};
+ghost use Rattle.quoting.specs.Known.{Roomy};
 ghost use Rattle.turn_lines.specs.Turns.{textBytes, player};
 ghost use Rattle.tape_sliding.specs.Steps.{StepSlid};
 use asking::Wanted;
 use asking::wish_at;
 use head::Head;
-use sliding::quote_sliding;
+use quoting::quote_known;
 use tape::CHANGE_BYTES;
 use turn_lines::Step;
 use turn_lines::put_quote;
@@ -51,7 +51,8 @@ pub fn play_sliding(
     let wanted = wish.wanted;
     match wanted {
         Wanted::Quote(k) => {
-            let slide = quote_sliding(
+            let entered = quote_known(
+                true,
                 head,
                 &quote[..k as usize],
                 columns,
@@ -61,10 +62,10 @@ pub fn play_sliding(
                 watches,
                 bytes,
             );
-            let turn = put_quote(slide.reply, watches, bytes, text);
+            let turn = put_quote(entered.reply, watches, bytes, text);
             SlidStep {
                 step: step_of(place, next, turn),
-                by: slide.by,
+                by: entered.by,
             }
         }
         _ => {

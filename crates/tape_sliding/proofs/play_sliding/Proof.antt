@@ -21,20 +21,23 @@ array-share-prefix-quote c =
     let at-wish-at = c .before .before .before .before in
     let wish = at-wish-at .wish-at .ensures in omega (arith, wish .six, wish .bounded _ (c .before .wanted .given .1))
 
-slice-aggregate-quote-sliding : tie.Need-slice-aggregate-quote-sliding
-slice-aggregate-quote-sliding c =
+slice-aggregate-quote-known : tie.Need-slice-aggregate-quote-known
+slice-aggregate-quote-known c =
     let at-wanted = c .before .before in
     let at-wish-at = at-wanted .before .before .before in
     let wish = at-wish-at .wish-at .ensures in simp length-take (omega (arith, wish .six, wish .bounded _ (at-wanted .wanted .given .1)))
 
-quote-sliding-requires : tie.Need-quote-sliding-requires
-quote-sliding-requires c κs = search needs
+quote-known-requires : tie.Need-quote-known-requires
+quote-known-requires c κs =
+    let at-match = c .before .before .before .before .before .before .before .before in
+    let at-start = at-match .before .before .before .before .before .before .before .before .before in
+    record { reached = λ e. at-start .pre .1 .0; roomy = λ e. at-start .pre .1 .1 }
 
 put-quote-requires : tie.Need-put-quote-requires
 put-quote-requires c κs =
-    let at-quote-sliding = c .before .before .before .before .before .before .before .before .before .before .before in
-    let at-start = at-quote-sliding .before .before .before .before .before .before .before .before .before .before .before .before .before .before .before .before .before .before in
-    (omega (arith, quote-fits (at-quote-sliding .quote-sliding .ensures .quoted)), (omega arith, omega (arith, at-start .pre .0)))
+    let at-quote-known = c .before .before .before .before .before .before .before .before .before .before .before in
+    let at-start = at-quote-known .before .before .before .before .before .before .before .before .before .before .before .before .before .before .before .before .before .before in
+    (omega (arith, quote-fits (at-quote-known .quote-known .ensures .quoted)), (omega arith, omega (arith, at-start .pre .0)))
 
 step-of-requires : tie.Need-step-of-requires
 step-of-requires c κs = search needs
@@ -63,10 +66,10 @@ same-length-5 c = search needs
 returns : tie.Need-returns
 returns c =
     let at-put-quote = c .before .before .before in
-    let at-quote-sliding = at-put-quote .before .before .before .before .before .before .before .before .before .before .before .before in
-    let at-wanted = at-quote-sliding .before .before .before .before .before .before .before .before in
+    let at-quote-known = at-put-quote .before .before .before .before .before .before .before .before .before .before .before .before in
+    let at-wanted = at-quote-known .before .before .before .before .before .before .before .before in
     let at-wish-at = at-wanted .before .before .before in
-    let slide = at-quote-sliding .quote-sliding .ensures in
+    let slide = at-quote-known .quote-known .ensures in
     quote-slides _ _ _ _ _ _ _ (at-wish-at .wish-at .ensures) (c .step-of .ensures) (at-wanted .wanted .given .1) slide
     (at-put-quote .put-quote .ensures _ _ _ _ _ (slide .quoted))
 
@@ -100,8 +103,8 @@ play-sliding-spec =
     enum-known-wanted
     cast-quote
     array-share-prefix-quote
-    slice-aggregate-quote-sliding
-    quote-sliding-requires
+    slice-aggregate-quote-known
+    quote-known-requires
     put-quote-requires
     step-of-requires
     make-other-requires
