@@ -92,8 +92,12 @@ module _ {h : Head} {x : List ℕ} {t : Tables} {ws : List ℕ} {room : ℕ} {f 
     -- in any book they are moved
     pub moved-is : f .reachable ≡ false → tables cs qs ls us ≡ put
     moved-is e =
-        rw (put-rows h (h .dimensions) (f .by) x (t .columns) e c, put-rows h 1 (f .by) ((h .newest + 1) ∷ []) (t .positions) e q,
-        put-lowers (f .gone) (f .named) (f .lower) lowers-ready e (named-any e) l, put-uppers retired uppers-ready (retired-low v) e u)
+        rw (
+          put-rows h (h .dimensions) (f .by) x (t .columns) e c,
+          put-rows h 1 (f .by) ((h .newest + 1) ∷ []) (t .positions) e q,
+          put-lowers (f .gone) (f .named) (f .lower) lowers-ready e (named-any e) l,
+          put-uppers retired uppers-ready (retired-low v) e u,
+        )
 
     -- in a reachable one the row is put behind the others
     pub behind-is : f .reachable ≡ true → tables cs qs ls us ≡ rowBehind h x t

@@ -16,9 +16,9 @@ use Rattle.model.specs.Promises.{tables, world}
 use Rattle.quoting.specs.Known.{Roomy}
 use Rattle.quoting.specs.Entered.{later}
 use Rattle.turn_lines.specs.Turns.{player}
-use Rattle.tape_sliding.specs.declared.SlidStep.{SlidStep}
-use Rattle.tape_sliding.specs.Steps.{StepSlid}
-use Rattle.tape_sliding.proofs.Slides.{left-reached, left-bounded, left-holds}
+use Rattle.tape.specs.declared.SlidStep.{SlidStep}
+use Rattle.tape.specs.Steps.{StepMade}
+use Rattle.tape.proofs.Slides.{left-reached, left-bounded, left-holds}
 use Rattle.row_starts.specs.declared.Start.{Start}
 use Rattle.tape_playback.specs.declared.Playback.{Playback}
 use Rattle.tape_playback.specs.Played.{SameBook}
@@ -101,7 +101,7 @@ slid-cells {by} {d} k (yes l) h = omega (arith, bounded-cells d k, h l)
 slid-cells {by} {d} k (no n) h = let z : by ≡ 0 = omega arith in omega (arith, bounded-cells d k, ap (λ (j : ℕ). j * d) z, zero-mul d)
 
 module _ {tape : List ℕ} {place : ℕ} {h : Head} {t : Tables} {ws bytes before : List ℕ} {z : SlidStep} {t' : Tables} {bytes' after : List ℕ}
-    (m : StepSlid tape place (player h t ws bytes) before z t' bytes' after) {s s' : Start} (w : Within 1023 s)
+    (m : StepMade true tape place (player h t ws bytes) before z t' bytes' after) {s s' : Start} (w : Within 1023 s)
     (e : s' ≡ record { row = s .row + z .by; cell = s .cell + z .by * z .step .head .dimensions }) where
   -- only a book that was opened slides
   six : 0 < z .by → z .step .head .dimensions ≤ 6
@@ -119,6 +119,6 @@ module _ {tape : List ℕ} {place : ℕ} {h : Head} {t : Tables} {ws bytes befor
 
 -- and the book stands there
 pub start-reached : (s : Start) (t : Tables) {tape : List ℕ} {place : ℕ} {h : Head} {ws bytes before : List ℕ} {z : SlidStep} {t' : Tables} {bytes' after : List ℕ} {s' : Start}
-    → StepSlid tape place (player h (parts s t) ws bytes) before z t' bytes' after → Within 1023 s → s' ≡ record { row = s .row + z .by; cell = s .cell + z .by * z .step .head .dimensions }
+    → StepMade true tape place (player h (parts s t) ws bytes) before z t' bytes' after → Within 1023 s → s' ≡ record { row = s .row + z .by; cell = s .cell + z .by * z .step .head .dimensions }
     → Long t → Reached (world h (onward s t) ws) → Reached (world (z .step .head) (onward s' (backs s t t')) (z .step .watches))
 start-reached s t {z = z} {t' = t'} m w e k c = rw (e, backs-later s t k w t' (z .by) (z .step .head .dimensions)) (left-reached m (parts-reached s t c))

@@ -10,7 +10,7 @@ ghost use Rattle.tape_playback.specs.Played.{FramePlayed};
 use head::Head;
 use row_starts::Start;
 use row_starts::slid;
-use tape_sliding::play_sliding;
+use tape::play_known;
 
 // Where a player of a tape stands: the head and the watches of the book, where its rows start, the place of the next frame and the end of
 // what has come of the tape, how many bytes of text are gathered, whether the input has ended, and whether the tape is over.
@@ -50,7 +50,8 @@ pub fn play_frame(
     let start = playback.start;
     let row = start.row;
     let cell = start.cell;
-    let played = play_sliding(
+    let played = play_known(
+        true,
         tape,
         playback.place,
         head,

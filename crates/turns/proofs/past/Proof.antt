@@ -3,10 +3,10 @@ use native.Mathlib.Omega.{arith}
 use mathlib.Core.List.{append-nil}
 use lib.ListN.{length-take}
 use borrow.Author.Needs.{needs}
-use Rattle.turn_reads.proofs.Rooms.{past-fits, past-cells-room}
+use Rattle.turns.proofs.CellRooms.{past-fits, past-cells-room}
 use Rattle.turn_lines.proofs.Turning.{past-turned}
-use Rattle.turn_reads.proofs.past.Statement.{statement}
-use Rattle.turn_reads.proofs.past.Tie as tie
+use Rattle.turns.proofs.past.Statement.{statement}
+use Rattle.turns.proofs.past.Tie as tie
 
 sub-past : tie.Need-sub-past
 sub-past c = search needs

@@ -3,10 +3,10 @@ use native.Mathlib.Omega.{arith}
 use mathlib.Core.List.{append-nil}
 use lib.ListN.{length-take}
 use borrow.Author.Needs.{needs}
-use Rattle.turn_reads.proofs.Rooms.{look-fits, cells-room}
+use Rattle.turns.proofs.CellRooms.{look-fits, cells-room}
 use Rattle.turn_lines.proofs.Turning.{look-turned}
-use Rattle.turn_reads.proofs.look.Statement.{statement}
-use Rattle.turn_reads.proofs.look.Tie as tie
+use Rattle.turns.proofs.look.Statement.{statement}
+use Rattle.turns.proofs.look.Tie as tie
 
 sub-look : tie.Need-sub-look
 sub-look c = search needs
