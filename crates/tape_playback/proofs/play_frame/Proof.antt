@@ -3,8 +3,8 @@ use mathlib.Core.Path.{refl}
 use Prim.Native.Nat.{_-_}
 use native.Mathlib.Omega.{arith}
 use lib.ListN.{length-take, length-drop}
-use Rattle.tape_playback.proofs.Advancing.{stepped-on, stepped-fits}
-use Rattle.tape_playback.proofs.Starting.{parts-roomy, parts-reached, start-within, start-opened, start-reached}
+use Rattle.tape_playback.proofs.Starting.{parts-roomy, parts-reached}
+use Rattle.tape_playback.proofs.Framing.{stepped-fits, frame-played}
 use Rattle.tape_sliding.proofs.Slides.{left-bounded}
 use borrow.Author.Needs.{needs}
 use Rattle.tape_playback.proofs.play_frame.Statement.{statement}
@@ -109,14 +109,7 @@ returns c =
     let made = at-play-sliding .play-sliding in
     let p = at-start .pre in
     let begins = c .before .slid .ensures in
-    record {
-      advanced = stepped-on (made .ensures .stepped) (p .0 .1);
-      fits = omega (arith, stepped-fits (made .ensures .stepped) (made .kept .1 .1 .1 .1 .1 .1 .1 .1 .1 .0), at-play-sliding-arg6 .play-sliding-arg6 .given, p .0 .0);
-      same = refl;
-      starts = start-within (made .ensures) (p .1 .1 .0) begins;
-      opened = start-opened (made .ensures) (p .1 .1 .0) begins;
-      reached = start-reached _ _ (made .ensures) (p .1 .1 .0) begins (p .1 .0) (p .1 .1 .1);
-    }
+    frame-played _ _ _ _ _ (made .ensures) (p .1 .0) (p .1 .1 .0) (omega (arith, p .0 .0)) begins
 
 pub play-frame-spec : {M : Type 1} → statement M
 play-frame-spec =
