@@ -114,7 +114,7 @@ module _ {piece : List ℕ} {t₀ : Tables} {bytes₀ text₀ : List ℕ} {now�
     (i : Playing piece t₀ bytes₀ text₀ now₀ t bytes text now) where
   -- what is gathered stands within the text, and the place within the piece
   pub fits : now .used ≤ length text
-  fits = gathered-fits (i .gathered) (i .begun) (i .text-long)
+  fits = gathered-fits (i .gathered) (i .begun)
 
   pub inside : now .place ≤ length piece
   inside = plays-inside (i .plays) (i .first-inside)

@@ -50,9 +50,9 @@ module _ {s r : Playback} {lines before after : List ℕ} (g : Gathered s r line
   gathered-lines = rw (g .text) (take-at (take (s .used) before ++ lines) (drop (length (take (s .used) before ++ lines)) before) (r .used) long)
 
   -- it stands within the text
-  pub gathered-fits : length after ≡ length before → r .used ≤ length after
+  pub gathered-fits : r .used ≤ length after
   unfolding laid
-  gathered-fits e =
+  gathered-fits =
       let l : List ℕ = take (s .used) before ++ lines in
       omega (arith, ap length (g .text), length-append l (drop (length l) before), long)
 

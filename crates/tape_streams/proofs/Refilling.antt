@@ -8,7 +8,7 @@ use mathlib.Core.List.{List, [], _++_, append-nil}
 use lib.Dec.{ltb}
 use lib.ListN.{length, take, drop, length-append, length-take, length-drop}
 use lib.Seq.{length-take-le, take-at, drop-at, take-add, take-append-add, take-append-le}
-use borrow.Rule.Slice.PartMut.{midOf, putMid}
+use borrow.Rule.Slice.PartMut.{midOf, putMid, same-len-mid}
 use Rattle.lists.specs.Lists.{laid}
 use Rattle.lists.proofs.Booleans.{clash, none-right}
 use Rattle.lists.proofs.Writing.{length-laid}
@@ -52,6 +52,7 @@ module _ (s : Playback) (tape : List ℕ) (h : (s .place ≤ s .end) × (s .end 
     read = λ f. absurd (clash (supplied s tape) (tested r e) f);
     inside = h .0;
     within = h .1;
+    long = refl;
     used = refl;
     over = refl;
     book = record { head = refl; watches = refl; start = refl };
@@ -80,6 +81,7 @@ module _ (s : Playback) (tape : List ℕ) (h : (s .place ≤ s .end) × (s .end 
         read = λ _. rw came (ap not m);
         inside = omega arith;
         within = omega (arith, whole, c, simp (length-take, length-drop) at l);
+        long = same-len-mid rest (length front - rest) front last l ∙ whole;
         used = refl;
         over = refl;
         book = record { head = refl; watches = refl; start = refl };

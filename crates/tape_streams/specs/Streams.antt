@@ -33,6 +33,7 @@ pub record Refilled (s : Playback) (tape : List ℕ) (r : Playback) (tape' : Lis
   pub read : supplied s tape ≡ false → r .ended ≡ not (ltb 0 (length came))
   pub inside : r .place ≤ r .end
   pub within : r .end ≤ length tape
+  pub long : length tape' ≡ length tape
   pub used : r .used ≡ s .used
   pub over : r .over ≡ s .over
   pub book : SameBook s r
