@@ -30,7 +30,7 @@ asked-cells (unread n) next k = refl
 asked-cells misplaced next k = refl
 asked-cells (request c) next k = refl
 
-cells-kept : (tape : List ℕ) (place : ℕ) (k : Player) → bookPlay tape place k .state .outputs .cells ≡ k .outputs .cells
+pub cells-kept : (tape : List ℕ) (place : ℕ) (k : Player) → bookPlay tape place k .state .outputs .cells ≡ k .outputs .cells
 unfolding playAt
 cells-kept tape place k = let read = readAt tape place in asked-cells (asked (begun k) (read .says) (read .columns)) (read .next) k
 

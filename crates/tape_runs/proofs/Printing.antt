@@ -115,8 +115,8 @@ module _ (lengths : Lengths) where
       within = rw (f .same .end) (st .within);
       fits = omega (arith, f .used);
       printed = λ more z.
-      rw (f .used, f .place, f .same .end, o)
-      (st .printed more (λ e. z (f .same .ended ∙ e)) ∙ sym (append-assoc handed gathered (rest-of (p .playback .over) (pending (p .playback) (p .tape) ++ more) 0 (st .s))));
+          rw (f .used, f .place, f .same .end, o)
+          (st .printed more (λ e. z (f .same .ended ∙ e)) ∙ sym (append-assoc handed gathered (rest-of (p .playback .over) (pending (p .playback) (p .tape) ++ more) 0 (st .s))));
     }
 
     -- bytes come behind what is not played
@@ -129,7 +129,7 @@ module _ (lengths : Lengths) where
       within = omega (arith, f .within, f .long);
       fits = rw (f .used) (st .fits);
       printed = λ more z.
-      rw (f .used, f .over, f .kept, append-assoc came (f .came) more, append-assoc (pending (p .playback) (p .tape)) (f .came) more) (st .printed (f .came ++ more) (nothing more z));
+          rw (f .used, f .over, f .kept, append-assoc came (f .came) more, append-assoc (pending (p .playback) (p .tape)) (f .came) more) (st .printed (f .came ++ more) (nothing more z));
     }
       where
         -- once the input has ended nothing comes
@@ -148,10 +148,10 @@ module _ (lengths : Lengths) where
       within = rw (g .same .end) (st .within);
       fits = gathered-fits (g .gathered) (st .fits);
       printed = λ more z.
-      let lines-there = rest-of (r .over) (drop (r .place) piece ++ more) 0 (c .s) in
-      rw (g .same .end, gathered-lines (g .gathered) (st .fits), append-assoc gathered (g .lines) lines-there)
-      (st .printed more (λ e. z (g .same .ended ∙ e))
-      ∙ ap (λ (l : List ℕ). handed ++ (gathered ++ l)) (from (p .playback .over) more (p .playback .place) (st .s) inside ∙ c .goes more (λ e. z (g .same .ended ∙ e)) ∙ ap (λ (l : List ℕ). g .lines ++ l) (sym (from (r .over) more (r .place) (c .s) next-inside))));
+          let lines-there = rest-of (r .over) (drop (r .place) piece ++ more) 0 (c .s) in
+          rw (g .same .end, gathered-lines (g .gathered) (st .fits), append-assoc gathered (g .lines) lines-there)
+          (st .printed more (λ e. z (g .same .ended ∙ e))
+          ∙ ap (λ (l : List ℕ). handed ++ (gathered ++ l)) (from (p .playback .over) more (p .playback .place) (st .s) inside ∙ c .goes more (λ e. z (g .same .ended ∙ e)) ∙ ap (λ (l : List ℕ). g .lines ++ l) (sym (from (r .over) more (r .place) (c .s) next-inside))));
     }
       where
         piece : List ℕ

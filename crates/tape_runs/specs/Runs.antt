@@ -1,9 +1,9 @@
 -- Runs of a printer: what it holds between two calls, and the calls that it makes, each of which met its contract on what the one before left.
 use mathlib.Core.Path.{_≡_}
-use Prim.Native.Nat.{ℕ}
+use Prim.Native.Nat.{ℕ, _+_, _≤_}
 use mathlib.Core.Bool.{Bool, true, false}
 use mathlib.Core.List.{List, [], _∷_, _++_}
-use lib.ListN.{take}
+use lib.ListN.{length, take}
 use Rattle.head.specs.Heads.{freshHead}
 use Rattle.model.specs.Rows.{Tables}
 use Rattle.model.specs.Reference.{Lengths}
@@ -44,6 +44,11 @@ pub record Fresh (p : Printer) : Type 0 where
   pub ended : p .playback .ended ≡ false
   pub over : p .playback .over ≡ false
 
+-- a tape cut into pieces that come one after the other into a buffer of this length: each has a byte, and leaves 24 for the beginning of a frame
+pub data Cut (room : ℕ) : List (List ℕ) → Type 0 where
+  no-piece : 24 ≤ room → Cut room []
+  piece-more : {byte : ℕ} {bytes : List ℕ} {pieces : List (List ℕ)} → 24 + length (byte ∷ bytes) ≤ room → Cut room pieces → Cut room ((byte ∷ bytes) ∷ pieces)
+
 -- a piece behind those that came before; a read that gave nothing brought none
 unfoldable pub behind : List (List ℕ) → List ℕ → List (List ℕ)
 behind pieces [] = pieces
@@ -65,3 +70,14 @@ pub data Runs (first : Printer) : Printer → List (List ℕ) → List (List ℕ
 pub record Finished (p : Printer) : Type 0 where
   pub over : p .playback .over ≡ true
   pub used : p .playback .used ≡ 0
+
+-- a finished run of a tape in these pieces: those that came, and those that the tape was over before
+pub record Ran (first : Printer) (pieces : List (List ℕ)) : Type 0 where
+  pub p : Printer
+  pub came : List (List ℕ)
+  pub rest : List (List ℕ)
+  pub texts : List (List ℕ)
+  pub run : Runs first p came texts
+  pub finished : Finished p
+  pub cut : pieces ≡ came ++ rest
+  pub ended : p .playback .ended ≡ true → rest ≡ []

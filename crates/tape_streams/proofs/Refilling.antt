@@ -31,11 +31,12 @@ module _ (s : Playback) (tape : List ℕ) (h : (s .place ≤ s .end) × (s .end 
   pending-long : length (pending s tape) ≡ rest
   pending-long = simp (length-drop, length-take) (omega arith)
 
-  -- a tape of which 25 bytes have a place is read on into some room, so that nothing comes only where nothing more does
-  pub reads-room : 25 ≤ length tape → supplied s tape ≡ false → length (pending s tape) < length tape
-  reads-room k e = go (decLe (s .place + 25) (length (take (s .end) tape)))
+  -- what is kept when the tape is read on is shorter than 25 bytes: in a longer buffer there is room to read into, so that nothing comes only where
+  -- nothing more does
+  pub reads-short : supplied s tape ≡ false → length (pending s tape) < 25
+  reads-short e = go (decLe (s .place + 25) (length (take (s .end) tape)))
     where
-      go : Dec (s .place + 25 ≤ length (take (s .end) tape)) → length (pending s tape) < length tape
+      go : Dec (s .place + 25 ≤ length (take (s .end) tape)) → length (pending s tape) < 25
       go (yes t) = absurd (clash (ready (take (s .end) tape) (s .place)) (ready-soon (take (s .end) tape) (s .place) t) (none-right (s .over || s .ended) (ready (take (s .end) tape) (s .place)) e))
       go (no n) = omega (arith, pending-long, n, length-take-le (s .end) tape (h .1))
 
@@ -62,8 +63,8 @@ module _ (s : Playback) (tape : List ℕ) (h : (s .place ≤ s .end) × (s .end 
   pub refill-read : (last : List ℕ) {test : Bool} {front : List ℕ} {count : ℕ} {more : Bool} → test ≡ ready (take (s .end) tape) (s .place) → (s .over || s .ended) || test ≡ false → front ≡ laid (take rest (drop (s .place) tape)) tape
       → count ≤ length last → length last ≡ length (midOf rest (length front - rest) front) → more ≡ ltb 0 count
       → Refilled s tape
-        (record { head = s .head; watches = s .watches; start = s .start; place = 0; end = rest + count; used = s .used; ended = not more; over = s .over })
-        (putMid rest (length front - rest) front last)
+      (record { head = s .head; watches = s .watches; start = s .start; place = 0; end = rest + count; used = s .used; ended = not more; over = s .over })
+      (putMid rest (length front - rest) front last)
   unfolding laid
   refill-read last {front = front} {count = count} r e f c l m =
       let kept : List ℕ = take rest (drop (s .place) tape) in
