@@ -2,7 +2,7 @@
 # What rt prints goes to a log under build/; standard error gets a line for each crate.
 SHELL := /bin/bash
 .SHELLFLAGS := -euo pipefail -c
-.PHONY: test proofs models run host random random-calls rules plants rule-plants yardstick notation citations tapes test-slow bench
+.PHONY: test proofs models run host random random-calls rules plants rule-plants pieces yardstick notation citations tapes test-slow bench
 
 PRINTER ?= target/bin/tape_printer
 WRITER ?= target/bin/tape_writer
@@ -26,7 +26,7 @@ RUSTC := env -u MAKEFLAGS $(IDLE) rustc --edition 2021 -O -D warnings
 
 test: citations
 	@$(MAKE) --no-print-directory -j2 proofs models
-	@$(MAKE) --no-print-directory -j2 host random random-calls plants notation
+	@$(MAKE) --no-print-directory -j2 host random random-calls plants pieces notation
 	@tools/dearest.sh build/ci.txt
 	@tail -n 1 build/ci.txt | grep -Ex '[0-9]+ passed, 0 failed'
 
@@ -61,7 +61,7 @@ rules: build/random_calls
 	@$(IDLE) build/random_calls --rules
 
 # a model with a bug planted must not agree with the printer, the player or the tapes
-plants: $(PLANTS:%=plant-in-tapes-%) $(CALL_PLANTS:%=plant-in-calls-%)
+plants: $(PLANTS:%=plant-in-tapes-%) $(CALL_PLANTS:%=plant-in-calls-%) plant-in-pieces
 
 rule-plants: $(RULE_PLANTS:%=plant-in-rules-%)
 
@@ -70,6 +70,9 @@ plant-in-tapes-%: build/plain_model $(PRINTER)
 
 plant-in-calls-%: build/random_calls $(PLAYER)
 	@tests/planted.sh calls-$* 'the answers differ' build/random_calls --plant $* $(PLAYER) $(SEED) 1000
+
+plant-in-pieces: build/pieces $(PRINTER) $(WRITER)
+	@tests/planted.sh pieces 'the prints differ' build/pieces --plant $(PRINTER) $(WRITER) $(SAMPLES:%=%.tape)
 
 plant-in-rules-%: build/random_calls
 	@$(IDLE) tests/planted.sh rules-$* 'the rules differ' build/random_calls --plant $* --rules
@@ -83,6 +86,10 @@ yardstick: build/plain_model build/yardstick
 notation: build/notation $(WRITER)
 	@build/notation $(WRITER) $(SEED)
 	@for sample in $(SAMPLES); do $(WRITER) < $$sample.txt | cmp - $$sample.tape; done
+
+# the printer and the writer on each sample in pieces of every size from 1 to 64 bytes, and about as long as their buffers
+pieces: build/pieces $(PRINTER) $(WRITER)
+	@build/pieces $(PRINTER) $(WRITER) $(SAMPLES:%=%.tape) $(SAMPLES:%=%.txt)
 
 # every path that the texts cite, and every name that docs/PROOFS.md cites
 citations:

@@ -41,8 +41,11 @@ pub fn play_frame(
     requires { ⌜ Within 1023 (playback .start) ⌝ }
     requires { ⌜ Reached (world (playback .head) (onward (playback .start)
         (tables (now columns) (now positions) (now «lower_ends») (now «upper_ends»))) (playback .watches)) ⌝ }
-    ensures { λ r. ⌜ FramePlayed (now (tape .entry)) (length (now (text .entry))) playback r
-        (tables (now (columns .exit)) (now (positions .exit)) (now («lower_ends» .exit)) (now («upper_ends» .exit))) ⌝ }
+    ensures { λ r. ⌜ FramePlayed (now (tape .entry)) playback
+        (tables (now (columns .entry)) (now (positions .entry)) (now («lower_ends» .entry)) (now («upper_ends» .entry)))
+        (now (bytes .entry)) (now (text .entry)) r
+        (tables (now (columns .exit)) (now (positions .exit)) (now («lower_ends» .exit)) (now («upper_ends» .exit)))
+        (now (bytes .exit)) (now (text .exit)) ⌝ }
 {
     let head = playback.head;
     let watches = playback.watches;
@@ -67,12 +70,13 @@ pub fn play_frame(
     let next_head = step.head;
     let next_watches = step.watches;
     let next_start = slid(start, played.by, next_head);
+    let next_used = used + step.count;
     let mut now = playback;
     now.head = next_head;
     now.watches = next_watches;
     now.start = next_start;
     now.place = step.next;
-    now.used = used + step.count;
+    now.used = next_used;
     now.over = step.over;
     now
 }

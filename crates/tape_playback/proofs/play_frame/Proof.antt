@@ -3,8 +3,8 @@ use mathlib.Core.Path.{refl}
 use Prim.Native.Nat.{_-_}
 use native.Mathlib.Omega.{arith}
 use lib.ListN.{length-take, length-drop}
-use Rattle.tape_playback.proofs.Advancing.{stepped-on, stepped-fits}
-use Rattle.tape_playback.proofs.Starting.{parts-roomy, parts-reached, start-within, start-opened, start-reached}
+use Rattle.tape_playback.proofs.Starting.{parts-roomy, parts-reached}
+use Rattle.tape_playback.proofs.Framing.{stepped-fits, frame-played}
 use Rattle.tape.proofs.Slides.{left-bounded}
 use borrow.Author.Needs.{needs}
 use Rattle.tape_playback.proofs.play_frame.Statement.{statement}
@@ -70,7 +70,7 @@ part-play-known-end-5 c = search needs
 play-known-requires : tie.Need-play-known-requires
 play-known-requires c κs =
     let at-start = c .before .before .before .before .before .before .before .before .before .before .before .before .before .before .before in
-    let p = at-start .pre in (simp (length-take, length-drop) (omega (arith, p .0 .0)), (parts-reached _ _ (p .1 .1 .1), parts-roomy _ _ (p .1 .0) (p .1 .1 .0)))
+    let p = at-start .pre in (simp (length-take, length-drop) (omega (arith, p .0 .0)), record { reached = λ e. parts-reached _ _ (p .1 .1 .1); roomy = λ e. parts-roomy _ _ (p .1 .0) (p .1 .1 .0) })
 
 slid-requires : tie.Need-slid-requires
 slid-requires c κs =
@@ -78,13 +78,13 @@ slid-requires c κs =
     let at-start = at-play-known .before .before .before .before .before .before .before .before .before .before .before .before .before .before .before .before in
     (at-start .pre .1 .1 .0, left-bounded (at-play-known .play-known .ensures))
 
-add-now : tie.Need-add-now
-add-now c =
+add-next-used : tie.Need-add-next-used
+add-next-used c =
     let at-play-known = c .before .before .before .before .before .before .before .before .before .before .before .before .before .before .before in
     let at-play-known-arg6 = at-play-known .before in
     let at-start = at-play-known-arg6 .before .before .before .before .before .before .before .before .before .before .before .before .before .before .before in
     let made = at-play-known .play-known in
-    omega (arith, stepped-fits (made .ensures .stepped) (made .kept .1 .1 .1 .1 .1 .1 .1 .1 .1 .0), at-play-known-arg6 .play-known-arg6 .given, at-start .pre .0 .0, at-start .good)
+    omega (arith, stepped-fits (made .ensures .stepped) (made .kept .1 .1 .1 .1 .1 .1 .1 .1 .1 .1 .0), at-play-known-arg6 .play-known-arg6 .given, at-start .pre .0 .0, at-start .good)
 
 same-length : tie.Need-same-length
 same-length c = search needs
@@ -109,14 +109,7 @@ returns c =
     let made = at-play-known .play-known in
     let p = at-start .pre in
     let begins = c .before .slid .ensures in
-    record {
-      advanced = stepped-on (made .ensures .stepped) (p .0 .1);
-      fits = omega (arith, stepped-fits (made .ensures .stepped) (made .kept .1 .1 .1 .1 .1 .1 .1 .1 .1 .0), at-play-known-arg6 .play-known-arg6 .given, p .0 .0);
-      same = refl;
-      starts = start-within (made .ensures) (p .1 .1 .0) begins;
-      opened = start-opened (made .ensures) (p .1 .1 .0) begins;
-      reached = start-reached _ _ (made .ensures) (p .1 .1 .0) begins (p .1 .0) (p .1 .1 .1);
-    }
+    frame-played _ _ _ _ _ (made .ensures) (p .1 .0) (p .1 .1 .0) (omega (arith, p .0 .0)) begins
 
 pub play-frame-spec : {M : Type 1} → statement M
 play-frame-spec =
@@ -143,7 +136,7 @@ play-frame-spec =
     part-play-known-end-5
     play-known-requires
     slid-requires
-    add-now
+    add-next-used
     same-length
     same-length-2
     same-length-3
