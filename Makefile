@@ -2,7 +2,7 @@
 # What rt prints goes to a log under build/; standard error gets a line for each crate.
 SHELL := /bin/bash
 .SHELLFLAGS := -euo pipefail -c
-.PHONY: test proofs models try run host random random-calls rules plants rule-plants yardstick notation citations tapes test-slow bench late
+.PHONY: test proofs models try run host random random-calls rules plants rule-plants yardstick notation citations tapes test-slow bench late pieces
 
 PRINTER ?= target/bin/tape_printer
 WRITER ?= target/bin/tape_writer
@@ -30,7 +30,7 @@ RUSTC := env -u MAKEFLAGS $(IDLE) rustc --edition 2021 -O -D warnings
 
 test: citations
 	@$(MAKE) --no-print-directory -j2 proofs models
-	@$(MAKE) --no-print-directory -j2 host random random-calls late plants notation
+	@$(MAKE) --no-print-directory -j2 host random random-calls late plants pieces notation
 	@tools/dearest.sh build/ci.txt
 	@tail -n 1 build/ci.txt | grep -Ex '[0-9]+ passed, 0 failed'
 
@@ -76,7 +76,7 @@ rules: build/random_calls
 	@$(IDLE) build/random_calls --rules
 
 # a model with a bug planted must not agree with the printer, the player or the tapes
-plants: $(PLANTS:%=plant-in-tapes-%) $(CALL_PLANTS:%=plant-in-calls-%) $(LATE_PLANTS:%=plant-in-late-%)
+plants: $(PLANTS:%=plant-in-tapes-%) $(CALL_PLANTS:%=plant-in-calls-%) $(LATE_PLANTS:%=plant-in-late-%) plant-in-pieces
 
 rule-plants: $(RULE_PLANTS:%=plant-in-rules-%)
 
@@ -88,6 +88,9 @@ plant-in-calls-%: build/random_calls $(PLAYER)
 
 plant-in-late-%: build/late_book $(PRINTER)
 	@tests/planted.sh late-$* 'the books differ' build/late_book --plant $* $(PRINTER) $(SEED) $(PAIRS)
+
+plant-in-pieces: build/pieces $(PRINTER) $(WRITER)
+	@tests/planted.sh pieces 'the prints differ' build/pieces --plant $(PRINTER) $(WRITER) $(SAMPLES:%=%.tape)
 
 plant-in-rules-%: build/random_calls
 	@$(IDLE) tests/planted.sh rules-$* 'the rules differ' build/random_calls --plant $* --rules
@@ -101,6 +104,10 @@ yardstick: build/plain_model build/yardstick
 notation: build/notation $(WRITER)
 	@build/notation $(WRITER) $(SEED)
 	@for sample in $(SAMPLES); do $(WRITER) < $$sample.txt | cmp - $$sample.tape; done
+
+# the printer and the writer on each sample in pieces of every size from 1 to 64 bytes, and about as long as their buffers
+pieces: build/pieces $(PRINTER) $(WRITER)
+	@build/pieces $(PRINTER) $(WRITER) $(SAMPLES:%=%.tape) $(SAMPLES:%=%.txt)
 
 # every path that the texts cite, and every name that docs/PROOFS.md cites
 citations:

@@ -17,7 +17,7 @@ use Rattle.dominance.specs.declared.Comparison.{Comparison}
 use Rattle.dominance.specs.Dominance.{someBetter}
 use Rattle.dominance.specs.Compared.{compared}
 use Rattle.dominance.proofs.Comparing.{no-worse-by, dominated-by, compared-take}
-use Rattle.finding.specs.Found.{live, liveIn, Rows, rowAt, over, under, crosses, dullIn, retires, retired, Scan}
+use Rattle.finding.specs.Found.{live, liveIn, Rows, rowAt, over, under, crosses, dullIn}
 
 -- ---- live rows counted
 
@@ -75,24 +75,3 @@ module _ (s : Rows) where
   pub dull-apart : (a k : ℕ) → dullIn s a k ≡ true → (q : ℕ) → a ≤ q → q < a + k → (over s q ≡ false) × (under s q ≡ false)
   unfolding dullIn
   dull-apart a k e q h l = apart q (not-false (crosses s q) (none-any (λ i. not (crosses s i)) a k (not-true (any (λ i. not (crosses s i)) (run a k)) e) q h l))
-
-  -- ---- k rows passed at once
-
-  pub skipped : {a b : ℕ} {places : List ℕ} {at : ℕ} (k : ℕ) → a + k ≤ b
-      → ((q : ℕ) → a ≤ q → q < a + k → live (s .uppers) q ≡ true → (over s q ≡ false) × (under s q ≡ false)) → Scan s (a + k) b places at → Scan s a b places at
-  unfolding retired retires
-  skipped {a} {b} {places} {at} k h f v = record {
-    listed =
-        let e : b - a ≡ k + (b - (a + k)) = omega arith in
-        let same : retired s a b ≡ retired s (a + k) b = rw e (filter-from (retires s) a k (b - (a + k)) (λ q u l. gone q u l (live (s .uppers) q) refl)) in
-        rw same (v .listed);
-    none = λ j u l. go j u l (decLe (a + k) j);
-  }
-    where
-      gone : (q : ℕ) → a ≤ q → q < a + k → (x : Bool) → live (s .uppers) q ≡ x → live (s .uppers) q && over s q ≡ false
-      gone q u l true e = rw (e, f q u l e .0)
-      gone q u l false e = rw e
-
-      go : (j : ℕ) → a ≤ j → j < b → Dec (a + k ≤ j) → live (s .uppers) j ≡ true → under s j ≡ false
-      go j u l (yes m) = v .none j m l
-      go j u l (no m) = λ t. f j u (omega arith) t .1

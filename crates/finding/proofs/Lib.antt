@@ -1,5 +1,7 @@
 -- The laws of the crate.
-pub mod Scanning
+pub mod Comparisons
 pub mod Blocks
 pub mod Looping
-pub mod Finding
+pub mod Youngest
+pub mod Passing
+pub mod Going

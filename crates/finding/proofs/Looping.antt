@@ -1,4 +1,4 @@
--- The invariants of the loops that count live rows, compare rows side by side, and go through rows from the youngest back.
+-- The invariants of the loops that count live rows and compare rows side by side, and how many rows of a block are taken for live.
 use mathlib.Core.Path.{_≡_, refl, sym, ap, _∙_}
 use Prim.Native.Nat.{ℕ, zero, suc, _+_, _-_, _*_, _≤_, _<_}
 use native.Mathlib.Nat.{add-zero, suc-mul, mul-le-mul-right, le-refl}
@@ -10,12 +10,10 @@ use lib.Dec.{ltb}
 use lib.ListN.{length, drop}
 use borrow.Author.Tests.{ltb-false, lt-ltb, le-ltb}
 use Rattle.lists.specs.Lists.{filter, run}
-use Rattle.lists.proofs.Booleans.{clash}
 use Rattle.dominance.specs.declared.Comparison.{Comparison}
 use Rattle.dominance.specs.Compared.{compared}
-use Rattle.finding.specs.Found.{live, liveIn, takenLive, dullIn, Rows, rows, over, under, youngest, Fits, Scan, Outcome, through, stopped, Room}
-use Rattle.finding.specs.declared.Found.{Found}
-use Rattle.finding.proofs.Blocks.{live-more, none-live, dull-none, dull-more, skipped}
+use Rattle.finding.specs.Found.{live, liveIn, takenLive, dullIn, Rows, rows, Fits, Room}
+use Rattle.finding.proofs.Blocks.{live-more, none-live, dull-none, dull-more}
 
 -- i of 64 rows have been counted
 pub record Counting (uppers : List ℕ) (from count i : ℕ) : Type 0 where
@@ -95,83 +93,21 @@ module _ (s : Rows) where
     all≡ = rw (v .all≡) (sym (dull-more s from i c (e ∙ rw (v .start≡))));
   }
 
-  -- the rows below to have been gone through down to place i
-  pub record Scanning (from to : ℕ) (before : List ℕ) (at : ℕ) (places : List ℕ) (i left : ℕ) : Type 0 where
-    pub least : from ≤ i
-    pub most : i ≤ to
-    pub room : Room s i places left
-    pub same-length : length places ≡ length before
-    pub scanned : (b : ℕ) → to ≤ b → Scan s to b before at → Scan s i b places left
-
-  pub scan-start : {from to : ℕ} {places : List ℕ} {at : ℕ} → from ≤ to → Room s to places at → Scanning from to places at places to at
-  scan-start {to = to} h r = record { least = h; most = le-refl to; room = r; same-length = refl; scanned = λ b l v. v }
-
-  module _ {from to : ℕ} {before : List ℕ} {at : ℕ} {places : List ℕ} {i left k : ℕ} (v : Scanning from to before at places i left) (h : from ≤ k) (l : k ≤ i)
-      (places' : List ℕ) (f : Found) (r : Room s k places' (f .at)) (o : (b : ℕ) → i ≤ b → Scan s i b places left → Outcome s k b places' f) where
-    -- nothing was found down to place k
-    pub scan-turn : length places' ≡ length places → f .last ≤ 0 → Scanning from to before at places' k (f .at)
-    scan-turn e z = record {
-      least = h;
-      most = omega (arith, v .most);
-      room = r;
-      same-length = e ∙ v .same-length;
-      scanned = λ b m w. go b (o b (omega (arith, v .most)) (v .scanned b m w));
-    }
-      where
-        go : (b : ℕ) → Outcome s k b places' f → Scan s k b places' (f .at)
-        go b (through a w) = w
-        go b (stopped j a c d t u o' w) = absurd (omega arith)
-
-    room-less : Room s from places' (f .at)
-    room-less = record { least = omega (arith, r .least); most = r .most }
-
-    -- a live row over the quote was found
-    pub scan-found : 0 < f .last → Room s from places' (f .at) × ((b : ℕ) → to ≤ b → Scan s to b before at → Outcome s from b places' f)
-    scan-found z = (room-less, λ b m w. go b (o b (omega (arith, v .most)) (v .scanned b m w)))
-      where
-        go : (b : ℕ) → Outcome s k b places' f → Outcome s from b places' f
-        go b (through a w) = absurd (omega arith)
-        go b (stopped j a c d t u o' w) = stopped j a (omega arith) d t u o' w
-
   -- the list has room once a place more is listed
   pub room-pushed : {i at : ℕ} {places places' : List ℕ} → Room s (suc i) places at → (next : ℕ) → (at - 1 ≤ next) × (next ≤ at) → length places' ≡ length places → Room s i places' next
   room-pushed r next e l = record { least = omega (arith, e, r .least); most = omega (arith, e, r .most) }
 
-  -- what one row more says
-  pub row-below : {i left : ℕ} {places places' : List ℕ} {f : Found} → 0 < i
-      → ((b : ℕ) → i - 1 < b → Scan s (suc (i - 1)) b places left → Outcome s (i - 1) b places' f) → (b : ℕ) → i ≤ b → Scan s i b places left → Outcome s (i - 1) b places' f
-  row-below {i} h o b l v = let e : suc (i - 1) ≡ i = omega arith in o b (omega arith) (rw e v)
-
-  -- a block of rows need not be gone through
-  pub block-passed : {from to at : ℕ} {places : List ℕ} (f : Found) → f .at ≡ at → f .last ≡ 0 → from ≤ to → Room s to places at
-      → ((q : ℕ) → from ≤ q → q < to → live (s .uppers) q ≡ true → (over s q ≡ false) × (under s q ≡ false))
-      → Room s from places (f .at) × ((b : ℕ) → to ≤ b → Scan s to b places at → Outcome s from b places f)
-  block-passed {from} {to} f e z h r g = let p : from + (to - from) ≡ to = omega arith in (
-    rw e (record { least = omega (arith, r .least); most = r .most }),
-    λ b l v. through z (rw e (skipped s (to - from) (omega arith) (λ q u m. g q u (omega arith)) (rw p v))),
-  )
-
   -- none of the rows below a place is live where none is taken for it
-  pub none-taken : (dense : Bool) {from to : ℕ} → to ≤ from + 64 → takenLive dense (s .uppers) to ≡ 0 → (q : ℕ) → from ≤ q → q < to → live (s .uppers) q ≡ true
-      → (over s q ≡ false) × (under s q ≡ false)
+  pub none-taken : (dense : Bool) {from to : ℕ} → to ≤ from + 64 → takenLive dense (s .uppers) to ≡ 0 → (q : ℕ) → from ≤ q → q < to → live (s .uppers) q ≡ false
   unfolding takenLive liveIn
-  none-taken dense {from} {to} h e q u l t = go (ltb to 64) refl dense e
+  none-taken dense {from} {to} h e q u l = go (ltb to 64) refl dense e
     where
-      go : (x : Bool) → ltb to 64 ≡ x → (y : Bool) → cond x 1 (cond y 64 (length (filter (live (s .uppers)) (run (to - 64) 64)))) ≡ 0 → (over s q ≡ false) × (under s q ≡ false)
+      go : (x : Bool) → ltb to 64 ≡ x → (y : Bool) → cond x 1 (cond y 64 (length (filter (live (s .uppers)) (run (to - 64) 64)))) ≡ 0 → live (s .uppers) q ≡ false
       go true w y z = absurd (omega arith)
       go false w true z = absurd (omega arith)
       go false w false z =
           let k : 64 ≤ to = ltb-false to 64 w in
-          absurd (clash (live (s .uppers) q) t (none-live (live (s .uppers)) (to - 64) 64 z q (omega arith) (omega arith)))
-
-  -- all rows have been gone through
-  pub scan-end : {from to : ℕ} {before : List ℕ} {at : ℕ} {places : List ℕ} {i left : ℕ} → Scanning from to before at places i left → i ≤ from → (f : Found)
-      → f .at ≡ left → f .last ≡ 0 → Room s from places (f .at) × ((b : ℕ) → to ≤ b → Scan s to b before at → Outcome s from b places f)
-  scan-end {from} {i = i} v h f a z =
-      let e : i ≡ from = omega (arith, v .least) in (
-        rw (a, ← e) (v .room),
-        λ b m w. through z (rw (a, ← e) (v .scanned b m w)),
-      )
+          none-live (live (s .uppers)) (to - 64) 64 z q (omega arith) (omega arith)
 
 -- where d is k, what is asked and said of rows of d columns is asked and said of rows of k
 pub dull-asked-at : {d k directions : ℕ} {columns uppers quote : List ℕ} {n : ℕ} → d ≡ k

@@ -72,18 +72,6 @@ module _ (s : Rows) where
     pub uppers : b ≤ length (s .uppers)
     pub bounded : b ≤ 1024
 
-  -- the rows from place i on and below b have been gone through: those retired are listed from at on, and no
-  -- live row is over the quote
-  pub record Scan (i b : ℕ) (places : List ℕ) (at : ℕ) : Type 0 where
-    pub listed : drop at places ≡ retired i b
-    pub none : (j : ℕ) → i ≤ j → j < b → live (s .uppers) j ≡ true → under j ≡ false
-
-  -- the rows have been gone through down to place i, or down to a live row over the quote, whose number was found
-  pub data Outcome (i b : ℕ) (places : List ℕ) (r : Found) : Type 0 where
-    through : r .last ≡ 0 → Scan i b places (r .at) → Outcome i b places r
-    stopped : (j : ℕ) → r .last ≡ suc j → i ≤ j → j < b → live (s .uppers) j ≡ true → under j ≡ true → suc j ≤ r .at → Scan (suc j) b places (r .at)
-        → Outcome i b places r
-
   -- there is room in the list for the places below i
   pub record Room (i : ℕ) (places : List ℕ) (at : ℕ) : Type 0 where
     pub least : i ≤ at
@@ -100,3 +88,8 @@ module _ (s : Rows) where
     pub listed : drop (r .at) places ≡ retired a b
     pub last : r .last ≡ youngest a b
     pub most : r .at ≤ length places
+
+  -- what was found from place i on and below b goes on to what is found from place a on, if the ends of the rows there are sound where
+  -- they are taken for it
+  abbrev pub Passing : Bool → ℕ → ℕ → ℕ → List ℕ → Found → List ℕ → Found → Type 0
+  Passing sound a i b before f places r = (sound ≡ true → Sound a b) → Finds i b before f → Finds a b places r

@@ -1,9 +1,9 @@
 // What a quote finds among the rows of a table: those that it retires, and the youngest row over it, sought from the youngest row back.
 ghost use mathlib.Core.Path.{_≡_};
-ghost use mathlib.Core.Bool.{cond};
+ghost use mathlib.Core.Bool.{true, cond};
 ghost use Prim.Native.Nat.{ℕ, suc, _+_, _-_, _*_, _≤_, _<_};
 ghost use lib.ListN.{length, set};
-ghost use Rattle.finding.specs.Found.{liveIn, takenLive, dullIn, rows, Fits, Scan, Outcome, Room, Sound, Finds};
+ghost use Rattle.finding.specs.Found.{liveIn, takenLive, dullIn, rows, Fits, Room, Sound, Finds, Passing};
 use dominance::compare;
 use dominance::compare_unrolled;
 
@@ -15,7 +15,7 @@ pub struct Found {
 }
 
 // x if the test passed, else y.
-pub fn chosen(test: bool, x: usize, y: usize) -> usize
+fn chosen(test: bool, x: usize, y: usize) -> usize
     ensures { λ r. ⌜ r ≡ cond test x y ⌝ }
 {
     if test { x } else { y }
@@ -71,7 +71,7 @@ fn dull(
 
 // The same, where the number of columns is one of 01's by a call of its own: the loop over the columns is then unrolled, and rows are
 // compared side by side.
-pub fn dull_columns(
+fn dull_columns(
     directions: u32,
     d: usize,
     columns: &[u32],
@@ -105,7 +105,7 @@ pub fn dull_columns(
 }
 
 // Lists a place in front of those listed from at on, if the test passed. Returns from where on they are listed.
-pub fn push(places: &mut [u16], at: usize, place: usize, test: bool) -> usize
+fn push(places: &mut [u16], at: usize, place: usize, test: bool) -> usize
     requires { ⌜ 0 < at ⌝ }
     requires { ⌜ at ≤ length (now places) ⌝ }
     requires { ⌜ place < 65536 ⌝ }
@@ -118,74 +118,8 @@ pub fn push(places: &mut [u16], at: usize, place: usize, test: bool) -> usize
     chosen(test, before, at)
 }
 
-// Goes through the row at a place.
-fn step(
-    directions: u32,
-    d: usize,
-    columns: &[u32],
-    uppers: &[u32],
-    quote: &[u32],
-    place: usize,
-    places: &mut [u16],
-    at: usize,
-) -> Found
-    requires { ⌜ Fits (rows d directions (now columns) (now uppers) (now quote)) (suc place) ⌝ }
-    requires { ⌜ Room (rows d directions (now columns) (now uppers) (now quote)) (suc place) (now places) at ⌝ }
-    ensures { λ r. ⌜ Room (rows d directions (now (columns .entry)) (now (uppers .entry)) (now (quote .entry))) place
-        (now (places .exit)) (r .at) ⌝ }
-    ensures { λ r. ⌜ ((b : ℕ) → place < b → Scan
-        (rows d directions (now (columns .entry)) (now (uppers .entry)) (now (quote .entry))) (suc place) b
-        (now (places .entry)) at → Outcome (rows d directions (now (columns .entry)) (now (uppers .entry))
-        (now (quote .entry))) place b (now (places .exit)) r) ⌝ }
-{
-    if uppers[place] != 0 {
-        return Found { at, last: 0 };
-    }
-    let c = compare_unrolled(directions, d, quote, columns, place * d);
-    let next = push(places, at, place, c.over_older());
-    Found {
-        at: next,
-        last: chosen(c.under_older(), place + 1, 0),
-    }
-}
-
-// Goes through the rows below a place down to another, or down to a live row over the quote.
-fn scan(
-    directions: u32,
-    d: usize,
-    columns: &[u32],
-    uppers: &[u32],
-    quote: &[u32],
-    from: usize,
-    to: usize,
-    places: &mut [u16],
-    at: usize,
-) -> Found
-    requires { ⌜ from ≤ to ⌝ }
-    requires { ⌜ Fits (rows d directions (now columns) (now uppers) (now quote)) to ⌝ }
-    requires { ⌜ Room (rows d directions (now columns) (now uppers) (now quote)) to (now places) at ⌝ }
-    ensures { λ r. ⌜ Room (rows d directions (now (columns .entry)) (now (uppers .entry)) (now (quote .entry))) from
-        (now (places .exit)) (r .at) ⌝ }
-    ensures { λ r. ⌜ ((b : ℕ) → to ≤ b → Scan (rows d directions (now (columns .entry)) (now (uppers .entry))
-        (now (quote .entry))) to b (now (places .entry)) at → Outcome
-        (rows d directions (now (columns .entry)) (now (uppers .entry)) (now (quote .entry))) from b
-        (now (places .exit)) r) ⌝ }
-{
-    let mut i = to;
-    let mut left = at;
-    while from < i {
-        i -= 1;
-        let found = step(directions, d, columns, uppers, quote, i, places, left);
-        left = found.at;
-        if 0 < found.last {
-            return found;
-        }
-    }
-    Found { at: left, last: 0 }
-}
-
 // Where the rows begin that are gone through at once below a place: 64 rows before it, or at the first one.
-pub fn block_start(from: usize, to: usize) -> usize
+fn block_start(from: usize, to: usize) -> usize
     requires { ⌜ from < to ⌝ }
     ensures { λ r. ⌜ (from ≤ r) × (r < to) ⌝ }
     ensures { λ r. ⌜ to ≤ r + 64 ⌝ }
@@ -195,7 +129,7 @@ pub fn block_start(from: usize, to: usize) -> usize
 
 // How many of the 64 rows below a place are taken for live: all of them in a dense book, where most rows are, else those that are; one
 // where there are fewer rows below it.
-pub fn taken_live(dense: bool, uppers: &[u32], to: usize) -> u32
+fn taken_live(dense: bool, uppers: &[u32], to: usize) -> u32
     requires { ⌜ to ≤ length (now uppers) ⌝ }
     ensures { λ r. ⌜ r ≡ takenLive dense (now (uppers .entry)) to ⌝ }
 {
@@ -208,93 +142,136 @@ pub fn taken_live(dense: bool, uppers: &[u32], to: usize) -> u32
     count_live(uppers, to - 64)
 }
 
-// Goes through the rows from a place on and below another, which are 64 at most: none where none is live, and where most are taken for
-// live, one by one only if one of the 64 rows below that place is comparable.
-fn scan_block(
+// Goes through the row at a place. Where the rows' ends are sound a retired row is passed over; elsewhere it is once a row over the quote
+// is found.
+fn go_through(
+    sound: bool,
     directions: u32,
     d: usize,
     columns: &[u32],
     uppers: &[u32],
     quote: &[u32],
-    dense: bool,
-    from: usize,
-    to: usize,
+    place: usize,
     places: &mut [u16],
-    at: usize,
+    found: Found,
 ) -> Found
-    requires { ⌜ (from ≤ to) × (to ≤ from + 64) ⌝ }
-    requires { ⌜ Fits (rows d directions (now columns) (now uppers) (now quote)) to ⌝ }
-    requires { ⌜ Room (rows d directions (now columns) (now uppers) (now quote)) to (now places) at ⌝ }
-    ensures { λ r. ⌜ Room (rows d directions (now (columns .entry)) (now (uppers .entry)) (now (quote .entry))) from
+    requires { ⌜ Fits (rows d directions (now columns) (now uppers) (now quote)) (suc place) ⌝ }
+    requires { ⌜ Room (rows d directions (now columns) (now uppers) (now quote)) (suc place) (now places)
+        (found .at) ⌝ }
+    ensures { λ r. ⌜ Room (rows d directions (now (columns .entry)) (now (uppers .entry)) (now (quote .entry))) place
         (now (places .exit)) (r .at) ⌝ }
-    ensures { λ r. ⌜ ((b : ℕ) → to ≤ b → Scan (rows d directions (now (columns .entry)) (now (uppers .entry))
-        (now (quote .entry))) to b (now (places .entry)) at → Outcome
-        (rows d directions (now (columns .entry)) (now (uppers .entry)) (now (quote .entry))) from b
-        (now (places .exit)) r) ⌝ }
+    ensures { λ r. ⌜ ((b : ℕ) → suc place ≤ b → Passing
+        (rows d directions (now (columns .entry)) (now (uppers .entry)) (now (quote .entry))) sound place (suc place) b
+        (now (places .entry)) found (now (places .exit)) r) ⌝ }
 {
-    let live = taken_live(dense, uppers, to);
-    if live == 0 {
-        return Found { at, last: 0 };
+    let live = uppers[place] == 0;
+    if !live & (sound | (0 < found.last)) {
+        return found;
     }
-    if 32 < live {
-        if dull_columns(directions, d, columns, uppers, quote, to - 64) {
-            return Found { at, last: 0 };
-        }
+    let c = compare_unrolled(directions, d, quote, columns, place * d);
+    let at = push(places, found.at, place, live & c.over_older());
+    Found {
+        at,
+        last: chosen((found.last == 0) & c.under_older(), place + 1, found.last),
     }
-    scan(directions, d, columns, uppers, quote, from, to, places, at)
 }
 
-// Goes through the rows below a place down to another, by blocks of 64, or down to a live row over the quote.
-fn scan_blocks(
+// Goes through the rows below a place down to another; where their ends are sound, down to one over the quote.
+fn go_down(
+    sound: bool,
     directions: u32,
     d: usize,
     columns: &[u32],
     uppers: &[u32],
     quote: &[u32],
-    dense: bool,
     from: usize,
     to: usize,
     places: &mut [u16],
-    at: usize,
+    found: Found,
 ) -> Found
     requires { ⌜ from ≤ to ⌝ }
     requires { ⌜ Fits (rows d directions (now columns) (now uppers) (now quote)) to ⌝ }
-    requires { ⌜ Room (rows d directions (now columns) (now uppers) (now quote)) to (now places) at ⌝ }
+    requires { ⌜ Room (rows d directions (now columns) (now uppers) (now quote)) to (now places) (found .at) ⌝ }
     ensures { λ r. ⌜ Room (rows d directions (now (columns .entry)) (now (uppers .entry)) (now (quote .entry))) from
         (now (places .exit)) (r .at) ⌝ }
-    ensures { λ r. ⌜ ((b : ℕ) → to ≤ b → Scan (rows d directions (now (columns .entry)) (now (uppers .entry))
-        (now (quote .entry))) to b (now (places .entry)) at → Outcome
-        (rows d directions (now (columns .entry)) (now (uppers .entry)) (now (quote .entry))) from b
-        (now (places .exit)) r) ⌝ }
+    ensures { λ r. ⌜ ((b : ℕ) → to ≤ b → Passing
+        (rows d directions (now (columns .entry)) (now (uppers .entry)) (now (quote .entry))) sound from to b
+        (now (places .entry)) found (now (places .exit)) r) ⌝ }
 {
     let mut i = to;
-    let mut left = at;
+    let mut so_far = found;
     while from < i {
-        let next = block_start(from, i);
-        let found = scan_block(
+        i -= 1;
+        so_far = go_through(
+            sound,
             directions,
             d,
             columns,
             uppers,
             quote,
-            dense,
-            next,
             i,
             places,
-            left,
+            so_far,
         );
-        left = found.at;
-        if 0 < found.last {
-            return found;
+        if sound & (0 < so_far.last) {
+            return so_far;
         }
-        i = next;
     }
-    Found { at: left, last: 0 }
+    so_far
 }
 
-// Finds which of the rows from a place on and below another a quote retires, and the youngest of them over it, where the rows are as
-// calls leave them: no row need be gone through beyond the youngest live one over the quote. In a dense book most rows are live.
-pub fn find_sound(
+// Goes through the rows from a place on and below another, which are 64 at most: none where none is live and no retired row counts, and
+// where most are taken for live, one by one only if one of the 64 rows below that place is comparable.
+fn go_down_block(
+    sound: bool,
+    directions: u32,
+    d: usize,
+    columns: &[u32],
+    uppers: &[u32],
+    quote: &[u32],
+    dense: bool,
+    from: usize,
+    to: usize,
+    places: &mut [u16],
+    found: Found,
+) -> Found
+    requires { ⌜ (from ≤ to) × (to ≤ from + 64) ⌝ }
+    requires { ⌜ Fits (rows d directions (now columns) (now uppers) (now quote)) to ⌝ }
+    requires { ⌜ Room (rows d directions (now columns) (now uppers) (now quote)) to (now places) (found .at) ⌝ }
+    ensures { λ r. ⌜ Room (rows d directions (now (columns .entry)) (now (uppers .entry)) (now (quote .entry))) from
+        (now (places .exit)) (r .at) ⌝ }
+    ensures { λ r. ⌜ ((b : ℕ) → to ≤ b → Passing
+        (rows d directions (now (columns .entry)) (now (uppers .entry)) (now (quote .entry))) sound from to b
+        (now (places .entry)) found (now (places .exit)) r) ⌝ }
+{
+    let live = taken_live(dense, uppers, to);
+    if (live == 0) & (sound | (0 < found.last)) {
+        return found;
+    }
+    if 32 < live {
+        if dull_columns(directions, d, columns, uppers, quote, to - 64) {
+            return found;
+        }
+    }
+    go_down(
+        sound,
+        directions,
+        d,
+        columns,
+        uppers,
+        quote,
+        from,
+        to,
+        places,
+        found,
+    )
+}
+
+// Finds which of the rows from a place on and below another a quote retires, and the youngest of them over it, by blocks of 64 from the
+// youngest row back. Where the rows' ends are sound, as calls leave them, no row need be gone through beyond the youngest live one over the
+// quote. In a dense book most rows are live.
+pub fn find_rows(
+    sound: bool,
     directions: u32,
     d: usize,
     columns: &[u32],
@@ -308,21 +285,34 @@ pub fn find_sound(
     requires { ⌜ from ≤ to ⌝ }
     requires { ⌜ Fits (rows d directions (now columns) (now uppers) (now quote)) to ⌝ }
     requires { ⌜ to ≤ length (now places) ⌝ }
-    requires { ⌜ Sound (rows d directions (now columns) (now uppers) (now quote)) from to ⌝ }
+    requires { ⌜ (sound ≡ true → Sound (rows d directions (now columns) (now uppers) (now quote)) from to) ⌝ }
     ensures { λ r. ⌜ Finds (rows d directions (now (columns .entry)) (now (uppers .entry)) (now (quote .entry))) from to
         (now (places .exit)) r ⌝ }
 {
-    let end = places.len();
-    scan_blocks(
-        directions,
-        d,
-        columns,
-        uppers,
-        quote,
-        dense,
-        from,
-        to,
-        places,
-        end,
-    )
+    let mut i = to;
+    let mut so_far = Found {
+        at: places.len(),
+        last: 0,
+    };
+    while from < i {
+        let next = block_start(from, i);
+        so_far = go_down_block(
+            sound,
+            directions,
+            d,
+            columns,
+            uppers,
+            quote,
+            dense,
+            next,
+            i,
+            places,
+            so_far,
+        );
+        if sound & (0 < so_far.last) {
+            return so_far;
+        }
+        i = next;
+    }
+    so_far
 }

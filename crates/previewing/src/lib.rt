@@ -4,7 +4,7 @@ ghost use mathlib.Core.Path.{_≡_};
 ghost use Rattle.model.specs.Promises.{tables, Previewed};
 ghost use Rattle.previewing.specs.Effects.{effectOf};
 use head::Head;
-use quoting::judge_row;
+use quoting::judge;
 use refusals::Answer;
 use replies::Effect;
 use replies::Reply;
@@ -47,7 +47,8 @@ pub fn preview(
         watches (now (out .entry)) r (now (out .exit)) ⌝ }
 {
     let room = out.len();
-    let answer = judge_row(
+    let answer = judge(
+        false,
         head,
         quote,
         columns,
@@ -71,7 +72,7 @@ pub fn preview(
         }
     }
     let mut places = [0u16; PLACES];
-    let found = find(head, quote, columns, upper_ends, &mut places);
+    let found = find(false, head, quote, columns, upper_ends, &mut places);
     let at = found.at;
     let count = write(
         head,

@@ -107,7 +107,7 @@ module _ {h : Head} {x : List ℕ} {t : Tables} {ws : List ℕ} {room : ℕ} {f 
   abbrev retired : List ℕ
   retired = take (length ps - f .at) (drop (f .at) ps)
 
-  retired-is : retired ≡ drop (f .at) ps
+  pub retired-is : retired ≡ drop (f .at) ps
   retired-is = take-all (length ps - f .at) (drop (f .at) ps) (omega (arith, length-drop (f .at) ps))
 
   -- what is asked before the changes are written

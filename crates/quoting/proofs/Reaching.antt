@@ -1,4 +1,4 @@
--- What is known of a quote's book: what a quote on one that calls left answers, and whether its rows' ends are as calls leave them.
+-- What is known of a quote's book: what a quote on a reachable one answers, and that its rows' ends are as calls leave them.
 use mathlib.Core.Path.{_≡_, sym, _∙_}
 use Prim.Native.Nat.{ℕ, _≤_}
 use mathlib.Core.Bool.{Bool, false}
@@ -15,20 +15,25 @@ use Rattle.settling.specs.Findings.{heldRows}
 use Rattle.settling.proofs.Reaching.{reached-live, reached-lasting, reached-behind}
 use Rattle.writing.specs.Bytes.{SoundIf}
 use Rattle.quoting.specs.Answers.{quoteTests, reachedAnswer}
+use Rattle.quoting.specs.Known.{Known}
 
--- a quote on a book that calls left is answered by its settings and the quote's own tests
+-- a quote on a reachable book is answered by its settings and the quote's own tests
 pub reached-answers : {h : Head} (x : List ℕ) {t : Tables} {ws : List ℕ} (room : ℕ) {a : ℕ} → Reached (world h t ws) → a ≡ reachedAnswer h x room → a ≡ quoteAnswer h x t ws room
 unfolding quoteAnswer reachedAnswer
 reached-answers {h} x room r e = e ∙ sym (reached-judged (quoteTests h x room) r)
 
 -- there the rows' ends are as calls leave them
-pub reached-sound-if : (sound : Bool) {h : Head} (x : List ℕ) {t : Tables} {ws : List ℕ} → Reached (world h t ws) → 1 ≤ h .capacity
-    → SoundIf sound h (t .lowerEnds) (heldRows h x (t .columns) (t .upperEnds))
-reached-sound-if sound x r k = record {
-  named = λ e. record { names = reached-live r k };
-  ends = λ e. record { lasting = reached-lasting r k; behind = reached-behind r k };
+pub known-sound : (reachable : Bool) {h : Head} (x : List ℕ) {t : Tables} {ws : List ℕ} → Known reachable h t ws → 1 ≤ h .capacity
+    → SoundIf reachable h (t .lowerEnds) (heldRows h x (t .columns) (t .upperEnds))
+known-sound reachable x w k = record {
+  named = λ e. record { names = reached-live (w .reached e) k };
+  ends = λ e. record { lasting = reached-lasting (w .reached e) k; behind = reached-behind (w .reached e) k };
 }
 
--- on any other book nothing is said
-pub any-sound-if : {sound : Bool} {h : Head} {lowers : List ℕ} {rows : Rows} → sound ≡ false → SoundIf sound h lowers rows
-any-sound-if {sound} f = record { named = λ e. absurd (clash sound e f); ends = λ e. absurd (clash sound e f) }
+-- of any tables nothing is known
+pub unknown : {reachable : Bool} {h : Head} {t : Tables} {ws : List ℕ} → reachable ≡ false → Known reachable h t ws
+unknown {reachable} f = record { reached = λ e. absurd (clash reachable e f); roomy = λ e. absurd (clash reachable e f) }
+
+-- and nothing is said of their rows' ends
+pub unknown-sound : {reachable : Bool} {h : Head} {lowers : List ℕ} {rows : Rows} → reachable ≡ false → SoundIf reachable h lowers rows
+unknown-sound {reachable} f = record { named = λ e. absurd (clash reachable e f); ends = λ e. absurd (clash reachable e f) }

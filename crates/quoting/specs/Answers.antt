@@ -15,6 +15,6 @@ abbrev pub quoteTests : Head → List ℕ → ℕ → List (Bool × ℕ)
 quoteTests h x room =
     (not (eqb (length x) (h .dimensions)), number ColumnCount) ∷ (leb lastPosition (h .newest), number TapeFull) ∷ (ltb room changeRoom, number ShortOutput) ∷ []
 
--- the answer of quote x on a book of which neither 11 nor 12 is said, 0 if accepted: 3, 4, 6, 13
+-- the answer of quote x on a reachable book, of which neither 11 nor 12 is said, 0 if accepted: 3, 4, 6, 13
 unfoldable pub reachedAnswer : Head → List ℕ → ℕ → ℕ
 reachedAnswer h x room = firstOf ((not (settingsHold (h .dimensions) (h .capacity) (h .directions)), number Settings) ∷ quoteTests h x room)

@@ -1,9 +1,11 @@
-// The judgement of a quote, on any tables and on a book that calls left.
+// The judgement of a quote, on any tables or on a reachable book.
 ghost use mathlib.Core.Path.{_≡_};
+ghost use mathlib.Core.Bool.{true};
 ghost use Rattle.refusals.specs.Refusals.{numberOf, firstOf, granted};
 ghost use Rattle.model.specs.Book.{quoteAnswer};
-ghost use Rattle.model.specs.Promises.{tables};
-ghost use Rattle.quoting.specs.Answers.{quoteTests, reachedAnswer};
+ghost use Rattle.model.specs.Calls.{Reached};
+ghost use Rattle.model.specs.Promises.{tables, world};
+ghost use Rattle.quoting.specs.Answers.{quoteTests};
 use head::Head;
 use judging::judge_settings;
 use judging::judge_watchful;
@@ -23,8 +25,10 @@ fn with_quote(answer: Answer, head: Head, quote: &[u32], room: usize) -> Answer
     with_test(below, short_output(room), Refusal::ShortOutput)
 }
 
-// The answer of a quote with an output of this length.
-pub fn judge_row(
+// The answer of a quote with an output of this length. Of a reachable book neither 11 nor 12 is said, so its tables and watches are not
+// judged again.
+pub fn judge(
+    reachable: bool,
     head: Head,
     quote: &[u32],
     columns: &[u32],
@@ -34,17 +38,15 @@ pub fn judge_row(
     watches: [u64; 8],
     room: usize,
 ) -> Answer
+    requires { ⌜ (reachable ≡ true → Reached (world head (tables (now columns) (now positions) (now «lower_ends»)
+        (now «upper_ends»)) watches)) ⌝ }
     ensures { λ r. ⌜ numberOf r ≡ quoteAnswer head (now (quote .entry))
         (tables (now (columns .entry)) (now (positions .entry)) (now («lower_ends» .entry)) (now («upper_ends» .entry)))
         watches room ⌝ }
 {
+    if reachable {
+        return with_quote(judge_settings(head), head, quote, room);
+    }
     let judged = judge_watchful(head, columns, positions, lower_ends, upper_ends, watches);
     with_quote(judged, head, quote, room)
-}
-
-// The answer of a quote on a book that calls left: 3, 4, 6, 13.
-pub fn judge_reached(head: Head, quote: &[u32], room: usize) -> Answer
-    ensures { λ r. ⌜ numberOf r ≡ reachedAnswer head (now (quote .entry)) room ⌝ }
-{
-    with_quote(judge_settings(head), head, quote, room)
 }

@@ -16,7 +16,7 @@ use Rattle.model.specs.Calls.{Reached}
 use Rattle.model.specs.Promises.{tables, world}
 use Rattle.claims.proofs.Places.{reached-in-places}
 use Rattle.row_starts.specs.declared.Start.{Start}
-use Rattle.row_starts.specs.Starts.{Long, Within, FullOpened, onward}
+use Rattle.row_starts.specs.Starts.{Long, Within, FullOpened, onward, Moved, stays, moves}
 
 -- tables as long as these are long enough
 pub long-same : {t t' : Tables} → length (t' .columns) ≡ length (t .columns) → length (t' .positions) ≡ length (t .positions) → length (t' .lowerEnds) ≡ length (t .lowerEnds)
@@ -50,17 +50,22 @@ module _ {s : Start} {h : Head} {t : Tables} (k : Long t) (w : Within 1024 s) (o
       let v = settings-within _ _ _ holds in
       omega (arith, w .bounded, w .near, v .small-capacity, mul-le-mul (v .small-capacity) (v .bounded-columns))
 
-  -- at the front they are the same book
+  -- at the front its places hold the same
   pub rewound : {cs qs ls us : List ℕ} → cs ≡ paste (t .columns) 0 (drop (s .cell) (t .columns)) (s .cell + h .capacity * h .dimensions - s .cell)
       → qs ≡ paste (t .positions) 0 (drop (s .row) (t .positions)) (s .row + h .capacity - s .row) → ls ≡ paste (t .lowerEnds) 0 (drop (s .row) (t .lowerEnds)) (s .row + h .capacity - s .row)
       → us ≡ paste (t .upperEnds) 0 (drop (s .row) (t .upperEnds)) (s .row + h .capacity - s .row)
-      → (ws : List ℕ) → Reached (world h (onward s t) ws) → Reached (world h (onward (record { row = 0; cell = 0 }) (tables cs qs ls us)) ws)
+      → Moved h (onward s t) (onward (record { row = 0; cell = 0 }) (tables cs qs ls us))
   unfolding onward
-  rewound c q l u ws r =
+  rewound c q l u =
       let i = rows-inside in
-      reached-in-places holds r (record {
+      moves holds (record {
         columns = front-moved (t .columns) (s .cell) (h .capacity * h .dimensions) (omega (arith, i .0, k .columns)) c;
         positions = front-moved (t .positions) (s .row) (h .capacity) (omega (arith, i .1, k .positions)) q;
         lowerEnds = front-moved (t .lowerEnds) (s .row) (h .capacity) (omega (arith, i .1, k .lowerEnds)) l;
         upperEnds = front-moved (t .upperEnds) (s .row) (h .capacity) (omega (arith, i .1, k .upperEnds)) u;
       })
+
+-- a book that calls left, where it goes on
+pub moved-reached : {h : Head} {t u : Tables} {ws : List ℕ} → Moved h t u → Reached (world h t ws) → Reached (world h u ws)
+moved-reached stays c = c
+moved-reached (moves holds same) c = reached-in-places holds c same

@@ -7,6 +7,7 @@ use Rattle.head.specs.declared.Head.{Head}
 use Rattle.head.specs.Heads.{maxDimensions, maxCapacity, settingsHold}
 use Rattle.model.specs.Rows.{Tables}
 use Rattle.model.specs.Promises.{tables}
+use Rattle.claims.specs.Places.{SamePlaces}
 use Rattle.row_starts.specs.declared.Start.{Start}
 
 -- the tables have twice the places of the largest N, and the columns six cells for each
@@ -28,3 +29,9 @@ pub record FullOpened (s : Start) (h : Head) : Type 0 where
 -- the tables from where the rows start on
 unfoldable pub onward : Start → Tables → Tables
 onward s t = tables (drop (s .cell) (t .columns)) (drop (s .row) (t .positions)) (drop (s .row) (t .lowerEnds)) (drop (s .row) (t .upperEnds))
+
+-- a book with this head that stands in tables t may go on in tables u: they are the same, or an opening was accepted and its N places in u hold
+-- what those in t hold
+pub data Moved (h : Head) (t : Tables) : Tables → Type 0 where
+  stays : Moved h t t
+  moves : {u : Tables} → settingsHold (h .dimensions) (h .capacity) (h .directions) ≡ true → SamePlaces (h .dimensions) (h .capacity) t u → Moved h t u

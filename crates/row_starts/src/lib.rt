@@ -1,12 +1,10 @@
 // Where the rows of a book start in tables of twice the places that it needs: slid by a place, and moved to the front when the places are
 // used up.
 ghost use mathlib.Core.Path.{_≡_};
-ghost use mathlib.Core.List.{List};
-ghost use Prim.Native.Nat.{ℕ, _+_, _*_, _≤_};
+ghost use Prim.Native.Nat.{_+_, _*_, _≤_};
 ghost use Rattle.head.specs.Heads.{maxCapacity};
-ghost use Rattle.model.specs.Calls.{Reached};
-ghost use Rattle.model.specs.Promises.{tables, world};
-ghost use Rattle.row_starts.specs.Starts.{Long, Within, FullOpened, onward};
+ghost use Rattle.model.specs.Promises.{tables};
+ghost use Rattle.row_starts.specs.Starts.{Long, Within, FullOpened, onward, Moved};
 use cells::shift;
 use head::Head;
 use sizes::COLUMN_CELLS;
@@ -48,11 +46,11 @@ pub fn rewind(
     requires { ⌜ Long (tables (now columns) (now positions) (now «lower_ends») (now «upper_ends»)) ⌝ }
     requires { ⌜ Within maxCapacity start × FullOpened start head ⌝ }
     ensures { λ r. ⌜ Within 1023 r ⌝ }
-    ensures { λ r. ⌜ ((ws : List ℕ) → Reached (world head
+    ensures { λ r. ⌜ Moved head
         (onward start (tables (now (columns .entry)) (now (positions .entry)) (now («lower_ends» .entry))
-        (now («upper_ends» .entry)))) ws) → Reached
-        (world head (onward r (tables (now (columns .exit)) (now (positions .exit)) (now («lower_ends» .exit))
-        (now («upper_ends» .exit)))) ws)) ⌝ }
+        (now («upper_ends» .entry))))
+        (onward r (tables (now (columns .exit)) (now (positions .exit)) (now («lower_ends» .exit))
+        (now («upper_ends» .exit)))) ⌝ }
 {
     let row = start.row;
     if row < PLACES {

@@ -17,7 +17,7 @@ use Rattle.model.specs.Rows.{Row, Tables, rowAt, rowsIn, isLive, liveRows, expi
 use Rattle.model.specs.Book.{bookRows}
 use Rattle.finding.specs.Found.{Rows, live, liveIn, over, under, retires, retired, youngest, Fits}
 use Rattle.settling.specs.declared.Finding.{Finding}
-use Rattle.settling.specs.Findings.{expiredPlaces, positionOf, heldRows, Findable, retiredPlaces, youngestOver, Finds}
+use Rattle.settling.specs.Findings.{expiredPlaces, positionOf, heldRows, Findable, retiredPlaces, youngestOver, Finds, namedIf}
 use Rattle.settling.proofs.Numbers.{split-counted, live-parts}
 use Rattle.settling.proofs.Standing.{Admitted, within, long, whole, held-is, places, position-at, left-is}
 
@@ -162,3 +162,7 @@ module _ {h : Head} {x : List ℕ} {t : Tables} (a : Admitted h x t) where
 
     pub found-gone : f .gone ≡ expiring (h .newest) (h .capacity)
     found-gone = ap Finding.gone (v .tells)
+
+    -- the places that may hold a lower end that names it
+    pub found-named : f .named ≡ namedIf (f .reachable) h (t .upperEnds)
+    found-named = ap Finding.named (v .tells)

@@ -5,10 +5,11 @@ use mathlib.Core.Logic.{_⊎_, inl, inr}
 use Prim.Native.Nat.{ℕ, suc, _+_, _-_, _≤_, _<_}
 use native.Mathlib.Nat.{zero-add}
 use native.Mathlib.Omega.{arith}
-use mathlib.Core.Bool.{Bool, true, false, _&&_, not}
+use mathlib.Core.Bool.{Bool, true, false, _&&_, not, cond}
 use mathlib.Core.List.{List, [], _∷_}
 use lib.ListN.{length, getD, length-append, length-drop}
-use borrow.Author.Tests.{eq-eqb, ne-eqb}
+use lib.Dec.{eqb}
+use borrow.Author.Tests.{eq-eqb, ne-eqb, eqb-false, not-true, not-false}
 use Rattle.lists.specs.Lists.{keep, filter, lastOr, run}
 use Rattle.lists.proofs.Filters.{filter-append, length-filter}
 use Rattle.lists.proofs.Runs.{length-run, run-append, Last, last-spec}
@@ -19,7 +20,7 @@ use Rattle.finding.specs.declared.Found.{Found}
 use Rattle.finding.specs.Found as finding
 use Rattle.finding.specs.Found.{Rows, live, liveIn, over, under, retires, retired, youngest}
 use Rattle.settling.specs.declared.Finding.{Finding}
-use Rattle.settling.specs.Findings.{expiredPlaces, positionOf, heldRows, Findable, Tellable, told, retiredPlaces, Finds, Placed, namedBefore}
+use Rattle.settling.specs.Findings.{expiredPlaces, positionOf, heldRows, Findable, Tellable, told, retiredPlaces, Finds, Placed, namedBefore, namedIf}
 
 -- those that pass one test, with and without another
 pub split-counted : {A : Type 0} (f g : A → Bool) (l : List A) → length (filter (λ a. f a && not (g a)) l) + length (filter (λ a. f a && g a) l) ≡ length (filter f l)
@@ -108,10 +109,10 @@ module _ {h : Head} {x columns uppers before : List ℕ} (v : Findable h x colum
         }
 
     -- and is what is to be found
-    pub tells : {g : Finding} {sound : Bool} → g ≡ told h uppers sound (r .at) (r .last) (length places - r .at) → (g .sound ≡ sound) × Finds h x columns uppers places g
+    pub tells : {g : Finding} {reachable : Bool} → g ≡ told h uppers reachable (r .at) (r .last) (length places - r .at) → (g .reachable ≡ reachable) × Finds h x columns uppers places g
     tells {g} t =
         let at : g .at ≡ r .at = ap Finding.at t in
-        let same = ap Finding.sound t in (
+        let same = ap Finding.reachable t in (
           same,
           record {
             listed = rw at (f .listed ∙ rw e);
@@ -126,9 +127,10 @@ module _ {h : Head} {uppers : List ℕ} {last count by n : ℕ} (v : Tellable h 
   pub lost-within : n + count ≤ h .live
   lost-within = rw (l, e) (v .lost)
 
-  pub told-is : (sound : Bool) (at : ℕ) {gone lower : ℕ} → gone ≡ expiring (h .newest) (h .capacity) → lower ≡ positionOf h last
-      → record { by = by; gone = gone; at = at; lower = lower; live = h .live - (n + count) + 1; held = h .held - by + 1; sound = sound } ≡ told h uppers sound at last count
-  told-is sound at g p = rw (l, e, g, p)
+  pub told-is : (reachable : Bool) (at : ℕ) {gone lower named : ℕ} → gone ≡ expiring (h .newest) (h .capacity) → lower ≡ positionOf h last → named ≡ namedIf reachable h uppers
+      → record { by = by; gone = gone; named = named; at = at; lower = lower; live = h .live - (n + count) + 1; held = h .held - by + 1; reachable = reachable }
+      ≡ told h uppers reachable at last count
+  told-is reachable at g p m = rw (l, e, g, p, m)
 
 -- ---- where lower ends may name the expired position
 
@@ -157,3 +159,31 @@ module _ (h : Head) (uppers : List ℕ) {g : ℕ} (e : g ≡ expiring (h .newest
             → (g ≤ getD uppers 0 0) × (getD uppers 0 0 ≤ h .newest)
         go (inl z) = absurd (n z)
         go (inr u) = (rw e (u .0), u .1)
+
+-- any held one may
+pub named-any : (reachable : Bool) (h : Head) (uppers : List ℕ) → not reachable ≡ true → h .held ≡ namedIf reachable h uppers
+unfolding namedIf
+named-any reachable h uppers e = rw (not-true reachable e)
+
+-- those before the upper end in a reachable book
+pub named-some : (reachable : Bool) (h : Head) (uppers : List ℕ) {n : ℕ} → not reachable ≡ false → n ≡ namedBefore h uppers → n ≡ namedIf reachable h uppers
+unfolding namedIf
+named-some reachable h uppers e f = rw (not-false reachable e) f
+
+-- they are places of rows held
+pub named-most : (reachable : Bool) {h : Head} {uppers : List ℕ} → Placed h uppers → namedIf reachable h uppers ≤ h .held
+unfolding namedIf namedBefore windowStart expiring
+named-most false v = omega arith
+named-most true {h} {uppers} v = go (eqb g 0) refl (eqb (getD uppers 0 0) 0) refl
+  where
+    g : ℕ
+    g = h .newest + 1 - h .capacity
+
+    go : (b : Bool) → eqb g 0 ≡ b → (c : Bool) → eqb (getD uppers 0 0) 0 ≡ c → cond b 0 (cond c (h .held) (getD uppers 0 0 - g)) ≤ h .held
+    go true e c f = omega arith
+    go false e true f = omega arith
+    go false e false f = within (v .upper (omega (arith, eqb-false g 0 e)))
+      where
+        within : (getD uppers 0 0 ≡ 0) ⊎ ((g ≤ getD uppers 0 0) × (getD uppers 0 0 ≤ h .newest)) → getD uppers 0 0 - g ≤ h .held
+        within (inl z) = omega (arith, z)
+        within (inr z) = omega (arith, z .1, v .full)

@@ -4,9 +4,10 @@ use Prim.Native.Nat.{ℕ, suc, _+_, _-_, _*_, _≤_, _<_}
 use native.Mathlib.Nat.{le-refl, mul-one, mul-le-mul, mul-le-mul-right, suc-mul, mul-sub, mul-comm, zero-add}
 use native.Mathlib.Decide.{decLt}
 use native.Mathlib.Omega.{arith}
+use mathlib.Core.Bool.{Bool, true, false}
 use mathlib.Core.List.{List, [], _∷_, _++_, map}
 use lib.ListN.{length, getD, set, take, drop, length-map, List·getD-append}
-use lib.Seq.{length-take-le, drop-set-lt}
+use lib.Seq.{paste, length-front, length-take-le, drop-set-lt}
 use Rattle.lists.specs.Lists.{run, padded}
 use Rattle.lists.proofs.Cells.{map-run, cells-part}
 use Rattle.lists.proofs.Filters.{map-map}
@@ -17,13 +18,13 @@ use Rattle.lists.proofs.Writing.{beyond-only}
 use Rattle.head.specs.declared.Head.{Head}
 use Rattle.model.specs.Rows.{renamed}
 use Rattle.cells.specs.Marked.{marked, Below}
-use Rattle.settling.specs.Settled.{rowsPut, lowersPut, uppersPut, Ready, Unnamed}
+use Rattle.settling.specs.Settled.{rowsPut, lowersPut, uppersPut, rowsBehind, rowsSettled, lowersSettled, uppersSettled, Ready, Unnamed}
 
 -- the rows behind the first ones
 pub rows-less : (m n w : ℕ) → m * w - n * w ≡ (m - n) * w
 rows-less m n w = sym (mul-comm (m - n) w ∙ mul-sub w m n ∙ ap₂ (λ (a b : ℕ). a - b) (mul-comm w m) (mul-comm w n))
 
-module _ {h : Head} {w by : ℕ} {cells : List ℕ} (v : Ready h w by cells) where
+module _ {h : Head} {k : Bool} {w by : ℕ} {cells : List ℕ} (v : Ready h k w by cells) where
   -- the sizes in cells
   pub sizes : (by * w ≤ h .held * w) × (h .held * w ≤ h .capacity * w) × (h .capacity * w ≤ 6144)
   sizes = (mul-le-mul-right w (v .by-held), mul-le-mul-right w (v .held-fit), mul-le-mul (v .bounded) (v .narrow))
@@ -32,8 +33,12 @@ module _ {h : Head} {w by : ℕ} {cells : List ℕ} (v : Ready h w by cells) whe
   pub row-fits : {n : ℕ} → n ≡ w → h .held * w - by * w + n ≤ h .capacity * w
   row-fits e = rw (rows-less (h .held) by w) (omega (arith, suc-mul (h .held - by) w, mul-le-mul-right w (v .room)))
 
+  -- and behind all rows held, in a reachable book
+  pub behind-fits : k ≡ true → h .held * w + w ≤ length cells
+  behind-fits e = omega (arith, sizes, v .spare e)
+
   -- other cells, as many
-  pub ready-same : {cells' : List ℕ} → length cells' ≡ length cells → Ready h w by cells'
+  pub ready-same : {cells' : List ℕ} → length cells' ≡ length cells → Ready h k w by cells'
   ready-same n = record {
     narrow = v .narrow;
     bounded = v .bounded;
@@ -41,6 +46,7 @@ module _ {h : Head} {w by : ℕ} {cells : List ℕ} (v : Ready h w by cells) whe
     room = v .room;
     held-fit = v .held-fit;
     long = rw n (v .long);
+    spare = λ e. rw n (v .spare e);
   }
 
 -- a table of one cell a row
@@ -54,7 +60,7 @@ put-one h by row cells = rw (mul-one (h .capacity), mul-one (h .held), mul-one b
 pub any-unnamed : (gone n : ℕ) (lowers : List ℕ) → Unnamed gone n n lowers
 any-unnamed gone n lowers = record { within = le-refl n; same = λ i u w. absurd (omega arith) }
 
-module _ {h : Head} {by gone named : ℕ} {lowers after : List ℕ} (v : Ready h 1 by lowers) (u : Unnamed gone named (h .held) lowers)
+module _ {h : Head} {k : Bool} {by gone named : ℕ} {lowers after : List ℕ} (v : Ready h k 1 by lowers) (u : Unnamed gone named (h .held) lowers)
     (e : after ≡ map (renamed gone) (take named lowers) ++ drop named lowers) where
   abbrev front : List ℕ
   front = map (renamed gone) (take named lowers)
@@ -108,7 +114,7 @@ drop-marked [] x n cells b = refl
 drop-marked (p ∷ ps) x n cells b =
     drop-marked ps x n (set cells p x) (record { low = λ k l. b .low (suc k) (omega arith) }) ∙ drop-set-lt n cells p x (b .low 0 (omega arith))
 
-module _ {h : Head} {by : ℕ} {uppers : List ℕ} (v : Ready h 1 by uppers) {places : List ℕ} (b : Below places (h .held)) where
+module _ {h : Head} {k : Bool} {by : ℕ} {uppers : List ℕ} (v : Ready h k 1 by uppers) {places : List ℕ} (b : Below places (h .held)) where
   pub places-below : Below places (length uppers)
   places-below = record { low = λ k l. omega (arith, b .low k l, v .held-fit, v .long, mul-one (h .capacity)) }
 
@@ -122,3 +128,34 @@ module _ {h : Head} {by : ℕ} {uppers : List ℕ} (v : Ready h 1 by uppers) {pl
         f ∙ put-one h by (0 ∷ []) after
         ∙ beyond-only (h .capacity) _ after uppers (marked-same (h .capacity) (v .held-fit))
         ∙ ap (λ (l : List ℕ). padded (h .capacity) (take (h .held - by) (drop by l) ++ (0 ∷ [])) uppers) e
+
+-- ---- a table as it is settled
+
+-- in a reachable book the row is put behind the others
+pub settled-behind : (h : Head) {k : Bool} (w by : ℕ) (row cells : List ℕ) {after : List ℕ} → k ≡ true → after ≡ paste cells (h .held * w) row (length row) → after ≡ rowsSettled h k w by row cells
+unfolding rowsSettled rowsBehind
+settled-behind h w by row cells e f = rw e f
+
+-- in any other they move to the front first
+pub settled-put : (h : Head) {k : Bool} (w by : ℕ) (row cells : List ℕ) {after : List ℕ} → k ≡ false
+    → after ≡ padded (h .capacity * w) (take (h .held * w - by * w) (drop (by * w) cells) ++ row) cells → after ≡ rowsSettled h k w by row cells
+unfolding rowsSettled rowsPut
+settled-put h w by row cells e f = rw e f
+
+-- what a table settled in any book holds
+pub put-rows : (h : Head) {k : Bool} (w by : ℕ) (row cells : List ℕ) {after : List ℕ} → k ≡ false → after ≡ rowsSettled h k w by row cells → after ≡ rowsPut h w by row cells
+unfolding rowsSettled
+put-rows h w by row cells e f = rw e at f
+
+pub put-lowers : {h : Head} {k : Bool} {by : ℕ} {lowers : List ℕ} (gone named lower : ℕ) {after : List ℕ} → Ready h k 1 by lowers → k ≡ false → named ≡ h .held
+    → after ≡ lowersSettled h k by gone named lower lowers → after ≡ lowersPut h by gone lower lowers
+unfolding lowersSettled
+put-lowers {h} {k} {by} {lowers} gone named lower v e n f =
+    let front = map (renamed gone) (take named lowers) in
+    let long : length (front ++ drop named lowers) ≡ length lowers = length-front lowers front named (length-map (take named lowers) (renamed gone)) in
+    lowers-put v (any-unnamed gone (h .held) lowers) (rw n) lower long (put-rows h 1 by (lower ∷ []) (front ++ drop named lowers) e f)
+
+pub put-uppers : {h : Head} {k : Bool} {by : ℕ} {uppers : List ℕ} (places : List ℕ) {after : List ℕ} → Ready h k 1 by uppers → Below places (h .held) → k ≡ false
+    → after ≡ uppersSettled h k by places uppers → after ≡ uppersPut h by places uppers
+unfolding uppersSettled
+put-uppers {h} {k} {by} {uppers} places v b e f = uppers-put v b refl (put-rows h 1 by (0 ∷ []) (marked places (h .newest + 1) uppers) e f)

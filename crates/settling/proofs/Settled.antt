@@ -4,7 +4,7 @@ use mathlib.Core.Logic.{_⊎_, inl, inr}
 use Prim.Native.Nat.{ℕ, _+_, _-_, _*_, _≤_, _<_}
 use native.Mathlib.Nat.{le-refl, mul-one}
 use native.Mathlib.Omega.{arith}
-use mathlib.Core.Bool.{not}
+use mathlib.Core.Bool.{true, not}
 use mathlib.Core.List.{List, [], _∷_, _++_, map, append-nil}
 use lib.Dec.{eqb}
 use lib.ListN.{length, getD, take, drop}
@@ -103,34 +103,36 @@ module _ {h : Head} {x : List ℕ} {t : Tables} (a : Admitted h x t) where
         s = heldRows h x (t .columns) (t .upperEnds)
 
     -- the columns may be settled
-    pub ready-columns : Ready h (h .dimensions) (f .by) (t .columns)
-    ready-columns = rw (found-by a v) (record {
+    pub ready-columns : (f .reachable ≡ true → h .capacity * h .dimensions + h .dimensions ≤ length (t .columns)) → Ready h (f .reachable) (h .dimensions) (f .by) (t .columns)
+    ready-columns s = rw (found-by a v) (record {
       narrow = within a .bounded-columns;
       bounded = within a .small-capacity;
       by-held = places a .1;
       room = places a .3;
       held-fit = places a .2;
       long = long a .columns;
+      spare = s;
     })
 
     -- and a table of one cell a row
-    ready-cells : (cells : List ℕ) → h .capacity ≤ length cells → Ready h 1 (f .by) cells
-    ready-cells cells l = rw (found-by a v) (record {
+    ready-cells : (cells : List ℕ) → h .capacity ≤ length cells → (f .reachable ≡ true → h .capacity + 1 ≤ length cells) → Ready h (f .reachable) 1 (f .by) cells
+    ready-cells cells l s = rw (found-by a v) (record {
       narrow = omega arith;
       bounded = within a .small-capacity;
       by-held = places a .1;
       room = places a .3;
       held-fit = places a .2;
       long = rw mul-one l;
+      spare = λ e. rw mul-one (s e);
     })
 
-    pub ready-positions : Ready h 1 (f .by) (t .positions)
+    pub ready-positions : (f .reachable ≡ true → h .capacity + 1 ≤ length (t .positions)) → Ready h (f .reachable) 1 (f .by) (t .positions)
     ready-positions = ready-cells (t .positions) (long a .positions)
 
-    pub ready-lowers : Ready h 1 (f .by) (t .lowerEnds)
+    pub ready-lowers : (f .reachable ≡ true → h .capacity + 1 ≤ length (t .lowerEnds)) → Ready h (f .reachable) 1 (f .by) (t .lowerEnds)
     ready-lowers = ready-cells (t .lowerEnds) (long a .lowerEnds)
 
-    pub ready-uppers : Ready h 1 (f .by) (t .upperEnds)
+    pub ready-uppers : (f .reachable ≡ true → h .capacity + 1 ≤ length (t .upperEnds)) → Ready h (f .reachable) 1 (f .by) (t .upperEnds)
     ready-uppers = ready-cells (t .upperEnds) (long a .upperEnds)
 
     -- the tables hold the rows after the quote

@@ -48,18 +48,38 @@ pub record Tellable (h : Head) (uppers : List ℕ) (last count : ℕ) : Type 0 w
   pub lost : liveIn uppers 0 (expiredPlaces h) + count ≤ h .live
   pub live-bounded : h .live ≤ h .held
 
--- what is found, whether the rows' ends are known to be sound, from where the retired rows are listed, the number of the youngest row over
+-- where a row expires its upper end is 0 or not below its position, and not above the newest
+pub record Placed (h : Head) (uppers : List ℕ) : Type 0 where
+  pub below : h .newest < lastPosition
+  pub some : 1 ≤ h .capacity
+  pub full : h .held ≡ suc (h .newest) - windowStart (h .newest) (h .capacity)
+  pub uppers-fit : h .held ≤ length uppers
+  pub upper : 0 < expiring (h .newest) (h .capacity)
+      → (getD uppers 0 0 ≡ 0) ⊎ ((expiring (h .newest) (h .capacity) ≤ getD uppers 0 0) × (getD uppers 0 0 ≤ h .newest))
+
+-- how many places may hold a lower end that names the expired position, in a reachable book: those before the expired row's upper end
+unfoldable pub namedBefore : Head → List ℕ → ℕ
+namedBefore h uppers =
+    let g = expiring (h .newest) (h .capacity) in
+    cond (eqb g 0) 0 (cond (eqb (getD uppers 0 0) 0) (h .held) (getD uppers 0 0 - g))
+
+-- how many places may hold one that names it: fewer than all of those held in a book that is known to be reachable
+unfoldable pub namedIf : Bool → Head → List ℕ → ℕ
+namedIf reachable h uppers = cond reachable (namedBefore h uppers) (h .held)
+
+-- what is found, whether the book is known to be reachable, from where the retired rows are listed, the number of the youngest row over
 -- the quote, and how many are retired
 abbrev pub told : Head → List ℕ → Bool → ℕ → ℕ → ℕ → Finding
-told h uppers sound at last count =
+told h uppers reachable at last count =
     record {
       by = expiredPlaces h;
       gone = expiring (h .newest) (h .capacity);
+      named = namedIf reachable h uppers;
       at = at;
       lower = positionOf h last;
       live = h .live - (liveIn uppers 0 (expiredPlaces h) + count) + 1;
       held = h .held - expiredPlaces h + 1;
-      sound = sound;
+      reachable = reachable;
     }
 
 module _ (h : Head) (x columns uppers : List ℕ) where
@@ -75,20 +95,4 @@ module _ (h : Head) (x columns uppers : List ℕ) where
   pub record Finds (places : List ℕ) (f : Finding) : Type 0 where
     pub listed : drop (f .at) places ≡ retiredPlaces
     pub most : f .at ≤ length places
-    pub tells : f ≡ told h uppers (f .sound) (f .at) youngestOver (length retiredPlaces)
-
--- where a row expires its upper end is 0 or not below its position, and not above the newest
-pub record Placed (h : Head) (uppers : List ℕ) : Type 0 where
-  pub below : h .newest < lastPosition
-  pub some : 1 ≤ h .capacity
-  pub full : h .held ≡ suc (h .newest) - windowStart (h .newest) (h .capacity)
-  pub uppers-fit : h .held ≤ length uppers
-  pub upper : 0 < expiring (h .newest) (h .capacity)
-      → (getD uppers 0 0 ≡ 0) ⊎ ((expiring (h .newest) (h .capacity) ≤ getD uppers 0 0) × (getD uppers 0 0 ≤ h .newest))
-
--- how many places may hold a lower end that names the expired position, in a book that calls left: those before the expired row's
--- upper end
-unfoldable pub namedBefore : Head → List ℕ → ℕ
-namedBefore h uppers =
-    let g = expiring (h .newest) (h .capacity) in
-    cond (eqb g 0) 0 (cond (eqb (getD uppers 0 0) 0) (h .held) (getD uppers 0 0 - g))
+    pub tells : f ≡ told h uppers (f .reachable) (f .at) youngestOver (length retiredPlaces)

@@ -1,32 +1,34 @@
 // What a quote finds among the rows that a book holds, on shared tables, and the tables settled by it, one at a time.
 ghost use mathlib.Core.Path.{_≡_};
 ghost use Prim.Native.Nat.{_+_, _*_, _≤_, _<_};
-ghost use mathlib.Core.Bool.{true, false};
+ghost use mathlib.Core.Bool.{true};
 ghost use lib.ListN.{length};
 ghost use Rattle.head.specs.Heads.{lastPosition};
 ghost use Rattle.model.specs.Rows.{expiring};
 ghost use Rattle.cells.specs.Marked.{Below};
 ghost use Rattle.finding.specs.Found.{liveIn, Sound};
-ghost use Rattle.settling.specs.Findings.{expiredPlaces, positionOf, heldRows, Findable, Tellable, told, Finds, Placed, namedBefore};
-ghost use Rattle.settling.specs.Settled.{rowsPut, lowersPut, uppersPut, Ready};
-use any_finding::find_any;
+ghost use Rattle.settling.specs.Findings.{expiredPlaces, positionOf, heldRows, Findable, Tellable, told, Finds, Placed, namedIf};
+ghost use Rattle.settling.specs.Settled.{rowsSettled, lowersSettled, uppersSettled, Ready};
 use cells::enter;
+use cells::put;
 use cells::rename;
 use cells::store_at;
-use finding::find_sound;
+use finding::find_rows;
 use head::Head;
 
-// What is found of a quote before anything is written: how many places expire with it, the position that does, from where on the
-// places of the retired rows are listed, the quote's lower end, how many rows are live and held after it, and whether the rows' ends are
-// known to be as calls leave them.
+// What is found of a quote before anything is written: how many places expire with it, the position that does, how many places may hold a
+// lower end that names it, from where on the places of the retired rows are listed, the quote's lower end, how many rows are live and held
+// after it, and whether the book is known to be a reachable one, in tables with a place to spare: its row is then put behind the others,
+// none of which is moved.
 pub struct Finding {
     pub by: usize,
     pub gone: u32,
+    pub named: usize,
     pub at: usize,
     pub lower: u32,
     pub live: u32,
     pub held: u32,
-    pub sound: bool,
+    pub reachable: bool,
 }
 
 // How many places expire with the next quote: one where all N hold a row.
@@ -73,18 +75,39 @@ fn expired_live(by: usize, upper_ends: &[u32]) -> u32
     if upper_ends[0] == 0 { 1 } else { 0 }
 }
 
+// How many places may hold a lower end that names the expired position: all of those held, or fewer in a reachable book.
+fn named_before(reachable: bool, head: Head, upper_ends: &[u32]) -> usize
+    requires { ⌜ Placed head (now «upper_ends») ⌝ }
+    ensures { λ r. ⌜ r ≡ namedIf reachable head (now («upper_ends» .entry)) ⌝ }
+{
+    let held = head.held as usize;
+    if !reachable {
+        return held;
+    }
+    let gone = expired_position(head);
+    if gone == 0 {
+        return 0;
+    }
+    let upper = upper_ends[0];
+    if upper == 0 {
+        return held;
+    }
+    (upper - gone) as usize
+}
+
 // What is found, from where the retired rows are listed, the number of the youngest row over the quote, how many are retired, and whether
-// the rows' ends are known to be sound.
+// the book is known to be reachable.
 fn tell(
+    reachable: bool,
     head: Head,
     upper_ends: &[u32],
     at: usize,
     last: usize,
     retired: usize,
-    sound: bool,
 ) -> Finding
     requires { ⌜ Tellable head (now «upper_ends») last retired ⌝ }
-    ensures { λ r. ⌜ r ≡ told head (now («upper_ends» .entry)) sound at last retired ⌝ }
+    requires { ⌜ Placed head (now «upper_ends») ⌝ }
+    ensures { λ r. ⌜ r ≡ told head (now («upper_ends» .entry)) reachable at last retired ⌝ }
 {
     let by = expired_places(head);
     let gone = expired_position(head);
@@ -93,32 +116,19 @@ fn tell(
     Finding {
         by,
         gone,
+        named: named_before(reachable, head, upper_ends),
         at,
         lower,
         live: head.live - lost + 1,
         held: head.held - (by as u32) + 1,
-        sound,
+        reachable,
     }
 }
 
-// How many places may hold a lower end that names the expired position, in a book that calls left.
-pub fn named_before(head: Head, upper_ends: &[u32]) -> usize
-    requires { ⌜ Placed head (now «upper_ends») ⌝ }
-    ensures { λ r. ⌜ r ≡ namedBefore head (now («upper_ends» .entry)) ⌝ }
-{
-    let gone = expired_position(head);
-    if gone == 0 {
-        return 0;
-    }
-    let upper = upper_ends[0];
-    if upper == 0 {
-        return head.held as usize;
-    }
-    (upper - gone) as usize
-}
-
-// Finds what a quote does to the rows of any book that is not torn, and lists the places of those that it retires.
+// Finds what a quote does to the rows of a book that is not torn, and lists the places of those that it retires. In a reachable book no row
+// need be gone through beyond the youngest live one over the quote.
 pub fn find(
+    reachable: bool,
     head: Head,
     quote: &[u32],
     columns: &[u32],
@@ -126,14 +136,18 @@ pub fn find(
     places: &mut [u16],
 ) -> Finding
     requires { ⌜ Findable head (now quote) (now columns) (now «upper_ends») (now places) ⌝ }
-    ensures { λ r. ⌜ r .sound ≡ false ⌝ }
+    requires { ⌜ Placed head (now «upper_ends») ⌝ }
+    requires { ⌜ (reachable ≡ true → Sound (heldRows head (now quote) (now columns) (now «upper_ends»))
+        (expiredPlaces head) (head .held)) ⌝ }
+    ensures { λ r. ⌜ r .reachable ≡ reachable ⌝ }
     ensures { λ r. ⌜ Finds head (now (quote .entry)) (now (columns .entry)) (now («upper_ends» .entry))
         (now (places .exit)) r ⌝ }
 {
     let d = head.dimensions as usize;
     let held = head.held as usize;
     let by = expired_places(head);
-    let found = find_any(
+    let found = find_rows(
+        reachable,
         head.directions,
         d,
         columns,
@@ -145,82 +159,52 @@ pub fn find(
         places,
     );
     tell(
+        reachable,
         head,
         upper_ends,
         found.at,
         found.last,
         places.len() - found.at,
-        false,
     )
 }
 
-// Finds the same on a book that calls left, where no row need be gone through beyond the youngest live one over the quote.
-pub fn find_reached(
-    head: Head,
-    quote: &[u32],
-    columns: &[u32],
-    upper_ends: &[u32],
-    places: &mut [u16],
-) -> Finding
-    requires { ⌜ Findable head (now quote) (now columns) (now «upper_ends») (now places) ⌝ }
-    requires { ⌜ Sound (heldRows head (now quote) (now columns) (now «upper_ends»)) (expiredPlaces head)
-        (head .held) ⌝ }
-    ensures { λ r. ⌜ r .sound ≡ true ⌝ }
-    ensures { λ r. ⌜ Finds head (now (quote .entry)) (now (columns .entry)) (now («upper_ends» .entry))
-        (now (places .exit)) r ⌝ }
-{
-    let d = head.dimensions as usize;
-    let held = head.held as usize;
-    let by = expired_places(head);
-    let found = find_sound(
-        head.directions,
-        d,
-        columns,
-        upper_ends,
-        quote,
-        head.held / 2 <= head.live,
-        by,
-        held,
-        places,
-    );
-    tell(
-        head,
-        upper_ends,
-        found.at,
-        found.last,
-        places.len() - found.at,
-        true,
-    )
-}
-
-// Puts a row into a table of so many cells a row, behind those that are left.
-pub fn settle(head: Head, width: usize, by: usize, row: &[u32], cells: &mut [u32])
-    requires { ⌜ Ready head width by (now cells) ⌝ }
+// Settles a table of so many cells a row: the row is put behind the others, from which those that expire are taken off, and zeros follow up
+// to place N; in a reachable book no row is moved.
+pub fn settle(head: Head, found: Finding, width: usize, row: &[u32], cells: &mut [u32])
+    requires { ⌜ Ready head (found .reachable) width (found .by) (now cells) ⌝ }
     requires { ⌜ length (now row) ≡ width ⌝ }
-    ensures { λ _. ⌜ now (cells .exit) ≡ rowsPut head width by (now (row .entry)) (now (cells .entry)) ⌝ }
+    ensures { λ _. ⌜ now (cells .exit) ≡ rowsSettled head (found .reachable) width (found .by) (now (row .entry))
+        (now (cells .entry)) ⌝ }
 {
     let held = head.held as usize;
+    if found.reachable {
+        put(cells, held * width, row);
+        return;
+    }
+    let by = found.by;
     let capacity = head.capacity as usize;
     enter(cells, by * width, held * width, row, capacity * width);
 }
 
 // Settles the lower ends: those that name the expired position name none, and the quote's is put behind.
 pub fn settle_lower_ends(head: Head, found: Finding, lower_ends: &mut [u32])
-    requires { ⌜ Ready head 1 (found .by) (now «lower_ends») ⌝ }
-    ensures { λ _. ⌜ now («lower_ends» .exit) ≡ lowersPut head (found .by) (found .gone) (found .lower)
-        (now («lower_ends» .entry)) ⌝ }
+    requires { ⌜ Ready head (found .reachable) 1 (found .by) (now «lower_ends») ⌝ }
+    requires { ⌜ found .named ≤ head .held ⌝ }
+    ensures { λ _. ⌜ now («lower_ends» .exit) ≡ lowersSettled head (found .reachable) (found .by) (found .gone)
+        (found .named) (found .lower) (now («lower_ends» .entry)) ⌝ }
 {
-    rename(lower_ends, found.gone, head.held as usize);
-    settle(head, 1, found.by, &[found.lower], lower_ends);
+    rename(lower_ends, found.gone, found.named);
+    settle(head, found, 1, &[found.lower], lower_ends);
 }
 
 // Settles the upper ends: those of the retired rows name the quote, and the quote has none.
-pub fn settle_upper_ends(head: Head, by: usize, places: &[u16], upper_ends: &mut [u32])
-    requires { ⌜ Ready head 1 by (now «upper_ends») ⌝ }
+pub fn settle_upper_ends(head: Head, found: Finding, places: &[u16], upper_ends: &mut [u32])
+    requires { ⌜ Ready head (found .reachable) 1 (found .by) (now «upper_ends») ⌝ }
     requires { ⌜ head .newest < lastPosition ⌝ }
     requires { ⌜ Below (now places) (head .held) ⌝ }
-    ensures { λ _. ⌜ now («upper_ends» .exit) ≡ uppersPut head by (now (places .entry)) (now («upper_ends» .entry)) ⌝ }
+    ensures { λ _. ⌜ now («upper_ends» .exit) ≡ uppersSettled head (found .reachable) (found .by) (now (places .entry))
+        (now («upper_ends» .entry)) ⌝ }
 {
     store_at(upper_ends, places, head.newest + 1);
-    settle(head, 1, by, &[0], upper_ends);
+    settle(head, found, 1, &[0], upper_ends);
 }

@@ -1,4 +1,6 @@
 -- The laws of the crate.
+pub mod Makes
 pub mod Plays
 pub mod Reached
 pub mod Prints
+pub mod Slides

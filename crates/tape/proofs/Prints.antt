@@ -30,17 +30,17 @@ asked-cells (unread n) next k = refl
 asked-cells misplaced next k = refl
 asked-cells (request c) next k = refl
 
-cells-kept : (tape : List ℕ) (place : ℕ) (k : Player) → bookPlay tape place k .state .outputs .cells ≡ k .outputs .cells
+pub cells-kept : (tape : List ℕ) (place : ℕ) (k : Player) → bookPlay tape place k .state .outputs .cells ≡ k .outputs .cells
 unfolding playAt
 cells-kept tape place k = let read = readAt tape place in asked-cells (asked (begun k) (read .says) (read .columns)) (read .next) k
 
 -- a step that met its contract played its frame: the text that it laid, and the player that it leaves, are the definition's
 module _ {tape before after bytes' : List ℕ} {place : ℕ} {k : Player} {r : Step} {t' : Tables} (m : Stepped tape place k before r t' bytes' after) where
-  its-text : take (r .count) after ≡ bookPlay tape place k .text
+  pub its-text : take (r .count) after ≡ bookPlay tape place k .text
   unfolding laid
   its-text = rw (m .count, m .text) (take-append-seam (bookPlay tape place k .text) (drop (length (bookPlay tape place k .text)) before))
 
-  its-player : left k r t' bytes' ≡ bookPlay tape place k .state
+  pub its-player : left k r t' bytes' ≡ bookPlay tape place k .state
   its-player =
       let next = bookPlay tape place k .state in
       rw (m .head, m .watches, m .lent, m .bytes)

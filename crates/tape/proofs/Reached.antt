@@ -23,7 +23,7 @@ module _ (k : Player) (c : Reached (k .world)) where
   asked-reached (request r) next = reached-step r (k .outputs) c
 
   -- one frame
-  frame-reached : (tape : List ℕ) (place : ℕ) → Reached (bookPlay tape place k .state .world)
+  pub frame-reached : (tape : List ℕ) (place : ℕ) → Reached (bookPlay tape place k .state .world)
   unfolding playAt
   frame-reached tape place = asked-reached (asked (begun k) (readAt tape place .says) (readAt tape place .columns)) (readAt tape place .next)
 

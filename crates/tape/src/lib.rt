@@ -1,11 +1,26 @@
 // Playing a tape: one frame on a book with lent tables, its lines laid at the start of a lent text.
+mod making;
 mod playing;
 
 pub use playing::play;
+pub use playing::play_known;
 pub use sizes::CHANGE_BYTES;
 use sizes::CHANGE_FRAME;
 use sizes::PLACES;
 pub use turn_lines::Step;
+use turn_lines::Turn;
+
+// What a call came to, and how many places later the rows begin where none was moved.
+pub struct TurnMade {
+    pub turn: Turn,
+    pub by: usize,
+}
+
+// What playing a frame hands back, and how many places later the rows begin where none was moved.
+pub struct SlidStep {
+    pub step: Step,
+    pub by: usize,
+}
 
 // How many bytes the line of a change has at most: its letter, desk two's 2 and newline, and a space and ten digits for n and the position.
 pub const CHANGE_LINE: usize = 3 + 11 * 2;

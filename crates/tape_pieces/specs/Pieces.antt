@@ -1,23 +1,27 @@
--- Whether a frame of a piece of a tape is played, and where a player stands once the piece is played.
+-- Whether a frame of a piece of a tape is played, and what a player leaves once the piece is played.
 use mathlib.Core.Path.{_≡_}
-use Prim.Native.Nat.{ℕ, _≤_}
-use mathlib.Core.Bool.{Bool, _&&_, not}
+use Prim.Native.Nat.{ℕ, _-_}
+use mathlib.Core.Bool.{Bool, false, _&&_, _||_, not}
+use mathlib.Core.List.{List}
 use lib.Dec.{leb}
+use lib.ListN.{length}
 use Rattle.model.specs.Rows.{Tables}
-use Rattle.model.specs.Calls.{Reached}
-use Rattle.model.specs.Promises.{world}
 use Rattle.turn_lines.specs.Turns.{textBytes}
+use Rattle.tape_model.specs.Streams.{ready}
 use Rattle.tape_playback.specs.declared.Playback.{Playback}
-use Rattle.row_starts.specs.Starts.{Within, onward}
+use Rattle.tape_playback.specs.Played.{playerOf, Gathered, SameInput, Plays}
+use Rattle.row_starts.specs.Starts.{Within}
 
 -- whether a frame is played: the tape is not over, this room is enough for the lines of any frame, and it is ready
 pub record GoesOn (over : Bool) (room : ℕ) (ready result : Bool) : Type 0 where
   pub is : result ≡ (not over && (leb textBytes room && ready))
 
--- where a player stands once it played the frames of a piece of this length into a text of this length, with tables t
-pub record PiecePlayed (end room : ℕ) (s r : Playback) (t : Tables) : Type 0 where
-  pub inside : r .place ≤ end
-  pub fits : r .used ≤ room
-  pub same : r .end ≡ s .end
+-- what a player that stands at s leaves once it played a piece of a tape: its place, its book and whether the tape is over are those that frames of
+-- the piece come to, their lines stand behind what was gathered, and the next frame is not played
+pub record PiecePlayed (piece : List ℕ) (s : Playback) (t : Tables) (bytes before : List ℕ) (r : Playback) (t' : Tables) (bytes' after : List ℕ) : Type 0 where
+  pub lines : List ℕ
+  pub plays : Plays piece (s .ended) (s .place) (playerOf s t bytes) (s .over) lines (r .place) (playerOf r t' bytes') (r .over)
+  pub gathered : Gathered s r lines before after
+  pub same : SameInput s r
   pub starts : Within 1023 (r .start)
-  pub reached : Reached (world (r .head) (onward (r .start) t) (r .watches))
+  pub stops : GoesOn (r .over) (length after - r .used) (r .ended || ready piece (r .place)) false

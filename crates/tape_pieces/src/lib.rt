@@ -45,8 +45,11 @@ pub fn play_piece(
     requires { ⌜ Within 1023 (playback .start) ⌝ }
     requires { ⌜ Reached (world (playback .head) (onward (playback .start)
         (tables (now columns) (now positions) (now «lower_ends») (now «upper_ends»))) (playback .watches)) ⌝ }
-    ensures { λ r. ⌜ PiecePlayed (length (now (tape .entry))) (length (now (text .entry))) playback r
-        (tables (now (columns .exit)) (now (positions .exit)) (now («lower_ends» .exit)) (now («upper_ends» .exit))) ⌝ }
+    ensures { λ r. ⌜ PiecePlayed (now (tape .entry)) playback
+        (tables (now (columns .entry)) (now (positions .entry)) (now («lower_ends» .entry)) (now («upper_ends» .entry)))
+        (now (bytes .entry)) (now (text .entry)) r
+        (tables (now (columns .exit)) (now (positions .exit)) (now («lower_ends» .exit)) (now («upper_ends» .exit)))
+        (now (bytes .exit)) (now (text .exit)) ⌝ }
 {
     let mut now = playback;
     while plays(now, tape, text.len()) {

@@ -1,18 +1,24 @@
--- Where a step leaves the place: within the tape, and behind the frame that stood there, unless the tape is over.
-use mathlib.Core.Path.{_≡_, ap}
-use Prim.Native.Nat.{ℕ, _+_, _≤_, _<_}
+-- Where frames that are played leave the place: within the tape, and behind the frame that stood there, unless the tape is over.
+use mathlib.Core.Path.{_≡_}
+use Prim.Native.Nat.{ℕ, _+_, _-_, _≤_, _<_}
 use native.Mathlib.Omega.{arith}
+use mathlib.Core.Bool.{Bool, false, cond}
 use mathlib.Core.List.{List}
-use lib.ListN.{length, getD, drop, length-append, length-drop}
-use Rattle.lists.specs.Lists.{laid}
+use lib.ListN.{length, getD}
 use Rattle.frames.specs.Frames.{messageAt, columnsAt, told, Reading, stays, readAt}
 use Rattle.frames.proofs.Reading.{Found, beyond, at-end, unknown, cut, whole, found}
 use Rattle.asking.specs.Asking.{Asked, finished, unread, misplaced, request, asked}
 use Rattle.tape_model.specs.Play.{playAsked, playAt, Player, bookMake, begun, bookPlay}
-use Rattle.model.specs.Rows.{Tables}
-use Rattle.turn_lines.specs.declared.Step.{Step}
-use Rattle.tape.specs.Steps.{Stepped}
-use Rattle.tape_playback.specs.Played.{left, Advanced}
+use Rattle.tape_playback.specs.Played.{Plays, none, frame, moved}
+
+-- the bytes from a place on, and one for the end; nothing once the tape is over
+unfoldable pub left : List ℕ → ℕ → Bool → ℕ
+left tape place over = cond over 0 (1 + (length tape - place))
+
+-- a step from a place to the next: it stays within the tape, and less is left
+pub record Advanced (tape : List ℕ) (place next : ℕ) (over : Bool) : Type 0 where
+  pub inside : next ≤ length tape
+  pub less : left tape next over < 1 + (length tape - place)
 
 module _ (tape : List ℕ) (place : ℕ) (k : Player) (h : place ≤ length tape) where
   -- what is asked for is played
@@ -38,16 +44,9 @@ module _ (tape : List ℕ) (place : ℕ) (k : Player) (h : place ≤ length tape
   unfolding playAt
   advanced = read-on (readAt tape place) (found tape place)
 
--- ---- what a frame that was played leaves
-
-module _ {tape : List ℕ} {place : ℕ} {k : Player} {before : List ℕ} {r : Step} {t' : Tables} {bytes' after : List ℕ} (s : Stepped tape place k before r t' bytes' after) where
-  -- the place went on
-  pub stepped-on : place ≤ length tape → Advanced tape place (r .next) (r .over)
-  stepped-on h = rw (s .next, s .over) (advanced tape place k h)
-
-  -- the lines fit the text
-  pub stepped-fits : length after ≡ length before → r .count ≤ length before
-  unfolding laid
-  stepped-fits e =
-      let l : List ℕ = bookPlay tape place k .text in
-      omega (arith, s .count, ap length (s .text), e, length-append l (drop (length l) before), length-drop (length l) before)
+-- any number of frames
+pub plays-inside : {tape : List ℕ} {ended : Bool} {place : ℕ} {k : Player} {over : Bool} {lines : List ℕ} {next : ℕ} {now : Player} {over' : Bool}
+    → Plays tape ended place k over lines next now over' → place ≤ length tape → next ≤ length tape
+plays-inside none h = h
+plays-inside {tape = tape} (frame {next = at} {now = who} p r) h = advanced tape at who (plays-inside p h) .inside
+plays-inside (moved p m) h = plays-inside p h

@@ -1,3 +1,5 @@
 -- The laws of the crate.
 pub mod Advancing
+pub mod Framing
+pub mod Gathering
 pub mod Starting

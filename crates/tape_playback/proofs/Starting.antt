@@ -1,5 +1,6 @@
 -- Where the rows of a book start, from frame to frame.
-use mathlib.Core.Path.{_≡_, sym, ap, _∙_}
+use mathlib.Core.Path.{_≡_, refl, sym, ap, subst, _∙_}
+use mathlib.Core.Bool.{Bool, true}
 use Prim.Native.Nat.{ℕ, _+_, _-_, _*_, _≤_, _<_}
 use native.Mathlib.Nat.{zero-mul}
 use native.Mathlib.Decide.{decLt}
@@ -13,17 +14,20 @@ use Rattle.head.proofs.Settings.{settings-within}
 use Rattle.model.specs.Rows.{Tables}
 use Rattle.model.specs.Calls.{Reached}
 use Rattle.model.specs.Promises.{tables, world}
-use Rattle.sliding.specs.Laid.{Roomy}
-use Rattle.sliding.specs.Slid.{later}
+use Rattle.quoting.specs.Known.{Roomy}
+use Rattle.quoting.specs.Entered.{later, Slid, stayed, slid}
+use Rattle.tape_model.specs.Play.{Player, bookPlay}
 use Rattle.turn_lines.specs.Turns.{player}
-use Rattle.tape_sliding.specs.declared.SlidStep.{SlidStep}
-use Rattle.tape_sliding.specs.Steps.{StepSlid}
-use Rattle.tape_sliding.proofs.Slides.{left-reached, left-bounded, left-holds}
+use Rattle.tape.proofs.Prints.{its-player}
+use Rattle.tape.proofs.Reached.{frame-reached}
+use Rattle.tape.specs.declared.SlidStep.{SlidStep}
+use Rattle.tape.specs.Steps.{StepMade}
+use Rattle.tape.proofs.Slides.{left-bounded, left-holds}
 use Rattle.row_starts.specs.declared.Start.{Start}
 use Rattle.tape_playback.specs.declared.Playback.{Playback}
-use Rattle.tape_playback.specs.Played.{SameBook}
-use Rattle.row_starts.specs.Starts.{Long, Within, FullOpened, onward}
-use Rattle.row_starts.proofs.Rewinding.{bounded-cells}
+use Rattle.tape_playback.specs.Played.{Resumes, resumes, SameBook, Plays, none, frame, moved}
+use Rattle.row_starts.specs.Starts.{Long, Within, FullOpened, onward, Moved, stays, moves}
+use Rattle.row_starts.proofs.Rewinding.{bounded-cells, moved-reached}
 
 -- players with the same book: it stands for both, and starts as near
 pub same-reached : {s r : Playback} (t : Tables) → SameBook s r → Reached (world (s .head) (onward (s .start) t) (s .watches)) → Reached (world (r .head) (onward (r .start) t) (r .watches))
@@ -58,7 +62,7 @@ module _ (s : Start) (t : Tables) where
   abbrev pub backs : Tables → Tables
   backs t' = tables (back (s .cell) (t .columns) (t' .columns)) (back (s .row) (t .positions) (t' .positions)) (back (s .row) (t .lowerEnds) (t' .lowerEnds)) (back (s .row) (t .upperEnds) (t' .upperEnds))
 
-  parts-are : parts ≡ onward s t
+  pub parts-are : parts ≡ onward s t
   unfolding onward
   parts-are = rw (part-is (s .cell) (t .columns), part-is (s .row) (t .positions), part-is (s .row) (t .lowerEnds), part-is (s .row) (t .upperEnds))
 
@@ -101,7 +105,7 @@ slid-cells {by} {d} k (yes l) h = omega (arith, bounded-cells d k, h l)
 slid-cells {by} {d} k (no n) h = let z : by ≡ 0 = omega arith in omega (arith, bounded-cells d k, ap (λ (j : ℕ). j * d) z, zero-mul d)
 
 module _ {tape : List ℕ} {place : ℕ} {h : Head} {t : Tables} {ws bytes before : List ℕ} {z : SlidStep} {t' : Tables} {bytes' after : List ℕ}
-    (m : StepSlid tape place (player h t ws bytes) before z t' bytes' after) {s s' : Start} (w : Within 1023 s)
+    (m : StepMade true tape place (player h t ws bytes) before z t' bytes' after) {s s' : Start} (w : Within 1023 s)
     (e : s' ≡ record { row = s .row + z .by; cell = s .cell + z .by * z .step .head .dimensions }) where
   -- only a book that was opened slides
   six : 0 < z .by → z .step .head .dimensions ≤ 6
@@ -117,8 +121,22 @@ module _ {tape : List ℕ} {place : ℕ} {h : Head} {t : Tables} {ws bytes befor
   pub start-opened : FullOpened s' (z .step .head)
   start-opened = rw e record { opened = λ q. left-holds m (omega (arith, w .bounded)) }
 
+-- rows that slid, where they go on
+slid-moved : {h : Head} {t u : Tables} {by : ℕ} → Slid h t u by → Moved h t (later (h .dimensions) by u)
+unfolding later
+slid-moved {h} (stayed e) = rw (e, zero-mul (h .dimensions)) stays
+slid-moved (slid bounded holds same) = moves holds same
+
 -- and the book stands there
-pub start-reached : (s : Start) (t : Tables) {tape : List ℕ} {place : ℕ} {h : Head} {ws bytes before : List ℕ} {z : SlidStep} {t' : Tables} {bytes' after : List ℕ} {s' : Start}
-    → StepSlid tape place (player h (parts s t) ws bytes) before z t' bytes' after → Within 1023 s → s' ≡ record { row = s .row + z .by; cell = s .cell + z .by * z .step .head .dimensions }
-    → Long t → Reached (world h (onward s t) ws) → Reached (world (z .step .head) (onward s' (backs s t t')) (z .step .watches))
-start-reached s t {z = z} {t' = t'} m w e k c = rw (e, backs-later s t k w t' (z .by) (z .step .head .dimensions)) (left-reached m (parts-reached s t c))
+pub start-resumes : (s : Start) (t : Tables) {tape : List ℕ} {place : ℕ} {h : Head} {ws bytes before : List ℕ} {z : SlidStep} {t' : Tables} {bytes' after : List ℕ} {s' : Start}
+    → StepMade true tape place (player h (onward s t) ws bytes) before z t' bytes' after → Within 1023 s → s' ≡ record { row = s .row + z .by; cell = s .cell + z .by * z .step .head .dimensions }
+    → Long t → Resumes (bookPlay tape place (player h (onward s t) ws bytes) .state) (player (z .step .head) (onward s' (backs s t t')) (z .step .watches) bytes')
+start-resumes s t {z = z} {t' = t'} {bytes' = bytes'} {s' = s'} m w e k =
+    subst (λ (q : Player). Resumes q (player (z .step .head) (onward s' (backs s t t')) (z .step .watches) bytes')) (its-player (m .stepped)) (resumes {u = onward s' (backs s t t')} (rw (e, backs-later s t k w t' (z .by) (z .step .head .dimensions)) (slid-moved (m .slides refl))))
+
+-- frames that are played on a book that calls left leave such a book
+pub plays-reached : {tape : List ℕ} {ended : Bool} {place : ℕ} {k : Player} {over : Bool} {lines : List ℕ} {next : ℕ} {now : Player} {over' : Bool}
+    → Plays tape ended place k over lines next now over' → Reached (k .world) → Reached (now .world)
+plays-reached none c = c
+plays-reached {tape = tape} (frame {next = at} {now = who} p r) c = frame-reached who (plays-reached p c) tape at
+plays-reached (moved p m) c = moved-reached m (plays-reached p c)

@@ -1,36 +1,59 @@
--- How much of a piece of a tape is left to play, and where a player stands once it played a frame of it.
+-- Where a player of a tape stands: the book that it plays on, what is gathered of its text, and what a frame, and then any number of frames of
+-- what has come of the tape, leave of both.
 use mathlib.Core.Path.{_≡_}
-use Prim.Native.Nat.{ℕ, _+_, _-_, _≤_, _<_}
-use mathlib.Core.Bool.{Bool, cond}
-use mathlib.Core.List.{List}
-use lib.ListN.{length}
+use Prim.Native.Nat.{ℕ, _+_}
+use mathlib.Core.Bool.{Bool, true, false, _||_}
+use mathlib.Core.List.{List, [], _++_}
+use lib.ListN.{length, take}
+use Rattle.lists.specs.Lists.{laid}
 use Rattle.head.specs.Heads.{maxCapacity}
 use Rattle.model.specs.Rows.{Tables}
-use Rattle.model.specs.Calls.{Reached}
-use Rattle.model.specs.Promises.{world}
+use Rattle.tape_model.specs.Play.{Player, on, bookPlay}
+use Rattle.tape_model.specs.Streams.{ready}
+use Rattle.turn_lines.specs.Turns.{player}
+use Rattle.row_starts.specs.Starts.{Within, FullOpened, onward, Moved}
 use Rattle.tape_playback.specs.declared.Playback.{Playback}
-use Rattle.row_starts.specs.Starts.{Within, FullOpened, onward}
 
--- the bytes from a place on, and one for the end; nothing once the tape is over
-unfoldable pub left : List ℕ → ℕ → Bool → ℕ
-left tape place over = cond over 0 (1 + (length tape - place))
+-- the player that stands there: its book in tables t, from where its rows start on
+abbrev pub playerOf : Playback → Tables → List ℕ → Player
+playerOf s t bytes = player (s .head) (onward (s .start) t) (s .watches) bytes
 
--- a step from a place to the next: it stays within the tape, and less is left
-pub record Advanced (tape : List ℕ) (place next : ℕ) (over : Bool) : Type 0 where
-  pub inside : next ≤ length tape
-  pub less : left tape next over < 1 + (length tape - place)
+-- a player that goes on in tables where its book may go on
+pub data Resumes (k : Player) : Player → Type 0 where
+  resumes : {u : Tables} → Moved (k .world .head) (k .world .lent .tables) u → Resumes k (on u k)
 
--- where a player stands once it played a frame of a tape into a text of this length, with tables t
-pub record FramePlayed (tape : List ℕ) (room : ℕ) (s r : Playback) (t : Tables) : Type 0 where
-  pub advanced : Advanced tape (s .place) (r .place) (r .over)
-  pub fits : r .used ≤ room
-  pub same : r .end ≡ s .end
-  pub starts : Within maxCapacity (r .start)
-  pub opened : FullOpened (r .start) (r .head)
-  pub reached : Reached (world (r .head) (onward (r .start) t) (r .watches))
+-- these lines are laid behind the text that is gathered, and gathered with it
+pub record Gathered (s r : Playback) (lines before after : List ℕ) : Type 0 where
+  pub used : r .used ≡ s .used + length lines
+  pub text : after ≡ laid (take (s .used) before ++ lines) before
 
 -- two players stand with the same book, at the same place of the tables
 pub record SameBook (s r : Playback) : Type 0 where
   pub head : r .head ≡ s .head
   pub watches : r .watches ≡ s .watches
   pub start : r .start ≡ s .start
+
+-- two players have the same of the tape
+pub record SameInput (s r : Playback) : Type 0 where
+  pub end : r .end ≡ s .end
+  pub ended : r .ended ≡ s .ended
+
+-- what a player that stands at s leaves once it played the frame there: its lines, its place and whether the tape is over are those of the book
+-- model's play, and so is its book
+pub record FramePlayed (tape : List ℕ) (s : Playback) (t : Tables) (bytes before : List ℕ) (r : Playback) (t' : Tables) (bytes' after : List ℕ) : Type 0 where
+  pub gathered : Gathered s r (bookPlay tape (s .place) (playerOf s t bytes) .text) before after
+  pub place : r .place ≡ bookPlay tape (s .place) (playerOf s t bytes) .next
+  pub over : r .over ≡ bookPlay tape (s .place) (playerOf s t bytes) .over
+  pub book : Resumes (bookPlay tape (s .place) (playerOf s t bytes) .state) (playerOf r t' bytes')
+  pub same : SameInput s r
+  pub starts : Within maxCapacity (r .start)
+  pub opened : FullOpened (r .start) (r .head)
+
+-- frames of what has come of a tape, played from a place on by this player: their lines, the place behind them, the player that they leave, and
+-- whether the tape is over; a frame is played where it is ready or nothing more comes, and between two the player may go on in other tables
+pub data Plays (tape : List ℕ) (ended : Bool) (place : ℕ) (k : Player) (over : Bool) : List ℕ → ℕ → Player → Bool → Type 0 where
+  none : Plays tape ended place k over [] place k over
+  frame : {lines : List ℕ} {next : ℕ} {now : Player} → Plays tape ended place k over lines next now false → (ended || ready tape next) ≡ true
+      → Plays tape ended place k over (lines ++ bookPlay tape next now .text) (bookPlay tape next now .next) (bookPlay tape next now .state) (bookPlay tape next now .over)
+  moved : {lines : List ℕ} {next : ℕ} {now : Player} {over' : Bool} {u : Tables} → Plays tape ended place k over lines next now over'
+      → Moved (now .world .head) (now .world .lent .tables) u → Plays tape ended place k over lines next (on u now) over'

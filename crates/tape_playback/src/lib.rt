@@ -10,7 +10,7 @@ ghost use Rattle.tape_playback.specs.Played.{FramePlayed};
 use head::Head;
 use row_starts::Start;
 use row_starts::slid;
-use tape_sliding::play_sliding;
+use tape::play_known;
 
 // Where a player of a tape stands: the head and the watches of the book, where its rows start, the place of the next frame and the end of
 // what has come of the tape, how many bytes of text are gathered, whether the input has ended, and whether the tape is over.
@@ -41,8 +41,11 @@ pub fn play_frame(
     requires { ⌜ Within 1023 (playback .start) ⌝ }
     requires { ⌜ Reached (world (playback .head) (onward (playback .start)
         (tables (now columns) (now positions) (now «lower_ends») (now «upper_ends»))) (playback .watches)) ⌝ }
-    ensures { λ r. ⌜ FramePlayed (now (tape .entry)) (length (now (text .entry))) playback r
-        (tables (now (columns .exit)) (now (positions .exit)) (now («lower_ends» .exit)) (now («upper_ends» .exit))) ⌝ }
+    ensures { λ r. ⌜ FramePlayed (now (tape .entry)) playback
+        (tables (now (columns .entry)) (now (positions .entry)) (now («lower_ends» .entry)) (now («upper_ends» .entry)))
+        (now (bytes .entry)) (now (text .entry)) r
+        (tables (now (columns .exit)) (now (positions .exit)) (now («lower_ends» .exit)) (now («upper_ends» .exit)))
+        (now (bytes .exit)) (now (text .exit)) ⌝ }
 {
     let head = playback.head;
     let watches = playback.watches;
@@ -50,7 +53,8 @@ pub fn play_frame(
     let start = playback.start;
     let row = start.row;
     let cell = start.cell;
-    let played = play_sliding(
+    let played = play_known(
+        true,
         tape,
         playback.place,
         head,
@@ -66,12 +70,13 @@ pub fn play_frame(
     let next_head = step.head;
     let next_watches = step.watches;
     let next_start = slid(start, played.by, next_head);
+    let next_used = used + step.count;
     let mut now = playback;
     now.head = next_head;
     now.watches = next_watches;
     now.start = next_start;
     now.place = step.next;
-    now.used = used + step.count;
+    now.used = next_used;
     now.over = step.over;
     now
 }

@@ -1,3 +1,3 @@
 -- The laws of the crate.
+pub mod CellRooms
 pub mod Rooms
-pub mod Wishes

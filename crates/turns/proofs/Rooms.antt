@@ -18,7 +18,7 @@ use Rattle.model.specs.Book.{replyOf, quoteBytes, quoteAnswer, quoteReply, watc
 use Rattle.model.specs.Promises.{Quoted, Watched, Paired}
 use Rattle.model.proofs.ChangesFit as fit
 use Rattle.judging.proofs.Answering.{Passed, watchful-passed}
-use Rattle.turn_reads.proofs.Rooms.{counted, same-count}
+use Rattle.turns.proofs.CellRooms.{counted, same-count}
 
 -- the room is there, where it is the third test that a call adds
 third-room : (h : Head) (t : Tables) (ws : List ℕ) (a b : Bool) (i j k : ℕ) (room : ℕ)

@@ -26,7 +26,7 @@ pub fn write(
 ) -> usize
     requires { ⌜ Writable head (found .lower) (now retired) (now «lower_ends»)
         (heldRows head (now quote) (now columns) (now «upper_ends»)) watches (length (now out)) ⌝ }
-    requires { ⌜ SoundIf (found .sound) head (now «lower_ends»)
+    requires { ⌜ SoundIf (found .reachable) head (now «lower_ends»)
         (heldRows head (now quote) (now columns) (now «upper_ends»)) ⌝ }
     ensures { λ r. ⌜ r ≡ length (changeBytes head (found .lower) (now («lower_ends» .entry))
         (heldRows head (now (quote .entry)) (now (columns .entry)) (now («upper_ends» .entry))) watches) ⌝ }
@@ -34,7 +34,7 @@ pub fn write(
         (heldRows head (now (quote .entry)) (now (columns .entry)) (now («upper_ends» .entry))) watches)
         (now (out .entry)) ⌝ }
 {
-    let sound = found.sound;
+    let sound = found.reachable;
     let watched = write_all_changes(
         watches,
         head,

@@ -1,16 +1,20 @@
 -- `preview` meets its contract: it is judged as the quote is, and its changes are those of the quote.
+use mathlib.Core.Path.{refl}
 use native.Mathlib.Omega.{arith}
+use mathlib.Core.Bool.{false}
+use Rattle.lists.proofs.Booleans.{clash}
 use Rattle.refusals.proofs.Numbers.{accepted-number}
 use Rattle.settling.proofs.Findings.{findable}
+use Rattle.settling.proofs.Settled.{placed}
 use Rattle.quoting.proofs.Quotes.{Entering, taken, bounded-held, reply-is, out-is, quote-refused}
-use Rattle.quoting.proofs.Reaching.{any-sound-if}
+use Rattle.quoting.proofs.Reaching.{unknown-sound}
 use Rattle.previewing.proofs.Previews.{tells-quote, writable-in}
 use borrow.Author.Needs.{needs}
 use Rattle.previewing.proofs.preview.Statement.{statement}
 use Rattle.previewing.proofs.preview.Tie as tie
 
-judge-row-requires : tie.Need-judge-row-requires
-judge-row-requires c κs = search needs
+judge-requires : tie.Need-judge-requires
+judge-requires c κs e = absurd (clash false e refl)
 
 enum-told : tie.Need-enum-told
 enum-told c = search needs
@@ -23,17 +27,17 @@ effect-of-requires c κs = search needs
 
 returns : tie.Need-returns
 returns c =
-    let at-judge-row = c .before .before .before in
-    let q = quote-refused _ _ _ _ _ (at-judge-row .judge-row .ensures) (c .before .enum-told2 .given .1) in tells-quote _ _ _ _ _ (c .effect-of .ensures) (q .reply) (q .out)
+    let at-judge = c .before .before .before in
+    let q = quote-refused _ _ _ _ _ (at-judge .judge .ensures) (c .before .enum-told2 .given .1) in tells-quote _ _ _ _ _ (c .effect-of .ensures) (q .reply) (q .out)
 
 slice-aggregate-find : tie.Need-slice-aggregate-find
 slice-aggregate-find c = search needs
 
 find-requires : tie.Need-find-requires
 find-requires c κs =
-    let at-judge-row = c .before .before .before in
-    let a = taken _ _ _ _ _ (accepted-number _ (at-judge-row .judge-row .ensures) (c .before .enum-told .given .1)) .admitted in
-    findable a (omega (arith, bounded-held a))
+    let at-judge = c .before .before .before in
+    let a = taken _ _ _ _ _ (accepted-number _ (at-judge .judge .ensures) (c .before .enum-told .given .1)) .admitted in
+    (findable a (omega (arith, bounded-held a)), (placed a, λ e. absurd (clash false e refl)))
 
 mul-write : tie.Need-mul-write
 mul-write c = search needs
@@ -51,15 +55,15 @@ write-requires : tie.Need-write-requires
 write-requires c κs =
     let at-find = c .before .before .before .before in
     let at-enum-told = at-find .before .before in
-    let at-judge-row = at-enum-told .before .before in
-    let at-good = at-judge-row .before .before .before .before .before .before .before in
+    let at-judge = at-enum-told .before .before in
+    let at-good = at-judge .before .before .before .before .before .before .before in
     let found = at-find .find in
     let v : Entering _ _ _ _ _ _ _ = record {
-      accepted = accepted-number _ (at-judge-row .judge-row .ensures) (at-enum-told .enum-told .given .1);
+      accepted = accepted-number _ (at-judge .judge .ensures) (at-enum-told .enum-told .given .1);
       eight = omega (arith, at-good .good);
       finds = found .ensures .1;
     } in
-    (writable-in v (omega (arith, found .kept)), any-sound-if (found .ensures .0))
+    (writable-in v (omega (arith, found .kept)), unknown-sound (found .ensures .0))
 
 accept-requires : tie.Need-accept-requires
 accept-requires c κs = search needs
@@ -75,10 +79,10 @@ returns-2 c =
     let at-write = c .before .before .before .before in
     let at-find = at-write .before .before .before .before .before in
     let at-enum-told = at-find .before .before in
-    let at-judge-row = at-enum-told .before .before in
-    let at-good = at-judge-row .before .before .before .before .before .before .before in
+    let at-judge = at-enum-told .before .before in
+    let at-good = at-judge .before .before .before .before .before .before .before in
     let v : Entering _ _ _ _ _ _ _ = record {
-      accepted = accepted-number _ (at-judge-row .judge-row .ensures) (at-enum-told .enum-told .given .1);
+      accepted = accepted-number _ (at-judge .judge .ensures) (at-enum-told .enum-told .given .1);
       eight = omega (arith, at-good .good);
       finds = at-find .find .ensures .1;
     } in
@@ -89,7 +93,7 @@ pub preview-spec : {M : Type 1} → statement M
 preview-spec =
     tie.close
     (tie.spec
-    judge-row-requires
+    judge-requires
     enum-told
     enum-told-2
     effect-of-requires

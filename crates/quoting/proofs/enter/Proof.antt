@@ -4,8 +4,10 @@ use native.Mathlib.Omega.{arith}
 use lib.ListN.{length}
 use denote.Ref.{now}
 use Rattle.model.specs.Promises.{tables}
-use Rattle.settling.proofs.Settled.{ready-columns, ready-positions, ready-lowers, ready-uppers, settled}
-use Rattle.quoting.proofs.Quotes.{Entering, book, writable, retired-low, uppers-settled, quote-done}
+use Rattle.settling.proofs.Standing.{within}
+use Rattle.quoting.proofs.Quotes.{Entering, book, writable, retired-low}
+use Rattle.quoting.proofs.Reaching.{known-sound}
+use Rattle.quoting.proofs.Entries.{columns-ready, positions-ready, lowers-ready, uppers-ready, named-held, entered}
 use borrow.Author.Needs.{needs}
 use Rattle.quoting.proofs.enter.Statement.{statement}
 use Rattle.quoting.proofs.enter.Tie as tie
@@ -28,48 +30,76 @@ part-write-end : tie.Need-part-write-end
 part-write-end c = search needs
 
 write-requires : tie.Need-write-requires
-write-requires c κs = let s = c .before .before .before .before .before .before .before .before .before .before .before .before in (writable (entering s), s .pre .1 .1)
+write-requires c κs = let at-write-arg = c .before .before .before .before in
+    let s = at-write-arg .before .before .before .before .before .before .before .before in
+    (writable (entering s), known-sound _ _ (s .pre .1 .1) (within (book (entering s)) .some-capacity))
 
 cast-d : tie.Need-cast-d
 cast-d c = search needs
 
 settle-requires : tie.Need-settle-requires
-settle-requires c κs = let s = c .before .before .before .before .before .before .before .before .before .before .before .before .before .before .before .before .before in (ready-columns (book (entering s)) (s .pre .1 .0), book (entering s) .wide)
+settle-requires c κs = let at-write = c .before .before .before .before in
+    let at-write-arg = at-write .before .before .before .before .before in
+    let s = at-write-arg .before .before .before .before .before .before .before .before in
+    (columns-ready (entering s) (s .pre .1 .1), book (entering s) .wide)
 
-add-t32 : tie.Need-add-t32
-add-t32 c = omega (arith, book (entering (c .before .before .before .before .before .before .before .before .before .before .before .before .before .before .before .before .before .before .before .before .before)) .below)
+add-t31 : tie.Need-add-t31
+add-t31 c = let at-write = c .before .before .before .before .before .before .before .before in
+    let at-write-arg = at-write .before .before .before .before .before in
+    let s = at-write-arg .before .before .before .before .before .before .before .before in
+    omega (arith, book (entering s) .below)
 
 slice-aggregate-settle : tie.Need-slice-aggregate-settle
 slice-aggregate-settle c = search needs
 
 settle-requires-2 : tie.Need-settle-requires-2
-settle-requires-2 c κs = let s = c .before .before .before .before .before .before .before .before .before .before .before .before .before .before .before .before .before .before .before .before .before .before .before in (ready-positions (book (entering s)) (s .pre .1 .0), refl)
+settle-requires-2 c κs = let at-settle = c .before .before .before .before .before in
+    let at-write = at-settle .before .before .before .before .before in
+    let at-write-arg = at-write .before .before .before .before .before in
+    let s = at-write-arg .before .before .before .before .before .before .before .before in
+    (positions-ready (entering s) (s .pre .1 .1), refl)
 
 settle-lower-ends-requires : tie.Need-settle-lower-ends-requires
-settle-lower-ends-requires c κs =
-    let s = c .before .before .before .before .before .before .before .before .before .before .before .before .before .before .before .before .before .before .before .before .before .before .before .before .before .before .before in
-    ready-lowers (book (entering s)) (s .pre .1 .0)
+settle-lower-ends-requires c κs = let at-settle = c .before .before .before .before .before .before .before .before .before in
+    let at-write = at-settle .before .before .before .before .before in
+    let at-write-arg = at-write .before .before .before .before .before in
+    let s = at-write-arg .before .before .before .before .before .before .before .before in
+    (lowers-ready (entering s) (s .pre .1 .1), named-held (entering s) (s .pre .1 .1))
 
 mul-settle-upper-ends : tie.Need-mul-settle-upper-ends
-mul-settle-upper-ends c = let s = c .before .before .before .before .before .before .before .before .before .before .before .before .before .before .before .before .before .before .before .before .before .before .before .before .before .before .before .before .before .before in omega (arith, s .good, s .pre .1 .0 .most)
+mul-settle-upper-ends c = let at-settle2 = c .before .before .before .before .before .before in
+    let at-settle = at-settle2 .before .before .before .before .before .before in
+    let at-write = at-settle .before .before .before .before .before in
+    let at-write-arg = at-write .before .before .before .before .before in
+    let s = at-write-arg .before .before .before .before .before .before .before .before in
+    omega (arith, s .good, s .pre .1 .0 .most)
 
 sub-settle-upper-ends : tie.Need-sub-settle-upper-ends
-sub-settle-upper-ends c =
-    let at-start = c .before .before .before .before .before .before .before .before .before .before .before .before .before .before .before .before .before .before .before .before .before .before .before .before .before .before .before .before .before .before in
-    omega (arith, at-start .pre .1 .0 .most)
+sub-settle-upper-ends c = let at-settle2 = c .before .before .before .before .before .before in
+    let at-settle = at-settle2 .before .before .before .before .before .before in
+    let at-write = at-settle .before .before .before .before .before in
+    let at-write-arg = at-write .before .before .before .before .before in
+    let s = at-write-arg .before .before .before .before .before .before .before .before in
+    omega (arith, s .pre .1 .0 .most)
 
 part-settle-upper-ends-start : tie.Need-part-settle-upper-ends-start
-part-settle-upper-ends-start c =
-    let at-start = c .before .before .before .before .before .before .before .before .before .before .before .before .before .before .before .before .before .before .before .before .before .before .before .before .before .before .before .before .before .before in
-    omega (arith, at-start .pre .1 .0 .most)
+part-settle-upper-ends-start c = let at-settle2 = c .before .before .before .before .before .before in
+    let at-settle = at-settle2 .before .before .before .before .before .before in
+    let at-write = at-settle .before .before .before .before .before in
+    let at-write-arg = at-write .before .before .before .before .before in
+    let s = at-write-arg .before .before .before .before .before .before .before .before in
+    omega (arith, s .pre .1 .0 .most)
 
 part-settle-upper-ends-end : tie.Need-part-settle-upper-ends-end
 part-settle-upper-ends-end c = search needs
 
 settle-upper-ends-requires : tie.Need-settle-upper-ends-requires
-settle-upper-ends-requires c κs =
-    let s = c .before .before .before .before .before .before .before .before .before .before .before .before .before .before .before .before .before .before .before .before .before .before .before .before .before .before .before .before .before .before .before .before in
-    (ready-uppers (book (entering s)) (s .pre .1 .0), (book (entering s) .below, retired-low (entering s)))
+settle-upper-ends-requires c κs = let at-settle2 = c .before .before .before .before .before .before .before .before in
+    let at-settle = at-settle2 .before .before .before .before .before .before in
+    let at-write = at-settle .before .before .before .before .before in
+    let at-write-arg = at-write .before .before .before .before .before in
+    let s = at-write-arg .before .before .before .before .before .before .before .before in
+    (uppers-ready (entering s) (s .pre .1 .1), (book (entering s) .below, retired-low (entering s)))
 
 accept-requires : tie.Need-accept-requires
 accept-requires c κs = search needs
@@ -87,22 +117,22 @@ same-length-4 : tie.Need-same-length-4
 same-length-4 c = search needs
 
 same-length-5 : tie.Need-same-length-5
-same-length-5 c =
-    let at-write = c .before .before .before .before .before .before .before .before .before .before .before .before .before .before .before .before .before .before .before .before .before .before .before in
+same-length-5 c = let on-way = c .before .before .before .before .before .before .before .before in
+    let at-settle2 = on-way .before .before .before .before in
+    let at-settle = at-settle2 .before .before .before .before .before .before in
+    let at-write = at-settle .before .before .before .before .before in
     omega (arith, at-write .write .kept)
 
 returns : tie.Need-returns
-returns c =
-    let at-settle-upper-ends = c .before .before .before in
+returns c = let at-settle-upper-ends = c .before .before .before in
     let at-settle-lower-ends = at-settle-upper-ends .before .before .before .before .before in
     let at-settle2 = at-settle-lower-ends .before .before .before .before in
     let at-settle = at-settle2 .before .before .before .before .before .before in
     let at-write = at-settle .before .before .before .before .before in
-    let s = c .before .before .before .before .before .before .before .before .before .before .before .before .before .before .before .before .before .before .before .before .before .before .before .before .before .before .before .before .before .before .before .before .before .before .before .before in
-    let v = entering s in
+    let at-write-arg = at-write .before .before .before .before .before in
+    let s = at-write-arg .before .before .before .before .before .before .before .before in
     let written = at-write .write .ensures in
-    quote-done _ v (written .0) (c .accept .ensures) (written .1)
-    (settled (book v) (s .pre .1 .0) (at-settle .settle .ensures) (at-settle2 .settle2 .ensures) (at-settle-lower-ends .settle-lower-ends .ensures) (uppers-settled v (at-settle-upper-ends .settle-upper-ends .ensures)))
+    entered _ (entering s) (s .pre .1 .1) (written .0) (c .accept .ensures) (written .1) (at-settle .settle .ensures) (at-settle2 .settle2 .ensures) (at-settle-lower-ends .settle-lower-ends .ensures) (at-settle-upper-ends .settle-upper-ends .ensures)
 
 pub enter-spec : {M : Type 1} → statement M
 enter-spec =
@@ -115,7 +145,7 @@ enter-spec =
     write-requires
     cast-d
     settle-requires
-    add-t32
+    add-t31
     slice-aggregate-settle
     settle-requires-2
     settle-lower-ends-requires

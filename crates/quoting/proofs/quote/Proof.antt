@@ -1,21 +1,12 @@
--- `quote` meets its contract: it is judged, and takes the tables for any.
-use native.Mathlib.Omega.{arith}
-use Rattle.refusals.proofs.Numbers.{accepted-number}
-use Rattle.settling.proofs.Findings.{findable}
-use Rattle.quoting.proofs.Quotes.{taken, bounded-held, quote-refused}
-use Rattle.quoting.proofs.Reaching.{any-sound-if}
+-- `quote` meets its contract: nothing is known of the tables.
+use mathlib.Core.Path.{refl}
+use Rattle.quoting.proofs.Reaching.{unknown}
 use borrow.Author.Needs.{needs}
 use Rattle.quoting.proofs.quote.Statement.{statement}
 use Rattle.quoting.proofs.quote.Tie as tie
 
-judge-row-requires : tie.Need-judge-row-requires
-judge-row-requires c κs = search needs
-
-enum-told : tie.Need-enum-told
-enum-told c = search needs
-
-enum-told-2 : tie.Need-enum-told-2
-enum-told-2 c = search needs
+quote-known-requires : tie.Need-quote-known-requires
+quote-known-requires c κs = unknown refl
 
 same-length : tie.Need-same-length
 same-length c = search needs
@@ -29,68 +20,23 @@ same-length-3 c = search needs
 same-length-4 : tie.Need-same-length-4
 same-length-4 c = search needs
 
-returns : tie.Need-returns
-returns c = quote-refused _ _ _ _ _ (c .before .before .judge-row .ensures) (c .enum-told2 .given .1)
-
-slice-aggregate-find : tie.Need-slice-aggregate-find
-slice-aggregate-find c = search needs
-
-find-requires : tie.Need-find-requires
-find-requires c κs =
-    let at-enum-told = c .before .before .before in
-    let at-judge-row = at-enum-told .before .before in
-    let a = taken _ _ _ _ _ (accepted-number _ (at-judge-row .judge-row .ensures) (at-enum-told .enum-told .given .1)) .admitted in
-    findable a (omega (arith, bounded-held a))
-
-slice-aggregate-enter : tie.Need-slice-aggregate-enter
-slice-aggregate-enter c = search needs
-
-enter-requires : tie.Need-enter-requires
-enter-requires c κs =
-    let at-find = c .before .before .before .before .before .before .before in
-    let at-enum-told = at-find .before .before .before .before in
-    let at-judge-row = at-enum-told .before .before in
-    let accepted = accepted-number _ (at-judge-row .judge-row .ensures) (at-enum-told .enum-told .given .1) in
-    let found = at-find .find .ensures in
-    (accepted, (found .1, any-sound-if (found .0)))
-
 same-length-5 : tie.Need-same-length-5
 same-length-5 c = search needs
 
-same-length-6 : tie.Need-same-length-6
-same-length-6 c = search needs
-
-same-length-7 : tie.Need-same-length-7
-same-length-7 c = search needs
-
-same-length-8 : tie.Need-same-length-8
-same-length-8 c = search needs
-
-same-length-9 : tie.Need-same-length-9
-same-length-9 c = search needs
-
-returns-2 : tie.Need-returns-2
-returns-2 c = search needs
+returns : tie.Need-returns
+returns c = let on-way = c .before .before .before .before .before .before .before .before in
+    let at-quote-known = on-way .before .before .before in
+    let made = at-quote-known .quote-known .ensures in
+    record { reply = made .quoted .reply; lent = made .moved refl; out = made .quoted .out }
 
 pub quote-spec : {M : Type 1} → statement M
 quote-spec =
     tie.close
     (tie.spec
-    judge-row-requires
-    enum-told
-    enum-told-2
+    quote-known-requires
     same-length
     same-length-2
     same-length-3
     same-length-4
-    returns
-    slice-aggregate-find
-    find-requires
-    slice-aggregate-enter
-    enter-requires
     same-length-5
-    same-length-6
-    same-length-7
-    same-length-8
-    same-length-9
-    returns-2)
+    returns)

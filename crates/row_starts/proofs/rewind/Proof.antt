@@ -1,5 +1,6 @@
 -- `rewind` meets its contract: where the rows find no place more they are moved to the front, table by table.
 use native.Mathlib.Omega.{arith}
+use Rattle.row_starts.specs.Starts.{stays}
 use Rattle.row_starts.proofs.Rewinding.{rows-inside, rewound}
 use borrow.Author.Needs.{needs}
 use Rattle.row_starts.proofs.rewind.Statement.{statement}
@@ -8,7 +9,7 @@ use Rattle.row_starts.proofs.rewind.Tie as tie
 returns : tie.Need-returns
 returns c =
     let at-start = c .before .before .before .before .before in
-    let p = at-start .pre in (record { bounded = omega (arith, c .if1 .taken); near = p .1 .0 .near }, λ ws r. r)
+    let p = at-start .pre in (record { bounded = omega (arith, c .if1 .taken); near = p .1 .0 .near }, stays)
 
 cast-n : tie.Need-cast-n
 cast-n c = search needs

@@ -1,6 +1,7 @@
 -- `settle_upper_ends` meets its contract.
 use mathlib.Core.Path.{refl}
-use Rattle.settling.proofs.Putting.{ready-same, places-below, uppers-put}
+use Rattle.settling.specs.Settled.{uppersSettled}
+use Rattle.settling.proofs.Putting.{ready-same, places-below}
 use borrow.Author.Needs.{needs}
 use Rattle.settling.proofs.settle_upper_ends.Statement.{statement}
 use Rattle.settling.proofs.settle_upper_ends.Tie as tie
@@ -9,28 +10,21 @@ add-store-at : tie.Need-add-store-at
 add-store-at c = search needs
 
 store-at-requires : tie.Need-store-at-requires
-store-at-requires c κs =
-    let at-start = c .before .before .before .before in
+store-at-requires c κs = let at-start = c .before .before .before .before in
     places-below (at-start .pre .0) (at-start .pre .1 .1)
 
 slice-aggregate-settle : tie.Need-slice-aggregate-settle
 slice-aggregate-settle c = search needs
 
 settle-requires : tie.Need-settle-requires
-settle-requires c κs =
-    let at-store-at = c .before .before .before .before in
-    let at-start = at-store-at .before .before .before .before .before in
-    (ready-same (at-start .pre .0) (at-store-at .store-at .kept .0), refl)
+settle-requires c κs = (ready-same (c .before .before .before .before .before .before .before .before .before .pre .0) (c .before .before .before .before .store-at .kept .0), refl)
 
 same-length : tie.Need-same-length
 same-length c = search needs
 
 returns : tie.Need-returns
-returns c =
-    let at-settle = c .before .before in
-    let at-store-at = at-settle .before .before .before .before .before in
-    let at-start = at-store-at .before .before .before .before .before in
-    uppers-put (at-start .pre .0) (at-start .pre .1 .1) (at-store-at .store-at .ensures) (at-settle .settle .ensures)
+unfolding uppersSettled
+returns c = rw (c .before .before .before .before .before .before .before .store-at .ensures) at (c .before .before .settle .ensures)
 
 pub settle-upper-ends-spec : {M : Type 1} → statement M
 settle-upper-ends-spec =

@@ -1,8 +1,8 @@
 -- `tell` meets its contract.
 use native.Mathlib.Omega.{arith}
-use borrow.Author.Needs.{needs}
 use Rattle.settling.specs.Findings.{expiredPlaces}
 use Rattle.settling.proofs.Numbers.{lost-within, told-is}
+use borrow.Author.Needs.{needs}
 use Rattle.settling.proofs.tell.Statement.{statement}
 use Rattle.settling.proofs.tell.Tie as tie
 
@@ -17,54 +17,52 @@ position-of-requires c κs = search needs
 
 expired-live-requires : tie.Need-expired-live-requires
 unfolding expiredPlaces
-expired-live-requires c κs =
-    let at-expired-places = c .before .before in
+expired-live-requires c κs = let at-expired-places = c .before .before in
     let at-start = at-expired-places .before .before in
-    let e = at-expired-places .expired-places .ensures in let v = at-start .pre in (omega (arith, e, v .held-fits), omega (arith, e, v .held-fits, v .some, v .uppers-fit))
+    let e = at-expired-places .expired-places .ensures in let v = at-start .pre .0 in (omega (arith, e, v .held-fits), omega (arith, e, v .held-fits, v .some, v .uppers-fit))
 
 cast-lost : tie.Need-cast-lost
 cast-lost c = search needs
 
 add-lost : tie.Need-add-lost
-add-lost c =
-    let at-expired-places = c .before .before .before in
+add-lost c = let at-expired-places = c .before .before .before in
     let at-start = at-expired-places .before .before in
-    let v = at-start .pre in omega (arith, lost-within v (at-expired-places .expired-places .ensures) (c .expired-live .ensures), v .live-bounded, v .held-bounded)
+    let v = at-start .pre .0 in omega (arith, lost-within v (at-expired-places .expired-places .ensures) (c .expired-live .ensures), v .live-bounded, v .held-bounded)
+
+named-before-requires : tie.Need-named-before-requires
+named-before-requires c κs = search needs
 
 sub-t11 : tie.Need-sub-t11
-sub-t11 c =
-    let at-expired-places = c .before .before .before .before in
+sub-t11 c = let at-expired-places = c .before .before .before .before .before in
     let at-start = at-expired-places .before .before in
-    lost-within (at-start .pre) (at-expired-places .expired-places .ensures) (c .before .expired-live .ensures)
+    lost-within (at-start .pre .0) (at-expired-places .expired-places .ensures) (c .before .before .expired-live .ensures)
 
 add-t12 : tie.Need-add-t12
 add-t12 c = search needs
 
-cast-t13 : tie.Need-cast-t13
+cast-t14 : tie.Need-cast-t14
 unfolding expiredPlaces
-cast-t13 c =
-    let at-expired-places = c .before .before .before .before in
+cast-t14 c = let at-expired-places = c .before .before .before .before .before in
     let at-start = at-expired-places .before .before in
-    let v = at-start .pre in omega (arith, at-expired-places .expired-places .ensures, v .held-fits)
+    let v = at-start .pre .0 in omega (arith, at-expired-places .expired-places .ensures, v .held-fits)
 
-sub-t14 : tie.Need-sub-t14
+sub-t15 : tie.Need-sub-t15
 unfolding expiredPlaces
-sub-t14 c =
-    let at-expired-places = c .before .before .before .before .before in
+sub-t15 c = let at-expired-places = c .before .before .before .before .before .before in
     let at-start = at-expired-places .before .before in
-    let v = at-start .pre in omega (arith, at-expired-places .expired-places .ensures, v .held-fits, v .some)
+    let v = at-start .pre .0 in omega (arith, at-expired-places .expired-places .ensures, v .held-fits, v .some)
 
-add-t15 : tie.Need-add-t15
-add-t15 c = search needs
+add-t16 : tie.Need-add-t16
+add-t16 c = search needs
 
 returns : tie.Need-returns
-returns c =
-    let at-expired-live = c .before .before in
+returns c = let at-named-before = c .before .before in
+    let at-expired-live = at-named-before .before in
     let at-position-of = at-expired-live .before in
     let at-expired-position = at-position-of .before in
     let at-expired-places = at-expired-position .before in
     let at-start = at-expired-places .before .before in
-    told-is (at-start .pre) (at-expired-places .expired-places .ensures) (at-expired-live .expired-live .ensures) _ _ (at-expired-position .expired-position .ensures) (at-position-of .position-of .ensures)
+    told-is (at-start .pre .0) (at-expired-places .expired-places .ensures) (at-expired-live .expired-live .ensures) _ _ (at-expired-position .expired-position .ensures) (at-position-of .position-of .ensures) (at-named-before .named-before .ensures)
 
 pub tell-spec : {M : Type 1} → statement M
 tell-spec =
@@ -76,9 +74,10 @@ tell-spec =
     expired-live-requires
     cast-lost
     add-lost
+    named-before-requires
     sub-t11
     add-t12
-    cast-t13
-    sub-t14
-    add-t15
+    cast-t14
+    sub-t15
+    add-t16
     returns)

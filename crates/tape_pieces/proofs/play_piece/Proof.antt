@@ -1,16 +1,16 @@
--- `play_piece` meets its contract: the lines stay within the text, the place within the tape, and the book is one that calls left.
+-- `play_piece` meets its contract: frame by frame, each on what the one before left.
 use mathlib.Core.Path.{refl, _∙_}
 use native.Mathlib.Omega.{arith}
 use Rattle.model.specs.Promises.{tables}
-use Rattle.tape_playback.specs.Played.{left}
-use Rattle.tape_pieces.proofs.Playing.{Playing, fits-as, less-left, lines-room}
+use Rattle.tape_playback.proofs.Advancing.{left}
+use Rattle.tape_pieces.proofs.Playing.{Playing, start, fits, inside, reached, lines-room, finish, less, more}
 use Rattle.row_starts.proofs.Rewinding.{long-same}
 use Rattle.tape_pieces.proofs.play_piece.Statement.{statement}
 use Rattle.tape_pieces.proofs.play_piece.Tie as tie
 
 abbrev Inv-loop : tie.InvT-loop
 Inv-loop tape columns₀ positions₀ lower-ends₀ upper-ends₀ bytes₀ text₀ now₀ columns positions lower-ends upper-ends bytes text now =
-    Playing tape (tables columns₀ positions₀ lower-ends₀ upper-ends₀) text₀ now₀ (tables columns positions lower-ends upper-ends) text now
+    Playing tape (tables columns₀ positions₀ lower-ends₀ upper-ends₀) bytes₀ text₀ now₀ (tables columns positions lower-ends upper-ends) bytes text now
 
 abbrev μ-loop : tie.MeasureT-loop
 μ-loop tape columns₀ positions₀ lower-ends₀ upper-ends₀ bytes₀ text₀ now₀ columns positions lower-ends upper-ends bytes text now = left tape (now .place) (now .over)
@@ -18,28 +18,18 @@ abbrev μ-loop : tie.MeasureT-loop
 loop-holds : tie.Need-loop-holds Inv-loop μ-loop
 loop-holds c =
     let at-start = c .before .before .before .before .before .before in
-    let p = at-start .pre in
-    record {
-      columns = refl;
-      positions = refl;
-      lowerEnds = refl;
-      upperEnds = refl;
-      text-long = refl;
-      tables-long = p .1 .0;
-      played = record { inside = p .0 .1; fits = p .0 .0; same = refl; starts = p .1 .1 .0; reached = p .1 .1 .1 };
-    }
+    let p = at-start .pre in start _ _ _ _ _ (p .0) (p .1 .0) (p .1 .1 .0) (p .1 .1 .1)
 
 plays-requires : tie.Need-plays-requires Inv-loop μ-loop
-plays-requires c κs = fits-as (c .loop .inv .text-long) (c .loop .inv .played .fits)
+plays-requires c κs = fits (c .loop .inv)
 
 play-frame-requires : tie.Need-play-frame-requires Inv-loop μ-loop
 play-frame-requires c κs =
     let at-if1 = c .before .before .before .before .before .before in
     let at-plays = at-if1 .before in
-    let at-loop = at-plays .before in
-    let i = at-loop .loop .inv in
+    let i = at-plays .before .loop .inv in
     let room = lines-room (at-plays .plays .ensures) (at-if1 .if1 .taken) in
-    ((omega (arith, room, i .played .fits, i .text-long), i .played .inside), (i .tables-long, (i .played .starts, i .played .reached)))
+    ((omega (arith, room, fits i), inside i), (i .tables-long, (i .starts, reached i)))
 
 rewind-requires : tie.Need-rewind-requires Inv-loop μ-loop
 rewind-requires c κs =
@@ -54,32 +44,18 @@ loop-less c =
     let at-play-frame = c .before .before .before .before .before .before .before .before .before .before .before .before .before .before .before .before .before .before .before .before .before .before .before .before .before in
     let at-if1 = at-play-frame .before .before .before .before .before .before .before in
     let at-plays = at-if1 .before in
-    less-left (at-play-frame .play-frame .ensures .advanced) (at-plays .plays .ensures) (at-if1 .if1 .taken)
+    less (at-plays .before .loop .inv) (at-plays .plays .ensures) (at-if1 .if1 .taken) (at-play-frame .play-frame .ensures)
 
 loop-again : tie.Need-loop-again Inv-loop μ-loop
 loop-again c =
-    let i = c .before .before .before .before .before .before .before .before .before .before .before .before .before .before .before .before .before .before .before .before .before .before .before .before .before .before .before .before .before .before .before .before .before .before .loop .inv in
-    let made = c .before .before .before .before .before .before .before .before .before .before .before .before .before .before .before .before .before .before .before .before .before .before .before .before .before .play-frame in
-    let wound = c .before .before .before .before .before .before .before .before .rewind in
-    let c# = wound .kept .1 .1 .0 ∙ made .kept .1 .1 .0 in
-    let p# = wound .kept .1 .1 .1 .0 ∙ made .kept .1 .1 .1 .0 in
-    let l# = wound .kept .1 .1 .1 .1 .0 ∙ made .kept .1 .1 .1 .1 .0 in
-    let u# = wound .kept .1 .1 .1 .1 .1 .0 ∙ made .kept .1 .1 .1 .1 .1 .0 in
-    record {
-      columns = c# ∙ i .columns;
-      positions = p# ∙ i .positions;
-      lowerEnds = l# ∙ i .lowerEnds;
-      upperEnds = u# ∙ i .upperEnds;
-      text-long = made .kept .1 .1 .1 .1 .1 .1 .1 .0 ∙ i .text-long;
-      tables-long = long-same c# p# l# u# (i .tables-long);
-      played = record {
-        inside = made .ensures .advanced .inside;
-        fits = omega (arith, made .ensures .fits, i .text-long);
-        same = made .ensures .same ∙ i .played .same;
-        starts = wound .ensures .0;
-        reached = wound .ensures .1 _ (made .ensures .reached);
-      };
-    }
+    let at-rewind = c .before .before .before .before .before .before .before .before in
+    let at-play-frame = at-rewind .before .before .before .before .before .before .before .before .before .before .before .before .before .before .before .before .before in
+    let at-if1 = at-play-frame .before .before .before .before .before .before .before in
+    let at-plays = at-if1 .before in
+    let made = at-play-frame .play-frame in
+    let wound = at-rewind .rewind in
+    more (at-plays .before .loop .inv) (at-plays .plays .ensures) (at-if1 .if1 .taken) (made .ensures) (made .kept .1 .1 .1 .1 .1 .1 .1 .0) (wound .kept .1 .1 .0 ∙ made .kept .1 .1 .0)
+    (wound .kept .1 .1 .1 .0 ∙ made .kept .1 .1 .1 .0) (wound .kept .1 .1 .1 .1 .0 ∙ made .kept .1 .1 .1 .1 .0) (wound .kept .1 .1 .1 .1 .1 .0 ∙ made .kept .1 .1 .1 .1 .1 .0) (wound .ensures .0) (wound .ensures .1)
 
 same-length : tie.Need-same-length Inv-loop μ-loop
 same-length c = c .before .before .loop .inv .columns
@@ -97,7 +73,7 @@ same-length-5 : tie.Need-same-length-5 Inv-loop μ-loop
 same-length-5 c = c .before .before .loop .inv .text-long
 
 returns : tie.Need-returns Inv-loop μ-loop
-returns c = c .before .before .loop .inv .played
+returns c = finish (c .before .before .loop .inv) (c .before .plays .ensures) (c .if1 .left)
 
 pub play-piece-spec : {M : Type 1} → statement M
 play-piece-spec =

@@ -3,7 +3,9 @@ use mathlib.Core.Path.{refl, sym, _∙_}
 use native.Mathlib.Omega.{arith}
 use lib.ListN.{length-take}
 use Rattle.model.specs.Promises.{tables}
-use Rattle.tape_playback.proofs.Starting.{same-reached, same-starts}
+use Rattle.tape_playback.proofs.Advancing.{plays-inside}
+use Rattle.tape_playback.proofs.Gathering.{gathered-fits}
+use Rattle.tape_playback.proofs.Starting.{same-reached, same-starts, plays-reached}
 use Rattle.tape_printer.proofs.Printing.{Printing, slides-through, first-reached}
 use borrow.Author.Needs.{needs}
 use Rattle.tape_printer.proofs.main.Statement.{statement}
@@ -56,13 +58,13 @@ slice-aggregate-refill c =
 refill-requires : tie.Need-refill-requires Inv-loop μ-loop
 refill-requires c κs =
     let at-loop = c .before .before .before .before .before .before in
-    let i = at-loop .loop .inv in let f = c .before .flush .ensures in (omega (arith, f .1, f .2, i .inside), omega (arith, f .2, i .come))
+    let i = at-loop .loop .inv in let f = c .before .flush .ensures in (omega (arith, f .place, f .same .end, i .inside), omega (arith, f .same .end, i .come))
 
 array-share-prefix-tape : tie.Need-array-share-prefix-tape Inv-loop μ-loop
-array-share-prefix-tape c = omega (arith, c .before .refill .ensures .2, c .before .refill .kept .1 .0)
+array-share-prefix-tape c = omega (arith, c .before .refill .ensures .within, c .before .refill .kept .1 .0)
 
 slice-aggregate-play-piece : tie.Need-slice-aggregate-play-piece Inv-loop μ-loop
-slice-aggregate-play-piece c = simp length-take (omega (arith, c .before .before .refill .ensures .2, c .before .before .refill .kept .1 .0))
+slice-aggregate-play-piece c = simp length-take (omega (arith, c .before .before .refill .ensures .within, c .before .before .refill .kept .1 .0))
 
 slice-aggregate-play-piece-2 : tie.Need-slice-aggregate-play-piece-2 Inv-loop μ-loop
 slice-aggregate-play-piece-2 c =
@@ -97,8 +99,8 @@ play-piece-requires c κs =
     let i = at-loop .loop .inv in
     let f = at-flush .flush .ensures in
     let r = at-refill .refill .ensures in (
-      (omega (arith, r .0, f .0), simp length-take (omega (arith, r .1, r .2, at-refill .refill .kept .1 .0))),
-      (slides-through i, (same-starts (r .3) (same-starts (f .3) (i .starts)), same-reached _ (r .3) (same-reached _ (f .3) (i .reached)))),
+      (omega (arith, r .used, f .used), simp length-take (omega (arith, r .inside, r .within, at-refill .refill .kept .1 .0))),
+      (slides-through i, (same-starts (r .book) (same-starts (f .book) (i .starts)), same-reached _ (r .book) (same-reached _ (f .book) (i .reached)))),
     )
 
 loop-less : tie.Need-loop-less Inv-loop μ-loop
@@ -110,10 +112,13 @@ loop-again : tie.Need-loop-again Inv-loop μ-loop
 loop-again c =
     let at-play-piece = c .before .before .before .before .before in
     let at-refill = at-play-piece .before .before .before .before .before .before .before .before .before in
-    let at-loop = at-refill .before .before .before .before .before .before .before in
+    let at-flush = at-refill .before .before in
+    let at-loop = at-flush .before .before .before .before .before in
     let i = at-loop .loop .inv in
+    let f = at-flush .flush .ensures in
     let r = at-refill .refill in
     let p = at-play-piece .play-piece in
+    let inside = plays-inside (p .ensures .plays) (simp length-take (omega (arith, r .ensures .inside, r .ensures .within, r .kept .1 .0))) in
     record {
       columns = p .kept .1 .1 .0 ∙ i .columns;
       positions = p .kept .1 .1 .1 .0 ∙ i .positions;
@@ -121,11 +126,11 @@ loop-again c =
       upperEnds = p .kept .1 .1 .1 .1 .1 .0 ∙ i .upperEnds;
       tape-long = r .kept .1 .0 ∙ i .tape-long;
       text-long = p .kept .1 .1 .1 .1 .1 .1 .1 .0 ∙ i .text-long;
-      fits = omega (arith, p .ensures .fits, p .kept .1 .1 .1 .1 .1 .1 .1 .0);
-      inside = omega (arith, rw length-take at (p .ensures .inside), p .ensures .same);
-      come = omega (arith, p .ensures .same, r .ensures .2, r .kept .1 .0);
+      fits = gathered-fits (p .ensures .gathered) (omega (arith, r .ensures .used, f .used));
+      inside = omega (arith, rw length-take at inside, p .ensures .same .end);
+      come = omega (arith, p .ensures .same .end, r .ensures .within, r .kept .1 .0);
       starts = p .ensures .starts;
-      reached = p .ensures .reached;
+      reached = plays-reached (p .ensures .plays) (same-reached _ (r .ensures .book) (same-reached _ (f .book) (i .reached)));
     }
 
 slice-aggregate-flush-2 : tie.Need-slice-aggregate-flush-2 Inv-loop μ-loop

@@ -1,6 +1,7 @@
 -- `refill` meets its contract.
 use native.Mathlib.Omega.{arith}
 use lib.ListN.{length-take}
+use Rattle.tape_streams.proofs.Refilling.{refill-quiet, refill-read}
 use borrow.Author.Needs.{needs}
 use Rattle.tape_streams.proofs.refill.Statement.{statement}
 use Rattle.tape_streams.proofs.refill.Tie as tie
@@ -20,7 +21,10 @@ same-length : tie.Need-same-length
 same-length c = search needs
 
 returns : tie.Need-returns
-returns c = search needs
+returns c =
+    let at-ready = c .before in
+    let at-start = at-ready .before .before .before .before in
+    refill-quiet _ _ (at-start .pre) (at-ready .ready .ensures) (c .if1 .taken)
 
 sub-rest : tie.Need-sub-rest
 sub-rest c = search needs
@@ -50,7 +54,14 @@ same-length-2 : tie.Need-same-length-2
 same-length-2 c = search needs
 
 returns-2 : tie.Need-returns-2
-returns-2 c = search needs
+returns-2 c =
+    let at-read-in = c .before .before .before .before in
+    let at-to-front = at-read-in .before .before .before .before .before in
+    let at-if1 = at-to-front .before .before .before in
+    let at-ready = at-if1 .before in
+    let at-start = at-ready .before .before .before .before in
+    let came = at-read-in .read-in in
+    refill-read _ _ (at-start .pre) (came .last .0) (at-ready .ready .ensures) (at-if1 .if1 .left) (at-to-front .to-front .ensures) (came .ensures .0 .0) (came .kept .0) (came .ensures .1)
 
 pub refill-spec : {M : Type 1} → statement M
 refill-spec =

@@ -1,7 +1,7 @@
 -- `stands` meets its contract: a row that is not live does not stand, a live one is compared.
 use denote.Ref.{now}
 use Rattle.finding.specs.Found.{rows}
-use Rattle.finding.proofs.Scanning.{live-zero, live-not, over-by}
+use Rattle.finding.proofs.Comparisons.{live-zero, live-not, over-by}
 use Rattle.changes.specs.Held.{stands}
 use borrow.Author.Needs.{needs}
 use Rattle.changes.proofs.moves.stands.Statement.{statement}

@@ -1,48 +1,14 @@
--- `play` meets its contract: a quote is made and its lines laid, and any other message is played.
+-- `play` meets its contract: nothing is known of the tables.
+use mathlib.Core.Path.{refl}
 use native.Mathlib.Omega.{arith}
-use lib.ListN.{length-take}
-use Rattle.turns.proofs.Rooms.{quote-fits}
-use Rattle.tape.proofs.Plays.{quote-played, other-played}
+use Rattle.quoting.proofs.Reaching.{unknown}
+use Rattle.tape.proofs.Plays.{step-anywhere}
 use borrow.Author.Needs.{needs}
 use Rattle.tape.proofs.playing.play.Statement.{statement}
 use Rattle.tape.proofs.playing.play.Tie as tie
 
-wish-at-requires : tie.Need-wish-at-requires
-wish-at-requires c κs = search needs
-
-enum-known-wanted : tie.Need-enum-known-wanted
-enum-known-wanted c = search needs
-
-cast-quote : tie.Need-cast-quote
-cast-quote c = search needs
-
-array-share-prefix-quote : tie.Need-array-share-prefix-quote
-array-share-prefix-quote c =
-    let at-wish-at = c .before .before .before .before in
-    let wish = at-wish-at .wish-at .ensures in omega (arith, wish .six, wish .bounded _ (c .before .wanted .given .1))
-
-slice-aggregate-quote : tie.Need-slice-aggregate-quote
-slice-aggregate-quote c =
-    let at-wanted = c .before .before in
-    let at-wish-at = at-wanted .before .before .before in
-    let wish = at-wish-at .wish-at .ensures in simp length-take (omega (arith, wish .six, wish .bounded _ (at-wanted .wanted .given .1)))
-
-quote-requires : tie.Need-quote-requires
-quote-requires c κs = search needs
-
-put-quote-requires : tie.Need-put-quote-requires
-put-quote-requires c κs =
-    let at-quote3 = c .before .before .before .before .before .before .before .before .before .before .before in
-    (omega (arith, quote-fits (at-quote3 .quote3 .ensures)), (omega arith, omega arith))
-
-step-of-requires : tie.Need-step-of-requires
-step-of-requires c κs = search needs
-
-make-other-requires : tie.Need-make-other-requires
-make-other-requires c κs = search needs
-
-step-of-requires-2 : tie.Need-step-of-requires-2
-step-of-requires-2 c κs = search needs
+play-known-requires : tie.Need-play-known-requires
+play-known-requires c κs = (omega arith, unknown refl)
 
 same-length : tie.Need-same-length
 same-length c = search needs
@@ -57,52 +23,10 @@ same-length-4 : tie.Need-same-length-4
 same-length-4 c = search needs
 
 returns : tie.Need-returns
-returns c =
-    let at-quote3 = c .before .before .before .before .before .before .before .before .before .before .before .before .before in
-    let at-wanted = at-quote3 .before .before .before .before .before .before .before .before in
-    let at-wish-at = at-wanted .before .before .before in
-    quote-played _ _ _ _ _ _ _ (at-wish-at .wish-at .ensures) (c .step-of .ensures) (at-wanted .wanted .given .1) (c .before .put-quote .ensures _ _ _ _ _ (at-quote3 .quote3 .ensures))
-
-same-length-5 : tie.Need-same-length-5
-same-length-5 c = search needs
-
-same-length-6 : tie.Need-same-length-6
-same-length-6 c = search needs
-
-same-length-7 : tie.Need-same-length-7
-same-length-7 c = search needs
-
-same-length-8 : tie.Need-same-length-8
-same-length-8 c = search needs
-
-returns-2 : tie.Need-returns-2
-returns-2 c =
-    let at-make-other = c .before .before .before .before .before .before .before .before .before in
-    let at-match = at-make-other .before .before .before .before .before .before .before in
-    let at-wish-at = at-match .before .before in
-    other-played _ _ _ _ _ _ _ (at-wish-at .wish-at .ensures) (c .step-of2 .ensures) (at-match .match .keys2) (at-make-other .make-other .ensures)
+returns c = let at-play-known = c .before .before .before .before .before .before .before .before .before in
+    step-anywhere (at-play-known .play-known .ensures)
 
 pub play-spec : {M : Type 1} → statement M
 play-spec =
     tie.close
-    (tie.spec
-    wish-at-requires
-    enum-known-wanted
-    cast-quote
-    array-share-prefix-quote
-    slice-aggregate-quote
-    quote-requires
-    put-quote-requires
-    step-of-requires
-    make-other-requires
-    step-of-requires-2
-    same-length
-    same-length-2
-    same-length-3
-    same-length-4
-    returns
-    same-length-5
-    same-length-6
-    same-length-7
-    same-length-8
-    returns-2)
+    (tie.spec play-known-requires same-length same-length-2 same-length-3 same-length-4 returns)
