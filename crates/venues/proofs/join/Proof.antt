@@ -1,0 +1,100 @@
+use borrow.Author.Needs.{needs}
+use Rattle.venues.proofs.join.Statement.{statement}
+use Rattle.venues.proofs.join.Tie as tie
+use Rattle.venues.proofs.join.Reads as reads
+use Rattle.venues.proofs.join.Lts as lts
+use Rattle.venues.proofs.Joining.number.Reads as number-reads
+use Rattle.venues.proofs.join_at.Reads as join-at-reads
+
+join-at-requires : tie.Need-join-at-requires
+join-at-requires c κs = search needs
+
+number-requires : tie.Need-number-requires
+number-requires c κs = search needs
+
+enum-told : tie.Need-enum-told
+enum-told c = search needs
+
+sub-result : tie.Need-sub-result
+sub-result c = ?
+
+part-result-start : tie.Need-part-result-start
+part-result-start c = ?
+
+part-result-end : tie.Need-part-result-end
+part-result-end c = ?
+
+returns : tie.Need-returns
+returns c = ?
+
+enum-told-2 : tie.Need-enum-told-2
+enum-told-2 c = search needs
+
+sub-result-2 : tie.Need-sub-result-2
+sub-result-2 c = ?
+
+part-result-start-2 : tie.Need-part-result-start-2
+part-result-start-2 c = ?
+
+part-result-end-2 : tie.Need-part-result-end-2
+part-result-end-2 c = ?
+
+returns-2 : tie.Need-returns-2
+returns-2 c = ?
+
+enum-told-3 : tie.Need-enum-told-3
+enum-told-3 c = search needs
+
+sub-result-3 : tie.Need-sub-result-3
+sub-result-3 c = search needs
+
+part-result-start-3 : tie.Need-part-result-start-3
+part-result-start-3 c = search needs
+
+part-result-end-3 : tie.Need-part-result-end-3
+part-result-end-3 c = search needs
+
+returns-3 : tie.Need-returns-3
+returns-3 c = ?
+
+enum-told-4 : tie.Need-enum-told-4
+enum-told-4 c = search needs
+
+sub-result-4 : tie.Need-sub-result-4
+sub-result-4 c = search needs
+
+part-result-start-4 : tie.Need-part-result-start-4
+part-result-start-4 c = search needs
+
+part-result-end-4 : tie.Need-part-result-end-4
+part-result-end-4 c = search needs
+
+returns-4 : tie.Need-returns-4
+returns-4 c = ?
+
+pub join-spec : {M : Type 1} → statement M
+join-spec =
+    tie.close
+    (tie.spec
+    join-at-requires
+    number-requires
+    enum-told
+    sub-result
+    part-result-start
+    part-result-end
+    returns
+    enum-told-2
+    sub-result-2
+    part-result-start-2
+    part-result-end-2
+    returns-2
+    enum-told-3
+    sub-result-3
+    part-result-start-3
+    part-result-end-3
+    returns-3
+    enum-told-4
+    sub-result-4
+    part-result-start-4
+    part-result-end-4
+    returns-4)
