@@ -1,3 +1,6 @@
+-- `join` meets its contract: the part is what the chosen tape was moved past.
+use native.Mathlib.Omega.{arith}
+use Rattle.venues.proofs.Joins.{first-bounds, second-bounds, by-first, by-second, by-end, by-refusal}
 use borrow.Author.Needs.{needs}
 use Rattle.venues.proofs.join.Statement.{statement}
 use Rattle.venues.proofs.join.Tie as tie
@@ -16,31 +19,31 @@ enum-told : tie.Need-enum-told
 enum-told c = search needs
 
 sub-result : tie.Need-sub-result
-sub-result c = ?
+sub-result c = omega (arith, first-bounds _ _ _ _ (c .before .before .before .join-at .result) (c .before .before .before .join-at .ensures) (c .before .before .number .ensures) (c .enum-told .given .1))
 
 part-result-start : tie.Need-part-result-start
-part-result-start c = ?
+part-result-start c = omega (arith, first-bounds _ _ _ _ (c .before .before .before .join-at .result) (c .before .before .before .join-at .ensures) (c .before .before .number .ensures) (c .enum-told .given .1))
 
 part-result-end : tie.Need-part-result-end
-part-result-end c = ?
+part-result-end c = omega (arith, first-bounds _ _ _ _ (c .before .before .before .join-at .result) (c .before .before .before .join-at .ensures) (c .before .before .number .ensures) (c .enum-told .given .1))
 
 returns : tie.Need-returns
-returns c = ?
+returns c = by-first _ _ _ _ (c .before .before .before .before .join-at .result) (c .before .before .before .before .join-at .ensures) (c .before .before .before .number .ensures) (c .before .enum-told .given .1)
 
 enum-told-2 : tie.Need-enum-told-2
 enum-told-2 c = search needs
 
 sub-result-2 : tie.Need-sub-result-2
-sub-result-2 c = ?
+sub-result-2 c = omega (arith, second-bounds _ _ _ _ (c .before .before .before .join-at .result) (c .before .before .before .join-at .ensures) (c .before .before .number .ensures) (c .enum-told2 .given .1))
 
 part-result-start-2 : tie.Need-part-result-start-2
-part-result-start-2 c = ?
+part-result-start-2 c = omega (arith, second-bounds _ _ _ _ (c .before .before .before .join-at .result) (c .before .before .before .join-at .ensures) (c .before .before .number .ensures) (c .enum-told2 .given .1))
 
 part-result-end-2 : tie.Need-part-result-end-2
-part-result-end-2 c = ?
+part-result-end-2 c = omega (arith, second-bounds _ _ _ _ (c .before .before .before .join-at .result) (c .before .before .before .join-at .ensures) (c .before .before .number .ensures) (c .enum-told2 .given .1))
 
 returns-2 : tie.Need-returns-2
-returns-2 c = ?
+returns-2 c = by-second _ _ _ _ (c .before .before .before .before .join-at .result) (c .before .before .before .before .join-at .ensures) (c .before .before .before .number .ensures) (c .before .enum-told2 .given .1)
 
 enum-told-3 : tie.Need-enum-told-3
 enum-told-3 c = search needs
@@ -55,7 +58,7 @@ part-result-end-3 : tie.Need-part-result-end-3
 part-result-end-3 c = search needs
 
 returns-3 : tie.Need-returns-3
-returns-3 c = ?
+returns-3 c = by-end _ _ _ _ (c .before .before .before .before .join-at .result) (c .before .before .before .before .join-at .ensures) (c .before .before .before .number .ensures) (c .before .enum-told3 .given .1)
 
 enum-told-4 : tie.Need-enum-told-4
 enum-told-4 c = search needs
@@ -70,7 +73,7 @@ part-result-end-4 : tie.Need-part-result-end-4
 part-result-end-4 c = search needs
 
 returns-4 : tie.Need-returns-4
-returns-4 c = ?
+returns-4 c = by-refusal _ _ _ _ (c .before .before .before .before .join-at .result) (c .before .before .before .before .join-at .ensures) (c .before .before .before .number .ensures) _ (c .before .enum-told4 .given .1)
 
 pub join-spec : {M : Type 1} → statement M
 join-spec =
