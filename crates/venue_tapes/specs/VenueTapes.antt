@@ -1,5 +1,5 @@
 -- A venue's tape: what stands at a place of it, and what it has next: a stamped quote, its end, or a refusal by 02's numbers.
-use Prim.Native.Nat.{ℕ}
+use Prim.Native.Nat.{ℕ, _+_}
 use mathlib.Core.Bool.{Bool, _||_, cond}
 use mathlib.Core.List.{List}
 use lib.Dec.{ltb, eqb}
@@ -100,3 +100,9 @@ unfoldable pub ahead : Next → Ahead
 ahead (Found.Pair ms behind) = pair ms behind
 ahead Found.Done = done
 ahead (Found.Refused k) = refuses (number k)
+
+-- the same, with so many more bytes before it
+unfoldable pub further : ℕ → Ahead → Ahead
+further n (pair ms behind) = pair ms (n + behind)
+further n done = done
+further n (refuses k) = refuses k
