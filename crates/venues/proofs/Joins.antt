@@ -1,5 +1,6 @@
 -- What a join answers and moves, by the tape whose pair is chosen.
 use mathlib.Core.Path.{_≡_, refl, sym, ap, _∙_}
+use mathlib.Core.Logic.{_⊎_, inl, inr, ⊎-elim}
 use Prim.Native.Nat.{ℕ, _+_, _-_, _≤_}
 use native.Mathlib.Omega.{arith}
 use mathlib.Core.Bool.{Bool, true, false, cond}
@@ -8,7 +9,7 @@ use lib.Dec.{ltb}
 use lib.ListN.{length, take, drop}
 use Rattle.refusals.specs.declared.Refusal.{Refusal}
 use Rattle.venue_tapes.specs.VenueTapes.{Ahead, pair, done, refuses, next}
-use Rattle.venue_tapes.proofs.Pairs.{is-pair, pair-size}
+use Rattle.venue_tapes.proofs.Pairs.{is-pair, pair-size, done-at-end, refusal-range}
 use Rattle.venues.specs.declared.Venue.{Venue}
 use Rattle.venues.specs.declared.Joining.the-variants as Joining
 use Rattle.venues.specs.declared.Step.{Step}
@@ -41,6 +42,36 @@ second-has (pair x y) (refuses k) e = absurd (let z : _≡_ {A = ℕ} 0 1 = cc i
 second-has (pair x y) done e = absurd (let z : _≡_ {A = ℕ} 0 1 = cc in omega arith)
 second-has (pair x y) (pair ms behind) e = (ms, behind, refl)
 
+-- a refusal is one of the two tapes'
+refused-by : (a b : Ahead) {k : ℕ} → chosen a b ≡ refused k → (a ≡ refuses k) ⊎ (b ≡ refuses k)
+unfolding chosen
+refused-by (refuses n) b e = inl cc
+refused-by done (refuses n) e = inr cc
+refused-by done done e = absurd (let z : _≡_ {A = ℕ} 0 1 = cc in omega arith)
+refused-by done (pair ms behind) e = absurd (let z : _≡_ {A = ℕ} 0 1 = cc in omega arith)
+refused-by (pair x y) (refuses n) e = inr cc
+refused-by (pair x y) done e = absurd (let z : _≡_ {A = ℕ} 0 1 = cc in omega arith)
+refused-by (pair x y) (pair ms behind) {k} e = absurd (go (ltb ms x) e)
+  where
+    go : (b : Bool) → cond b ofSecond ofFirst ≡ refused k → ⊥
+    go true e = let z : _≡_ {A = ℕ} 0 1 = cc in omega arith
+    go false e = let z : _≡_ {A = ℕ} 0 1 = cc in omega arith
+
+-- 'end' is said where both are done
+ends-by : (a b : Ahead) → chosen a b ≡ atEnds → (a ≡ done) × (b ≡ done)
+unfolding chosen
+ends-by (refuses n) b e = absurd (let z : _≡_ {A = ℕ} 0 1 = cc in omega arith)
+ends-by done (refuses n) e = absurd (let z : _≡_ {A = ℕ} 0 1 = cc in omega arith)
+ends-by done done e = (refl, refl)
+ends-by done (pair ms behind) e = absurd (let z : _≡_ {A = ℕ} 0 1 = cc in omega arith)
+ends-by (pair x y) (refuses n) e = absurd (let z : _≡_ {A = ℕ} 0 1 = cc in omega arith)
+ends-by (pair x y) done e = absurd (let z : _≡_ {A = ℕ} 0 1 = cc in omega arith)
+ends-by (pair x y) (pair ms behind) e = absurd (go (ltb ms x) e)
+  where
+    go : (b : Bool) → cond b ofSecond ofFirst ≡ atEnds → ⊥
+    go true e = let z : _≡_ {A = ℕ} 0 1 = cc in omega arith
+    go false e = let z : _≡_ {A = ℕ} 0 1 = cc in omega arith
+
 -- a tape's pair was taken: what it has next, and where it stands behind it
 pub record Taken (tape : List ℕ) (before after : Venue) : Type 0 where
   pub has : next tape (before .place) (before .last) ≡ pair (after .last) (after .place)
@@ -63,7 +94,8 @@ module _ (first second : List ℕ) (v w : Venue) where
       let b = next second (w .place) (w .last) in
       ap (λ (c : Choice). jointBy c a b v w) (sym (choice-kept (chosen a b) a b v w) ∙ e)
 
-  was-chosen : {c : Choice} → joint .choice ≡ c → chosen (next first (v .place) (v .last)) (next second (w .place) (w .last)) ≡ c
+  -- the answer is what was chosen of what both tapes have next
+  pub was-chosen : {c : Choice} → joint .choice ≡ c → chosen (next first (v .place) (v .last)) (next second (w .place) (w .last)) ≡ c
   unfolding joinAt jointOf
   was-chosen e = sym (choice-kept _ _ _ v w) ∙ e
 
@@ -82,6 +114,18 @@ module _ (first second : List ℕ) (v w : Venue) where
       let r = second-has (next first (v .place) (v .last)) (next second (w .place) (w .last)) (was-chosen e) in
       let there : joint .second ≡ venue (r .1) (r .0) = ap Joint.second (by-choice e) ∙ ap (moved w) (r .2) in
       (rw there (taken second w (r .2)), ap Joint.first (by-choice e))
+
+  -- 'end' is said at both ends
+  pub end-at-ends : joint .choice ≡ atEnds → (v .place ≡ length first) × (w .place ≡ length second)
+  end-at-ends e =
+      let r = ends-by (next first (v .place) (v .last)) (next second (w .place) (w .last)) (was-chosen e) in
+      (done-at-end first (v .place) (v .last) (r .0), done-at-end second (w .place) (w .last) (r .1))
+
+  -- a refusal has a number from 1 to 16
+  pub refusal-numbered : {k : ℕ} → joint .choice ≡ refused k → (1 ≤ k) × (k ≤ 16)
+  refusal-numbered e =
+      ⊎-elim (refusal-range first (v .place) (v .last)) (refusal-range second (w .place) (w .last))
+      (refused-by (next first (v .place) (v .last)) (next second (w .place) (w .last)) (was-chosen e))
 
   -- 'end' moves nothing
   pub end-stays : joint .choice ≡ atEnds → (joint .first ≡ v) × (joint .second ≡ w)
