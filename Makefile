@@ -2,11 +2,12 @@
 # What rt prints goes to a log under build/; standard error gets a line for each crate.
 SHELL := /bin/bash
 .SHELLFLAGS := -euo pipefail -c
-.PHONY: test proofs models run host random random-calls rules plants rule-plants yardstick notation citations tapes test-slow bench
+.PHONY: test proofs models run host random random-calls rules plants rule-plants yardstick notation venues citations tapes test-slow bench
 
 PRINTER ?= target/bin/tape_printer
 WRITER ?= target/bin/tape_writer
 PLAYER ?= target/bin/book_player
+JOINER ?= target/bin/venue_joiner
 TAPE ?= tapes/worked.tape
 SEED ?= 1
 TAPES ?= 10000
@@ -19,6 +20,8 @@ CALL_PLANTS := renamed torn-first past-memory early live-lower overwritten retir
   equals-stay earlier-stands nine-at-eight shares-free thirteen-fits desk-two-first watch2-by-one desk-left
 RULE_PLANTS := upper-free pair-end due-equal preview-settles preview-held preview-head equals-stay earlier-stands \
   watch2-by-one
+VENUE_PLANTS := second-on-equal fifteen-before-seven sixteen-before-fifteen midnight equal-refused second-refuses-first \
+  good-tape-goes-on look-behind quote-misplaced ends-with-one other-moved
 SAMPLES := $(basename $(wildcard tapes/*.txt))
 # a test leaves its core to a check that wants it
 IDLE := nice -n 19
@@ -26,7 +29,7 @@ RUSTC := env -u MAKEFLAGS $(IDLE) rustc --edition 2021 -O -D warnings
 
 test: citations
 	@$(MAKE) --no-print-directory -j2 proofs models
-	@$(MAKE) --no-print-directory -j2 host random random-calls plants notation
+	@$(MAKE) --no-print-directory -j2 host random random-calls plants notation venues
 	@tools/dearest.sh build/ci.txt
 	@tail -n 1 build/ci.txt | grep -Ex '[0-9]+ passed, 0 failed'
 
@@ -35,7 +38,7 @@ proofs:
 	@rt ci 2>&1 | tools/progress.sh build/ci.txt
 
 # beside the first crates, on what they leave idle: the tests built, and the models held against small tapes and themselves
-models: build/plain_model build/random_calls build/notation rules rule-plants
+models: build/plain_model build/random_calls build/notation build/venues rules rule-plants
 
 run: $(PRINTER)
 	@$(PRINTER) < $(TAPE)
@@ -61,7 +64,7 @@ rules: build/random_calls
 	@$(IDLE) build/random_calls --rules
 
 # a model with a bug planted must not agree with the printer, the player or the tapes
-plants: $(PLANTS:%=plant-in-tapes-%) $(CALL_PLANTS:%=plant-in-calls-%)
+plants: $(PLANTS:%=plant-in-tapes-%) $(CALL_PLANTS:%=plant-in-calls-%) $(VENUE_PLANTS:%=plant-in-venues-%)
 
 rule-plants: $(RULE_PLANTS:%=plant-in-rules-%)
 
@@ -70,6 +73,9 @@ plant-in-tapes-%: build/plain_model $(PRINTER)
 
 plant-in-calls-%: build/random_calls $(PLAYER)
 	@tests/planted.sh calls-$* 'the answers differ' build/random_calls --plant $* $(PLAYER) $(SEED) 1000
+
+plant-in-venues-%: build/venues $(JOINER)
+	@tests/planted.sh venues-$* 'the joined tapes differ' build/venues --plant $* $(JOINER) $(SEED)
 
 plant-in-rules-%: build/random_calls
 	@$(IDLE) tests/planted.sh rules-$* 'the rules differ' build/random_calls --plant $* --rules
@@ -84,6 +90,10 @@ notation: build/notation $(WRITER)
 	@build/notation $(WRITER) $(SEED)
 	@for sample in $(SAMPLES); do $(WRITER) < $$sample.txt | cmp - $$sample.tape; done
 
+# the venue joiner against a plain model of the join, on sound, damaged and long tapes
+venues: build/venues $(JOINER)
+	@build/venues $(JOINER) $(SEED)
+
 # every path that the texts cite, and every name that docs/PROOFS.md cites
 citations:
 	@tests/citations.sh
@@ -96,8 +106,9 @@ tapes: $(WRITER)
 test-slow: build/full_tape $(PRINTER)
 	@build/full_tape $(PRINTER) $(SEED)
 
-bench: build/bench build/yardstick build/plain_model build/make_tape $(PRINTER)
+bench: build/bench build/yardstick build/plain_model build/make_tape build/join build/plain_join $(PRINTER) $(JOINER)
 	@build/bench $(PRINTER) $(RUNS)
+	@build/join $(JOINER) $(RUNS)
 
 target/bin/%: crates.txt $(shell find crates -name '*.rt' -o -name '*.antt')
 	@rt check $* 2>&1 | tools/progress.sh build/$*.txt $*

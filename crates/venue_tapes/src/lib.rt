@@ -32,7 +32,7 @@ pub enum Next {
 }
 
 // What stands at a place, as far as a venue's tape is concerned: 2 beyond the end, 1 for an unknown kind, 2 for a cut frame.
-pub fn glimpse_at(tape: &[u8], place: usize) -> Glimpse
+fn glimpse_at(tape: &[u8], place: usize) -> Glimpse
     ensures { λ r. ⌜ glimpsed r ≡ sortOf (readAt (now (tape .entry)) place) ⌝ }
 {
     if tape.len() < place {

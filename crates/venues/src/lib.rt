@@ -94,7 +94,7 @@ fn move_past(venue: Venue, next: Next) -> Venue
 }
 
 // One join, by what both tapes have next.
-pub fn join_next(one: Venue, two: Venue, first: Next, second: Next) -> Step
+fn join_next(one: Venue, two: Venue, first: Next, second: Next) -> Step
     ensures { λ r. ⌜ jointIn r ≡ jointOf (ahead first) (ahead second) one two ⌝ }
 {
     let answer = choose(first, second);

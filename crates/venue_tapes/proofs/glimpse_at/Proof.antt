@@ -9,10 +9,6 @@ use Rattle.venue_tapes.specs.VenueTapes.{glimpsed}
 use Rattle.venue_tapes.proofs.Glimpses.{stamp-body, sort-beyond, sort-end, sort-unknown, sort-cut, sort-quote, sort-stamp, sort-stray}
 use Rattle.venue_tapes.proofs.glimpse_at.Statement.{statement}
 use Rattle.venue_tapes.proofs.glimpse_at.Tie as tie
-use Rattle.venue_tapes.proofs.glimpse_at.Reads as reads
-use Rattle.venue_tapes.proofs.glimpse_at.Lts as lts
-use Rattle.frame_kinds.proofs.body_length.Reads as body-length-reads
-use Rattle.octets.proofs.four_at.Reads as four-at-reads
 
 returns : tie.Need-returns
 unfolding glimpsed

@@ -4,10 +4,6 @@ use Rattle.venues.proofs.Joins.{first-bounds, second-bounds, by-first, 
 use borrow.Author.Needs.{needs}
 use Rattle.venues.proofs.join.Statement.{statement}
 use Rattle.venues.proofs.join.Tie as tie
-use Rattle.venues.proofs.join.Reads as reads
-use Rattle.venues.proofs.join.Lts as lts
-use Rattle.venues.proofs.Joining.number.Reads as number-reads
-use Rattle.venues.proofs.join_at.Reads as join-at-reads
 
 join-at-requires : tie.Need-join-at-requires
 join-at-requires c κs = search needs

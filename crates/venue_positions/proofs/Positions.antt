@@ -1,0 +1,82 @@
+-- Joined quotes get positions and stamps get none: the k-th joined quote that is accepted is position k.
+use mathlib.Core.Path.{_≡_, refl, sym, ap, _∙_}
+use Prim.Native.Nat.{ℕ, zero, suc, _+_, _-_, _≤_, _<_}
+use native.Mathlib.Omega.{arith}
+use mathlib.Core.Bool.{true, false}
+use mathlib.Core.List.{List, [], _∷_, _++_, map, append-assoc, append-nil}
+use lib.Dec.{eqb}
+use lib.ListN.{length, getD, take, length-map}
+use lib.Seq.{getD-append-add, take-at}
+use Rattle.lists.specs.Lists.{keep}
+use Rattle.refusals.specs.Refusals.{firstOf, granted}
+use Rattle.head.specs.Heads.{lastPosition}
+use Rattle.dominance.specs.Renewal.{quoteAt}
+use Rattle.frame_kinds.specs.Kinds.{stampKind}
+use Rattle.frames.specs.declared.Message.the-variants as Message
+use Rattle.frames.specs.Frames.{frame, readAt}
+use Rattle.frames.specs.Messages.{columnsOf}
+use Rattle.frames.proofs.RoundTrips.{read-after-write}
+use Rattle.model.specs.Reference.{Reference, newest, isOpen, withQuote, withQuotes, ample, tells, referenceStep}
+use Rattle.model.specs.Calls.{Quote}
+use Rattle.audit_model.specs.Audit.{plays}
+use Rattle.audit_model.proofs.Plays.{WideAll, plays-on}
+use Rattle.asking.specs.Asking.{misplaced, request, asks, asked}
+use Rattle.venue_claims.specs.Merging.{StampedQuote, quoteFrame, Fits}
+use Rattle.venue_claims.proofs.StampedQuotes.{quote-writable}
+use Rattle.venue_positions.specs.Accepted.{quotesOf, acceptedOf}
+
+-- ---- what the frames of a pair ask for
+
+-- a stamp has no place on a tape that is played: it asks for no call, so it gets no position
+pub stamp-misplaced : (ms : ℕ) (columns : List ℕ) → asks (Message.Position stampKind ms) columns ≡ misplaced
+unfolding asks
+stamp-misplaced ms columns = refl
+
+-- ---- the positions
+
+module _ (s : Reference) (x : List ℕ) where
+  -- an accepted quote goes behind the others, a refused one leaves them
+  quotes-next : referenceStep (Quote x) ample s .next .quotes ≡ s .quotes ++ keep (eqb (referenceStep (Quote x) ample s .number) 0) x []
+  unfolding referenceStep tells withQuote
+  quotes-next = go (firstOf _)
+    where
+      go : (n : ℕ) → granted n (withQuote s x) s .quotes ≡ s .quotes ++ keep (eqb n 0) x []
+      go zero = refl
+      go (suc n) = sym (append-nil (s .quotes))
+
+-- the quotes that are held are those that were, and those that are accepted behind them
+pub accepted-behind : (xs : List (List ℕ)) (s : Reference) → plays xs s .quotes ≡ s .quotes ++ acceptedOf xs s
+unfolding plays acceptedOf
+accepted-behind [] s = sym (append-nil (s .quotes))
+accepted-behind (x ∷ xs) s =
+    accepted-behind xs (referenceStep (Quote x) ample s .next)
+    ∙ ap (λ (l : List (List ℕ)). l ++ acceptedOf xs (referenceStep (Quote x) ample s .next)) (quotes-next s x)
+    ∙ append-assoc (s .quotes) (keep (eqb (referenceStep (Quote x) ample s .number) 0) x []) (acceptedOf xs (referenceStep (Quote x) ample s .next))
+    ∙ ap (λ (l : List (List ℕ)). s .quotes ++ l) (kept (eqb (referenceStep (Quote x) ample s .number) 0))
+  where
+    kept : (b : _) → keep b x [] ++ acceptedOf xs (referenceStep (Quote x) ample s .next) ≡ keep b x (acceptedOf xs (referenceStep (Quote x) ample s .next))
+    kept true = refl
+    kept false = refl
+
+-- the quote at a position behind those that were held
+behind : (held more : List (List ℕ)) (k : ℕ) → quoteAt (held ++ more) (length held + (k + 1)) ≡ getD more k []
+unfolding quoteAt
+behind held more k = let e : length held + (k + 1) - 1 ≡ length held + k = omega arith in ap (λ (n : ℕ). getD (held ++ more) n []) e ∙ getD-append-add held more k []
+
+-- on a book with no quotes yet, the k-th joined quote that is accepted, counted from 1, is position k
+pub joined-accepted : (qs : List StampedQuote) (s : Reference) → s .quotes ≡ [] → (k : ℕ)
+    → quoteAt (plays (quotesOf qs) s .quotes) (k + 1) ≡ getD (acceptedOf (quotesOf qs) s) k []
+joined-accepted qs s e k =
+    ap (λ (l : List (List ℕ)). quoteAt l (k + 1)) (accepted-behind (quotesOf qs) s ∙ ap (λ (l : List (List ℕ)). l ++ acceptedOf (quotesOf qs) s) e)
+    ∙ behind [] (acceptedOf (quotesOf qs) s) k
+
+-- if the book is open, all have d columns and the tape has space for them, all are accepted: the k-th joined quote is position k
+pub joined-positions : (qs : List StampedQuote) (s : Reference) → isOpen s ≡ true → s .quotes ≡ [] → WideAll (s .dimensions) (quotesOf qs) → length qs ≤ lastPosition → (k : ℕ)
+    → quoteAt (plays (quotesOf qs) s .quotes) (k + 1) ≡ getD (quotesOf qs) k []
+unfolding quotesOf
+joined-positions qs s hold e wide room k =
+    let none : newest s ≡ 0 = ap length e in
+    let fits : newest s + length (quotesOf qs) ≤ lastPosition = omega (arith, length-map qs StampedQuote.columns) in
+    ap (λ (r : Reference). quoteAt (r .quotes) (k + 1)) (plays-on s hold (quotesOf qs) wide fits)
+    ∙ ap (λ (l : List (List ℕ)). quoteAt (l ++ quotesOf qs) (k + 1)) e
+    ∙ behind [] (quotesOf qs) k
