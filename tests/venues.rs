@@ -157,6 +157,24 @@ impl Comparison {
     }
 }
 
+/// Wrong use is told by a line of usage, a file that cannot be opened or read is named, and nothing is written.
+fn misused(joiner: &str) {
+    let cases: [(&[&str], &str); 7] = [
+        (&[], "usage: "),
+        (&["one"], "usage: "),
+        (&["one", "two", "quote"], "usage: "),
+        (&["one", "two", "quotes", "more"], "usage: "),
+        (&["build/no_such_tape", "Makefile"], "build/no_such_tape: "),
+        (&["Makefile", "build/no_such_tape", "quotes"], "build/no_such_tape: "),
+        (&["build", "build"], "build: "),
+    ];
+    for (arguments, expected) in cases {
+        let output = Command::new(joiner).args(arguments).output().expect("the joiner runs");
+        let said = String::from_utf8_lossy(&output.stderr).into_owned();
+        assert!(output.stdout.is_empty() && said.starts_with(expected), "{arguments:?} told {said:?}");
+    }
+}
+
 fn main() {
     let mut arguments = std::env::args().skip(1).peekable();
     let mut plant = Plant::None;
@@ -168,6 +186,7 @@ fn main() {
     let seed = arguments.next().map_or(1, |s| s.parse().expect("a seed"));
     let pairs = arguments.next().map_or(20, |s| s.parse().expect("a number of pairs"));
     let began = Instant::now();
+    misused(&joiner);
     let mut comparison = Comparison { joiner, plant, seed, runs: 0, answers: BTreeMap::new() };
     for index in 0..pairs {
         comparison.damage(&mut Random::new(seed, index));

@@ -170,10 +170,10 @@ passed-first tape v v' other other' part q qs h o t = go (o .ordered) (o .frames
           inside = t .taken .inside;
           whole = record {
             frames =
-              ap (λ (n : ℕ). drop n tape) place
-              ∙ sym (drop-drop (length (framesOf q)) (v .place) tape)
-              ∙ ap (drop (length (framesOf q))) e
-              ∙ drop-append-seam (framesOf q) (flat (map framesOf qs));
+                ap (λ (n : ℕ). drop n tape) place
+                ∙ sym (drop-drop (length (framesOf q)) (v .place) tape)
+                ∙ ap (drop (length (framesOf q))) e
+                ∙ drop-append-seam (framesOf q) (flat (map framesOf qs));
             ordered = rw ms rest;
           };
         }

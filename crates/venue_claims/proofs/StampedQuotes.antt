@@ -141,24 +141,24 @@ module _ (tape : List ℕ) (bytes : Bytes tape) (place last ms behind : ℕ) (p 
     low = ltb-false ms last (none-left (ltb ms last) (ltb lastMillisecond ms) (p .ordered));
     high = ltb-false lastMillisecond ms (none-right (ltb ms last) (ltb lastMillisecond ms) (p .ordered));
     bytes =
-      parted tape place (p .middle) (omega (arith, p .stamped .size))
-      ∙ ap₂ {C = List ℕ} (λ (x y : List ℕ). x ++ y) (sym stamp-bytes)
-      (parted tape (p .middle) behind (omega (arith, p .quoted .size)) ∙ ap (λ (x : List ℕ). x ++ drop behind tape) (sym quote-bytes))
-      ∙ sym (append-assoc (frame (Position stampKind ms) []) (quoteFrame quoteOf) (drop behind tape));
+        parted tape place (p .middle) (omega (arith, p .stamped .size))
+        ∙ ap₂ {C = List ℕ} (λ (x y : List ℕ). x ++ y) (sym stamp-bytes)
+        (parted tape (p .middle) behind (omega (arith, p .quoted .size)) ∙ ap (λ (x : List ℕ). x ++ drop behind tape) (sym quote-bytes))
+        ∙ sym (append-assoc (frame (Position stampKind ms) []) (quoteFrame quoteOf) (drop behind tape));
   }
 
   -- the part that is passed is both frames
   pub part-frames : take (behind - place) (drop place tape) ≡ framesOf quoteOf
   part-frames =
       let size : length (framesOf quoteOf) ≡ behind - place =
-          omega (
-            arith,
-            ap length (written .bytes),
-            length-append (framesOf quoteOf) (drop behind tape),
-            length-drop place tape,
-            length-drop behind tape,
-            p .stamped .size,
-            p .quoted .size,
-            p .quoted .inside,
-          ) in
+      omega (
+        arith,
+        ap length (written .bytes),
+        length-append (framesOf quoteOf) (drop behind tape),
+        length-drop place tape,
+        length-drop behind tape,
+        p .stamped .size,
+        p .quoted .size,
+        p .quoted .inside,
+      ) in
       ap (take (behind - place)) (written .bytes) ∙ take-at (framesOf quoteOf) (drop behind tape) (behind - place) size

@@ -81,7 +81,8 @@ fn refill(source: Source, tape: &mut [u8], name: &[u8]) -> Source
 // Writes out what is gathered; where that fails it is over.
 fn flush(progress: Progress, out: &[u8]) -> Progress
     requires { ⌜ progress .used ≤ length (now out) ⌝ }
-    ensures { λ r. ⌜ (r .used ≡ 0) × (r .first ≡ progress .first) × (r .second ≡ progress .second) ⌝ }
+    ensures { λ r. ⌜ (r .used ≡ 0) × (r .first .place ≡ progress .first .place) × (r .first .end ≡ progress .first .end) ×
+        (r .second .place ≡ progress .second .place) × (r .second .end ≡ progress .second .end) ⌝ }
 {
     let used = progress.used;
     let mut now = progress;
@@ -93,7 +94,13 @@ fn flush(progress: Progress, out: &[u8]) -> Progress
 }
 
 // Joins what has come of both tapes; it is over with an answer that is no pair, and where a file cannot be read.
-fn join_on<'a>(progress: Progress, first: &'a [u8], second: &'a [u8], quotes: bool, out: &mut [u8]) -> Progress
+fn join_on<'a>(
+    progress: Progress,
+    first: &'a [u8],
+    second: &'a [u8],
+    quotes: bool,
+    out: &mut [u8],
+) -> Progress
     requires { ⌜ progress .used ≤ length (now out) ⌝ }
     requires { ⌜ progress .first .place ≤ length (now first) ⌝ }
     requires { ⌜ progress .second .place ≤ length (now second) ⌝ }
@@ -115,7 +122,15 @@ fn join_on<'a>(progress: Progress, first: &'a [u8], second: &'a [u8], quotes: bo
         used: progress.used,
         answer: 0,
     };
-    let joined = join_piece(joiner, first, source.ended, second, other.ended, quotes, out);
+    let joined = join_piece(
+        joiner,
+        first,
+        source.ended,
+        second,
+        other.ended,
+        quotes,
+        out,
+    );
     let one = joined.one;
     let two = joined.two;
     source.place = one.place;
@@ -175,7 +190,13 @@ fn opened(file: i32) -> Source
 }
 
 // Joins two files, and answers the number of the last answer.
-fn join_files(first_file: i32, second_file: i32, first_name: &[u8], second_name: &[u8], quotes: bool) -> u32 {
+fn join_files(
+    first_file: i32,
+    second_file: i32,
+    first_name: &[u8],
+    second_name: &[u8],
+    quotes: bool,
+) -> u32 {
     let mut first = [0u8; PIECE];
     let mut second = [0u8; PIECE];
     let mut out = [0u8; PIECE];
@@ -215,9 +236,16 @@ fn say(answer: u32) {
         1 => io::write_all(STDERR_FILENO, b" a frame's kind is unknown\n"),
         2 => io::write_all(STDERR_FILENO, b" a frame is cut by the end of its tape\n"),
         7 => io::write_all(STDERR_FILENO, b" a frame is neither a stamp nor a quote\n"),
-        15 => io::write_all(STDERR_FILENO, b" a stamp is below the last of its tape, or above 86399999\n"),
-        _ => io::write_all(STDERR_FILENO, b" a quote has no stamp before it, or a stamp no quote behind it\n"),
-    };
+        15 => io::write_all(
+            STDERR_FILENO,
+            b" a stamp is below the last of its tape, or above 86399999\n",
+        ),
+        _ => io::write_all(
+            STDERR_FILENO,
+            b" a quote has no stamp before it, or a stamp no quote behind it\n",
+        ),
+    }
+    ;
 }
 
 // Opens both files and joins them. A file that cannot be opened is named on standard error.
@@ -266,7 +294,10 @@ fn third_is_quotes() -> bool {
 
 // Says how the program is used.
 fn usage() {
-    io::write_all(STDERR_FILENO, b"usage: venue_joiner FIRST SECOND [quotes]\n");
+    io::write_all(
+        STDERR_FILENO,
+        b"usage: venue_joiner FIRST SECOND [quotes]\n",
+    );
 }
 
 fn main() {
@@ -288,5 +319,9 @@ fn main() {
         usage();
         return;
     }
-    join_named(&first_name[..first_length], &second_name[..second_length], quotes);
+    join_named(
+        &first_name[..first_length],
+        &second_name[..second_length],
+        quotes,
+    );
 }

@@ -41,7 +41,7 @@ module _ {part : List ℕ} {from : ℕ} {entry : List ℕ} {used : ℕ} {out : L
       let x : ℕ = getD part (from + i) 0 in
       let P : List ℕ = take used entry ++ take i rest in
       let next : take (i + 1) rest ≡ take i rest ++ (x ∷ []) =
-          rw (add-one i) (take-suc rest i 0 (rw length-drop h) ∙ ap (λ (y : ℕ). take i rest ++ (y ∷ [])) (getD-drop from part i 0)) in
+      rw (add-one i) (take-suc rest i 0 (rw length-drop h) ∙ ap (λ (y : ℕ). take i rest ++ (y ∷ [])) (getD-drop from part i 0)) in
       let there : used + i + 1 ≡ used + (i + 1) = omega arith in
       record {
         start = g .start;
@@ -49,10 +49,10 @@ module _ {part : List ℕ} {from : ℕ} {entry : List ℕ} {used : ℕ} {out : L
         turns = omega arith;
         long = length-set out (used + i) x ∙ g .long;
         cells =
-          ap (λ (l : List ℕ). set l (used + i) x) (g .cells)
-          ∙ store-next 0 P entry (used + i) x (front (g .turns)) (omega (arith, g .room))
-          ∙ ap₂ {C = List ℕ} (λ (a b : List ℕ). a ++ b) (append-assoc (take used entry) (take i rest) (x ∷ []) ∙ ap (λ (l : List ℕ). take used entry ++ l) (sym next))
-          (ap (λ (n : ℕ). drop n entry) there);
+            ap (λ (l : List ℕ). set l (used + i) x) (g .cells)
+            ∙ store-next 0 P entry (used + i) x (front (g .turns)) (omega (arith, g .room))
+            ∙ ap₂ {C = List ℕ} (λ (a b : List ℕ). a ++ b) (append-assoc (take used entry) (take i rest) (x ∷ []) ∙ ap (λ (l : List ℕ). take used entry ++ l) (sym next))
+            (ap (λ (n : ℕ). drop n entry) there);
       }
 
   pub gather-all : length part - from ≤ i → out ≡ placed (drop from part) used entry

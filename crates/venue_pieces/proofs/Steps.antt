@@ -105,7 +105,7 @@ pub joined-one : (first second : List ℕ) (quotes : Bool) (s : Joiner) {v' w' :
     → JoinedOne first second quotes s (record { one = v'; two = w'; used = s .used + (length part - from); answer = answer }) out out'
 joined-one first second quotes s {part = part} {out = out} {from = from} j f o =
     let written : drop from part ≡ outputOf quotes (partAt first second (s .one) (s .two)) =
-        ap (λ (n : ℕ). drop n part) f ∙ left-written quotes part ∙ ap (outputOf quotes) (j .handed) in
+    ap (λ (n : ℕ). drop n part) f ∙ left-written quotes part ∙ ap (outputOf quotes) (j .handed) in
     record {
       answered = j .answered;
       first-left = j .first-left;

@@ -2,11 +2,12 @@
 use mathlib.Core.Path.{_≡_}
 use Prim.Native.Nat.{ℕ, _+_, _≤_, min}
 use mathlib.Core.Bool.{Bool, true, false, _&&_, _||_, cond}
-use mathlib.Core.List.{List}
+use mathlib.Core.List.{List, [], _++_}
 use lib.Dec.{leb, eqb}
 use lib.ListN.{length, drop}
 use Rattle.octets.specs.Placed.{placed}
-use Rattle.venues.specs.Join.{joinAt, partAt, answerOf}
+use Rattle.venues.specs.declared.Venue.{Venue}
+use Rattle.venues.specs.Join.{venue, Joint, joinAt, partAt, answerOf}
 use Rattle.venue_pieces.specs.declared.Joiner.{Joiner}
 
 -- what is judged of a tape has come: thirty bytes from its place on, as many as the longest pair has, or the tape has ended
@@ -49,3 +50,19 @@ module _ (first second : List ℕ) (ended ended' quotes : Bool) where
     pub long : length out' ≡ length out
     pub first-within : s .one .place ≤ length first → s' .one .place ≤ length first
     pub second-within : s .two .place ≤ length second → s' .two .place ≤ length second
+
+-- a piece of a tape has come: so many bytes before it were dropped, and where the tape has ended nothing more comes behind it
+pub record Came (tape : List ℕ) (dropped : ℕ) (piece : List ℕ) (ended : Bool) : Type 0 where
+  pub before : List ℕ
+  pub rest : List ℕ
+  pub whole : tape ≡ before ++ (piece ++ rest)
+  pub count : length before ≡ dropped
+  pub over : ended ≡ true → rest ≡ []
+
+-- a place of a piece as one of the tape
+abbrev pub onward : ℕ → Venue → Venue
+onward n v = venue (n + v .place) (v .last)
+
+-- a join of two pieces as one of the tapes: the same answer, and both places with what was dropped before them
+abbrev pub jointOnward : ℕ → ℕ → Joint → Joint
+jointOnward n m j = record { choice = j .choice; first = onward n (j .first); second = onward m (j .second) }

@@ -35,7 +35,14 @@ pub fn has_enough(ended: bool, place: usize, long: usize) -> bool
 }
 
 // Whether another join is made.
-fn goes_on(joiner: Joiner, first: &[u8], first_ended: bool, second: &[u8], second_ended: bool, room: usize) -> bool
+fn goes_on(
+    joiner: Joiner,
+    first: &[u8],
+    first_ended: bool,
+    second: &[u8],
+    second_ended: bool,
+    room: usize,
+) -> bool
     requires { ⌜ joiner .used ≤ room ⌝ }
     ensures { λ r. ⌜ r ≡ goesOn (now (first .entry)) (now (second .entry)) «first_ended» «second_ended» joiner room ⌝ }
 {
@@ -80,7 +87,13 @@ fn gather(part: &[u8], from: usize, out: &mut [u8], used: usize)
 }
 
 // Makes one join, and lays what is written of its pair behind the bytes that are gathered.
-fn join_one<'a>(joiner: Joiner, first: &'a [u8], second: &'a [u8], quotes: bool, out: &mut [u8]) -> Joiner
+fn join_one<'a>(
+    joiner: Joiner,
+    first: &'a [u8],
+    second: &'a [u8],
+    quotes: bool,
+    out: &mut [u8],
+) -> Joiner
     requires { ⌜ joiner .used + 30 ≤ length (now out) ⌝ }
     ensures { λ r. ⌜ JoinedOne (now (first .entry)) (now (second .entry)) quotes joiner r
         (now (out .entry)) (now (out .exit)) ⌝ }

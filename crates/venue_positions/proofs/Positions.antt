@@ -6,7 +6,7 @@ use mathlib.Core.Bool.{true, false}
 use mathlib.Core.List.{List, [], _∷_, _++_, map, append-assoc, append-nil}
 use lib.Dec.{eqb}
 use lib.ListN.{length, getD, take, length-map}
-use lib.Seq.{getD-append-add, take-at}
+use borrow.Author.Tests.{ne-eqb}
 use Rattle.lists.specs.Lists.{keep}
 use Rattle.refusals.specs.Refusals.{firstOf, granted}
 use Rattle.head.specs.Heads.{lastPosition}
@@ -37,12 +37,12 @@ stamp-misplaced ms columns = refl
 module _ (s : Reference) (x : List ℕ) where
   -- an accepted quote goes behind the others, a refused one leaves them
   quotes-next : referenceStep (Quote x) ample s .next .quotes ≡ s .quotes ++ keep (eqb (referenceStep (Quote x) ample s .number) 0) x []
-  unfolding referenceStep tells withQuote
+  unfolding referenceStep tells withQuote granted
   quotes-next = go (firstOf _)
     where
       go : (n : ℕ) → granted n (withQuote s x) s .quotes ≡ s .quotes ++ keep (eqb n 0) x []
       go zero = refl
-      go (suc n) = sym (append-nil (s .quotes))
+      go (suc n) = rw (ne-eqb (suc n) 0 (λ e. omega arith)) (sym (append-nil (s .quotes)))
 
 -- the quotes that are held are those that were, and those that are accepted behind them
 pub accepted-behind : (xs : List (List ℕ)) (s : Reference) → plays xs s .quotes ≡ s .quotes ++ acceptedOf xs s
@@ -58,17 +58,17 @@ accepted-behind (x ∷ xs) s =
     kept true = refl
     kept false = refl
 
--- the quote at a position behind those that were held
-behind : (held more : List (List ℕ)) (k : ℕ) → quoteAt (held ++ more) (length held + (k + 1)) ≡ getD more k []
+-- the quote at a position, counted from 1
+at-position : (quotes : List (List ℕ)) (k : ℕ) → quoteAt quotes (k + 1) ≡ getD quotes k []
 unfolding quoteAt
-behind held more k = let e : length held + (k + 1) - 1 ≡ length held + k = omega arith in ap (λ (n : ℕ). getD (held ++ more) n []) e ∙ getD-append-add held more k []
+at-position quotes k = let e : k + 1 - 1 ≡ k = omega arith in ap (λ (n : ℕ). getD quotes n []) e
 
 -- on a book with no quotes yet, the k-th joined quote that is accepted, counted from 1, is position k
 pub joined-accepted : (qs : List StampedQuote) (s : Reference) → s .quotes ≡ [] → (k : ℕ)
     → quoteAt (plays (quotesOf qs) s .quotes) (k + 1) ≡ getD (acceptedOf (quotesOf qs) s) k []
 joined-accepted qs s e k =
     ap (λ (l : List (List ℕ)). quoteAt l (k + 1)) (accepted-behind (quotesOf qs) s ∙ ap (λ (l : List (List ℕ)). l ++ acceptedOf (quotesOf qs) s) e)
-    ∙ behind [] (acceptedOf (quotesOf qs) s) k
+    ∙ at-position (acceptedOf (quotesOf qs) s) k
 
 -- if the book is open, all have d columns and the tape has space for them, all are accepted: the k-th joined quote is position k
 pub joined-positions : (qs : List StampedQuote) (s : Reference) → isOpen s ≡ true → s .quotes ≡ [] → WideAll (s .dimensions) (quotesOf qs) → length qs ≤ lastPosition → (k : ℕ)
@@ -79,4 +79,4 @@ joined-positions qs s hold e wide room k =
     let fits : newest s + length (quotesOf qs) ≤ lastPosition = omega (arith, length-map qs StampedQuote.columns) in
     ap (λ (r : Reference). quoteAt (r .quotes) (k + 1)) (plays-on s hold (quotesOf qs) wide fits)
     ∙ ap (λ (l : List (List ℕ)). quoteAt (l ++ quotesOf qs) (k + 1)) e
-    ∙ behind [] (quotesOf qs) k
+    ∙ at-position (quotesOf qs) k
