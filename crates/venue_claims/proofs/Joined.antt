@@ -104,7 +104,8 @@ rest-more tape bytes v v' t r =
     }
 
 module _ (first second : List ℕ) where
-  whole-tapes : Bytes first → Bytes second → {v w v' w' : Venue} {parts : List (List ℕ)} {answer : ℕ} → Runs first second v w parts answer v' w' → answer ≡ endNumber
+  whole-tapes : Bytes first → Bytes second → {v w v' w' : Venue} {parts : List (List ℕ)} {answer : ℕ} → Runs first second v w parts answer v' w'
+      → answer ≡ endNumber
       → Rest first v × Rest second w
   whole-tapes b c {v} {w} (stops j some) e = let r = end-made first second j e in (rest-none first v (r .0), rest-none second w (r .1))
   whole-tapes b c {v} {w} (goes {v' = v'} {w' = w'} {part = part} j run) e = go (pair-made first second j refl) (whole-tapes b c run e)
@@ -121,7 +122,8 @@ aheadOf : ℕ → List StampedQuote → Ahead
 aheadOf place [] = done
 aheadOf place (q ∷ qs) = pair (q .stamp) (place + length (framesOf q))
 
-next-whole : (tape : List ℕ) (v : Venue) (qs : List StampedQuote) → v .place ≤ length tape → Whole (drop (v .place) tape) (v .last) qs → next tape (v .place) (v .last) ≡ aheadOf (v .place) qs
+next-whole : (tape : List ℕ) (v : Venue) (qs : List StampedQuote) → v .place ≤ length tape → Whole (drop (v .place) tape) (v .last) qs
+    → next tape (v .place) (v .last) ≡ aheadOf (v .place) qs
 unfolding aheadOf flat aheadBy
 next-whole tape v [] h o =
     let there : v .place ≡ length tape = omega (arith, ap length (o .frames), length-drop (v .place) tape) in
@@ -134,7 +136,8 @@ next-whole tape v (q ∷ qs) h o = go (o .ordered) (o .frames)
     long : length before ≡ v .place
     long = length-take-le (v .place) tape h
 
-    go : InOrder (v .last) (q ∷ qs) → drop (v .place) tape ≡ framesOf q ++ flat (map framesOf qs) → next tape (v .place) (v .last) ≡ pair (q .stamp) (v .place + length (framesOf q))
+    go : InOrder (v .last) (q ∷ qs) → drop (v .place) tape ≡ framesOf q ++ flat (map framesOf qs)
+        → next tape (v .place) (v .last) ≡ pair (q .stamp) (v .place + length (framesOf q))
     go (InOrder.next fits low high rest) e =
         ap₂ (λ (l : List ℕ) (n : ℕ). next l n (v .last)) (sym (take-append-drop (v .place) tape) ∙ ap (λ (l : List ℕ). before ++ l) e) (sym long)
         ∙ next-written before (flat (map framesOf qs)) q (v .last) fits low high
@@ -179,7 +182,8 @@ passed-first tape v v' other other' part q qs h o t = go (o .ordered) (o .frames
         }
 
 -- the merge begins with the chosen one
-merge-first : (p r : ℕ) (x : StampedQuote) (xs ys : List StampedQuote) → chosen (aheadOf p (x ∷ xs)) (aheadOf r ys) ≡ ofFirst → merge (x ∷ xs) ys ≡ x ∷ merge xs ys
+merge-first : (p r : ℕ) (x : StampedQuote) (xs ys : List StampedQuote) → chosen (aheadOf p (x ∷ xs)) (aheadOf r ys) ≡ ofFirst
+    → merge (x ∷ xs) ys ≡ x ∷ merge xs ys
 unfolding aheadOf chosen merge mergeAt
 merge-first p r x xs [] e = refl
 merge-first p r x xs (y ∷ ys) e = go (ltb (y .stamp) (x .stamp)) e
@@ -188,7 +192,8 @@ merge-first p r x xs (y ∷ ys) e = go (ltb (y .stamp) (x .stamp)) e
     go true e = absurd (let z : _≡_ {A = ℕ} 0 1 = cc in omega arith)
     go false e = refl
 
-merge-second : (p r : ℕ) (xs : List StampedQuote) (y : StampedQuote) (ys : List StampedQuote) → chosen (aheadOf p xs) (aheadOf r (y ∷ ys)) ≡ ofSecond → merge xs (y ∷ ys) ≡ y ∷ merge xs ys
+merge-second : (p r : ℕ) (xs : List StampedQuote) (y : StampedQuote) (ys : List StampedQuote) → chosen (aheadOf p xs) (aheadOf r (y ∷ ys)) ≡ ofSecond
+    → merge xs (y ∷ ys) ≡ y ∷ merge xs ys
 unfolding aheadOf chosen merge mergeAt
 merge-second p r [] y ys e = refl
 merge-second p r (x ∷ xs) y ys e = go (ltb (y .stamp) (x .stamp)) e
@@ -211,13 +216,15 @@ never-refused p r (x ∷ xs) (y ∷ ys) h = absurd (go (ltb (y .stamp) (x .stamp
     go false h = omega arith
 
 -- a pair of the first tape is of a list that is not empty, and so of the second
-first-some : (p r : ℕ) (xs ys : List StampedQuote) → chosen (aheadOf p xs) (aheadOf r ys) ≡ ofFirst → (x : StampedQuote) × (rest : List StampedQuote) × (xs ≡ x ∷ rest)
+first-some : (p r : ℕ) (xs ys : List StampedQuote) → chosen (aheadOf p xs) (aheadOf r ys) ≡ ofFirst
+    → (x : StampedQuote) × (rest : List StampedQuote) × (xs ≡ x ∷ rest)
 unfolding aheadOf chosen
 first-some p r (x ∷ xs) ys e = (x, xs, refl)
 first-some p r [] [] e = absurd (let z : _≡_ {A = ℕ} 0 1 = cc in omega arith)
 first-some p r [] (y ∷ ys) e = absurd (let z : _≡_ {A = ℕ} 0 1 = cc in omega arith)
 
-second-some : (p r : ℕ) (xs ys : List StampedQuote) → chosen (aheadOf p xs) (aheadOf r ys) ≡ ofSecond → (y : StampedQuote) × (rest : List StampedQuote) × (ys ≡ y ∷ rest)
+second-some : (p r : ℕ) (xs ys : List StampedQuote) → chosen (aheadOf p xs) (aheadOf r ys) ≡ ofSecond
+    → (y : StampedQuote) × (rest : List StampedQuote) × (ys ≡ y ∷ rest)
 unfolding aheadOf chosen
 second-some p r xs (y ∷ ys) e = (y, ys, refl)
 second-some p r [] [] e = absurd (let z : _≡_ {A = ℕ} 0 1 = cc in omega arith)
@@ -241,7 +248,8 @@ module _ (first second : List ℕ) where
       let r = never-refused (v .place) (w .place) xs ys (omega arith) in
       (e ∙ r .0, sym (ap (map framesOf) (r .1)))
 
-  sound-step : {v w v' w' : Venue} {part : List ℕ} (parts : List (List ℕ)) (answer : ℕ) → Joined first second v w part 0 v' w' → Sound first second v' w' parts answer
+  sound-step : {v w v' w' : Venue} {part : List ℕ} (parts : List (List ℕ)) (answer : ℕ) → Joined first second v w part 0 v' w'
+      → Sound first second v' w' parts answer
       → Sound first second v w (part ∷ parts) answer
   unfolding Sound
   sound-step {v} {w} {v'} {w'} {part} parts answer j more xs ys h k X Y = go (pair-made first second j refl)
@@ -290,7 +298,8 @@ module _ (first second : List ℕ) where
   sound-joined a b xs ys X Y run = sound-run run xs ys (omega arith) (omega arith) X Y
 
   -- a run that ends with 'end' has read two whole tapes, and its parts are their stable merge
-  pub joined-merges : Bytes first → Bytes second → (a b : ℕ) {parts : List (List ℕ)} {v' w' : Venue} → Runs first second (venue 0 a) (venue 0 b) parts endNumber v' w'
+  pub joined-merges : Bytes first → Bytes second → (a b : ℕ) {parts : List (List ℕ)} {v' w' : Venue}
+      → Runs first second (venue 0 a) (venue 0 b) parts endNumber v' w'
       → Merges first second a b parts
   joined-merges bytes bytes' a b run =
       let r = whole-tapes first second bytes bytes' run refl in
@@ -311,7 +320,8 @@ module _ (first second : List ℕ) where
   -- ---- every run ends
 
   -- each pair moves one place by at least ten bytes, and none beyond the end
-  pub run-moves : {v w v' w' : Venue} {parts : List (List ℕ)} {answer : ℕ} → Runs first second v w parts answer v' w' → v .place ≤ length first → w .place ≤ length second
+  pub run-moves : {v w v' w' : Venue} {parts : List (List ℕ)} {answer : ℕ} → Runs first second v w parts answer v' w' → v .place ≤ length first
+      → w .place ≤ length second
       → (v .place + w .place + 10 * length parts ≤ v' .place + w' .place) × (v' .place ≤ length first) × (w' .place ≤ length second)
   run-moves {v} {w} (stops j some) h k = let r = none-made first second j some in rw (r .0, r .1) (omega arith, h, k)
   run-moves {v} {w} (goes {v' = x} {w' = y} {v'' = v''} {w'' = w''} {part = part} {parts = parts} j run) h k = go (pair-made first second j refl) (run-moves run)

@@ -26,7 +26,8 @@ interleaved (x ∷ xs) ys = among (interleaved xs) ys
     among more [] = Interleaved.first (more [])
     among more (y ∷ l) = go (ltb (y .stamp) (x .stamp)) (among more l)
       where
-        go : (b : Bool) → Interleaved (x ∷ xs) l (mergeAt x (merge xs) l) → Interleaved (x ∷ xs) (y ∷ l) (cond b (y ∷ mergeAt x (merge xs) l) (x ∷ merge xs (y ∷ l)))
+        go : (b : Bool) → Interleaved (x ∷ xs) l (mergeAt x (merge xs) l)
+            → Interleaved (x ∷ xs) (y ∷ l) (cond b (y ∷ mergeAt x (merge xs) l) (x ∷ merge xs (y ∷ l)))
         go true rest = Interleaved.second rest
         go false rest = Interleaved.first (more (y ∷ l))
 

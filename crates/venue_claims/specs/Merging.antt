@@ -34,7 +34,8 @@ pub record Fits (q : StampedQuote) : Type 0 where
 -- millisecond of a day
 pub data InOrder : ℕ → List StampedQuote → Type 0 where
   none : {last : ℕ} → InOrder last []
-  next : {last : ℕ} {q : StampedQuote} {qs : List StampedQuote} → Fits q → last ≤ q .stamp → q .stamp ≤ lastMillisecond → InOrder (q .stamp) qs → InOrder last (q ∷ qs)
+  next : {last : ℕ} {q : StampedQuote} {qs : List StampedQuote} → Fits q → last ≤ q .stamp → q .stamp ≤ lastMillisecond → InOrder (q .stamp) qs
+      → InOrder last (q ∷ qs)
 
 -- the bytes are the frames of these stamped quotes and nothing else, and they are in order from this last stamp on: a sound venue's tape
 pub record Whole (bytes : List ℕ) (last : ℕ) (qs : List StampedQuote) : Type 0 where

@@ -81,8 +81,9 @@ fn refill(source: Source, tape: &mut [u8], name: &[u8]) -> Source
 // Writes out what is gathered; where that fails it is over.
 fn flush(progress: Progress, out: &[u8]) -> Progress
     requires { ⌜ progress .used ≤ length (now out) ⌝ }
-    ensures { λ r. ⌜ (r .used ≡ 0) × (r .first .place ≡ progress .first .place) × (r .first .end ≡ progress .first .end) ×
-        (r .second .place ≡ progress .second .place) × (r .second .end ≡ progress .second .end) ⌝ }
+    ensures { λ r. ⌜ (r .used ≡ 0) × (r .first .place ≡ progress .first .place) ×
+        (r .first .end ≡ progress .first .end) × (r .second .place ≡ progress .second .place) ×
+        (r .second .end ≡ progress .second .end) ⌝ }
 {
     let used = progress.used;
     let mut now = progress;

@@ -51,7 +51,8 @@ module _ {tape : List ℕ} {n : ℕ} {piece : List ℕ} {ended : Bool} (c : Came
       same (inr t) = take-append-le 30 (drop place piece) (c .rest) (rw length-drop (omega (arith, leb-true (place + 30) (length piece) t)))
 
   -- the part that is passed
-  part-in-piece : (after : ℕ) → place ≤ after → after ≤ length piece → take (n + after - (n + place)) (drop (n + place) tape) ≡ take (after - place) (drop place piece)
+  part-in-piece : (after : ℕ) → place ≤ after → after ≤ length piece
+      → take (n + after - (n + place)) (drop (n + place) tape) ≡ take (after - place) (drop place piece)
   part-in-piece after l u =
       let size : n + after - (n + place) ≡ after - place = omega arith in
       ap₂ (λ (k : ℕ) (x : List ℕ). take k x) size tape-drop ∙ take-append-le (after - place) (drop place piece) (c .rest) (rw length-drop (omega arith))
@@ -91,7 +92,8 @@ pub record SameJoin (first second piece piece' : List ℕ) (n m : ℕ) (v w : Ve
   pub part : partAt first second (onward n v) (onward m w) ≡ partAt piece piece' v w
 
 module _ {first second piece piece' : List ℕ} {n m : ℕ} {ended ended' : Bool} (c : Came first n piece ended) (d : Came second m piece' ended') (v w : Venue) where
-  pub joined-in-pieces : v .place ≤ length piece → w .place ≤ length piece' → enough ended (v .place) (length piece) ≡ true → enough ended' (w .place) (length piece') ≡ true
+  pub joined-in-pieces : v .place ≤ length piece → w .place ≤ length piece' → enough ended (v .place) (length piece) ≡ true
+      → enough ended' (w .place) (length piece') ≡ true
       → SameJoin first second piece piece' n m v w
   unfolding joinAt partAt partBy passed
   joined-in-pieces h k e f =

@@ -92,7 +92,8 @@ module _ (first second : List ℕ) (v w : Venue) where
       go (refused k) e = omega arith
 
   -- what is written of a part has room where thirty bytes have
-  pub gather-fits : (quotes : Bool) (used : ℕ) {part : List ℕ} {from long : ℕ} → part ≡ partAt first second v w → from ≡ leftOut quotes (length part) → used + 30 ≤ long
+  pub gather-fits : (quotes : Bool) (used : ℕ) {part : List ℕ} {from long : ℕ} → part ≡ partAt first second v w → from ≡ leftOut quotes (length part)
+      → used + 30 ≤ long
       → (from ≤ length part) × (used + (length part - from) ≤ long)
   gather-fits quotes used {part} {from} e f h =
       let short : length part ≤ 30 = rw e part-short in
@@ -125,7 +126,8 @@ module _ (first second : List ℕ) (ended ended' : Bool) (s : Joiner) (room : �
   unfolding goesOn
   goes-full e h = rw (eq-eqb (s .answer) 0 e, lt-leb (s .used + 30) room h)
 
-  pub goes-first : s .answer ≡ 0 → s .used + 30 ≤ room → {b : Bool} → b ≡ enough ended (s .one .place) (length first) → b ≡ false → false ≡ goesOn first second ended ended' s room
+  pub goes-first : s .answer ≡ 0 → s .used + 30 ≤ room → {b : Bool} → b ≡ enough ended (s .one .place) (length first) → b ≡ false
+      → false ≡ goesOn first second ended ended' s room
   unfolding goesOn
   goes-first e h f g = rw (eq-eqb (s .answer) 0 e, le-leb (s .used + 30) room h, ← f, g)
 
@@ -230,7 +232,8 @@ module _ (first second : List ℕ) (ended ended' quotes : Bool) where
   pub piece-start : (s : Joiner) (out : List ℕ) → s .used ≤ length out → Piece first second ended ended' quotes s out s out
   piece-start s out h = record { made = Joins.none; within = h; long = refl; first-within = λ l. l; second-within = λ l. l }
 
-  pub piece-more : {s s' s'' : Joiner} {out out' out'' : List ℕ} → Piece first second ended ended' quotes s out s' out' → goesOn first second ended ended' s' (length out') ≡ true
+  pub piece-more : {s s' s'' : Joiner} {out out' out'' : List ℕ} → Piece first second ended ended' quotes s out s' out'
+      → goesOn first second ended ended' s' (length out') ≡ true
       → JoinedOne first second quotes s' s'' out' out'' → length out'' ≡ length out' → Piece first second ended ended' quotes s out s'' out''
   piece-more {s' = s'} {out' = out'} p g j e =
       let m = moved first second quotes j in
@@ -243,6 +246,7 @@ module _ (first second : List ℕ) (ended ended' quotes : Bool) where
         second-within = λ h. m .second-within (p .second-within h);
       }
 
-  pub piece-all : {s s' : Joiner} {out out' : List ℕ} → Piece first second ended ended' quotes s out s' out' → goesOn first second ended ended' s' (length out') ≡ false
+  pub piece-all : {s s' : Joiner} {out out' : List ℕ} → Piece first second ended ended' quotes s out s' out'
+      → goesOn first second ended ended' s' (length out') ≡ false
       → PieceJoined first second ended ended' quotes s out s' out'
   piece-all p e = record { made = p .made; all = e; within = p .within; long = p .long; first-within = p .first-within; second-within = p .second-within }

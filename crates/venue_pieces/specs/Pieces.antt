@@ -39,7 +39,8 @@ module _ (first second : List ℕ) (ended ended' quotes : Bool) where
   -- joins made one behind the other, each on what the one before left
   pub data Joins : Joiner → List ℕ → Joiner → List ℕ → Type 0 where
     none : {s : Joiner} {out : List ℕ} → Joins s out s out
-    more : {s s' s'' : Joiner} {out out' out'' : List ℕ} → Joins s out s' out' → goesOn first second ended ended' s' (length out') ≡ true → JoinedOne first second quotes s' s'' out' out''
+    more : {s s' s'' : Joiner} {out out' out'' : List ℕ} → Joins s out s' out' → goesOn first second ended ended' s' (length out') ≡ true
+        → JoinedOne first second quotes s' s'' out' out''
         → Joins s out s'' out''
 
   -- as many joins as can be made

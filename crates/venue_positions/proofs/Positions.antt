@@ -5,7 +5,8 @@ use native.Mathlib.Omega.{arith}
 use mathlib.Core.Bool.{true, false}
 use mathlib.Core.List.{List, [], _∷_, _++_, map, append-assoc, append-nil}
 use lib.Dec.{eqb}
-use lib.ListN.{length, getD, take, length-map}
+use lib.ListN.{length, getD, take, replicate, length-map}
+use lib.Seq.{take-at, take-all}
 use borrow.Author.Tests.{ne-eqb}
 use Rattle.lists.specs.Lists.{keep}
 use Rattle.refusals.specs.Refusals.{firstOf, granted}
@@ -13,14 +14,13 @@ use Rattle.head.specs.Heads.{lastPosition}
 use Rattle.dominance.specs.Renewal.{quoteAt}
 use Rattle.frame_kinds.specs.Kinds.{stampKind}
 use Rattle.frames.specs.declared.Message.the-variants as Message
-use Rattle.frames.specs.Frames.{frame, readAt}
-use Rattle.frames.specs.Messages.{columnsOf}
+use Rattle.frames.specs.Frames.{Reading, readAt}
 use Rattle.frames.proofs.RoundTrips.{read-after-write}
 use Rattle.model.specs.Reference.{Reference, newest, isOpen, withQuote, withQuotes, ample, tells, referenceStep}
 use Rattle.model.specs.Calls.{Quote}
 use Rattle.audit_model.specs.Audit.{plays}
 use Rattle.audit_model.proofs.Plays.{WideAll, plays-on}
-use Rattle.asking.specs.Asking.{misplaced, request, asks, asked}
+use Rattle.asking.specs.Asking.{misplaced, request, asks, inPlace, placed, asked}
 use Rattle.venue_claims.specs.Merging.{StampedQuote, quoteFrame, Fits}
 use Rattle.venue_claims.proofs.StampedQuotes.{quote-writable}
 use Rattle.venue_positions.specs.Accepted.{quotesOf, acceptedOf}
@@ -31,6 +31,17 @@ use Rattle.venue_positions.specs.Accepted.{quotesOf, acceptedOf}
 pub stamp-misplaced : (ms : ℕ) (columns : List ℕ) → asks (Message.Position stampKind ms) columns ≡ misplaced
 unfolding asks
 stamp-misplaced ms columns = refl
+
+-- the frame of its quote asks for the call with its columns, wherever it stands on a tape behind an accepted opening
+pub quote-asked : (before after : List ℕ) (q : StampedQuote) → Fits q
+    → asked true (readAt (before ++ (quoteFrame q ++ after)) (length before) .says) (readAt (before ++ (quoteFrame q ++ after)) (length before) .columns)
+    ≡ request (Quote (q .columns))
+unfolding quoteFrame asked asks placed inPlace
+quote-asked before after q f =
+    let k = length (q .columns) in
+    let front : take k (q .columns) ≡ q .columns = take-all k (q .columns) (omega arith) in
+    ap (λ (r : Reading). asked true (r .says) (r .columns)) (read-after-write before after (Message.Quote k) (q .columns) (quote-writable q f))
+    ∙ ap (λ (l : List ℕ). request (Quote l)) (take-at (take k (q .columns)) (replicate (6 - k) 0) k (ap length front) ∙ front)
 
 -- ---- the positions
 
@@ -71,7 +82,8 @@ joined-accepted qs s e k =
     ∙ at-position (acceptedOf (quotesOf qs) s) k
 
 -- if the book is open, all have d columns and the tape has space for them, all are accepted: the k-th joined quote is position k
-pub joined-positions : (qs : List StampedQuote) (s : Reference) → isOpen s ≡ true → s .quotes ≡ [] → WideAll (s .dimensions) (quotesOf qs) → length qs ≤ lastPosition → (k : ℕ)
+pub joined-positions : (qs : List StampedQuote) (s : Reference) → isOpen s ≡ true → s .quotes ≡ [] → WideAll (s .dimensions) (quotesOf qs)
+    → length qs ≤ lastPosition → (k : ℕ)
     → quoteAt (plays (quotesOf qs) s .quotes) (k + 1) ≡ getD (quotesOf qs) k []
 unfolding quotesOf
 joined-positions qs s hold e wide room k =

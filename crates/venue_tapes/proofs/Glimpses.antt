@@ -85,7 +85,8 @@ module _ (tape : List ℕ) (place : ℕ) where
 
 module _ (tape : List ℕ) (place last : ℕ) {s : Sort} (seen : s ≡ sortOf (readAt tape place)) where
   -- behind a stamp the frame there is judged
-  pub next-stamp : {ms behind : ℕ} {t : Sort} {x : Ahead} → s ≡ stamp ms behind → t ≡ sortOf (readAt tape behind) → x ≡ afterStamp last ms t → x ≡ next tape place last
+  pub next-stamp : {ms behind : ℕ} {t : Sort} {x : Ahead} → s ≡ stamp ms behind → t ≡ sortOf (readAt tape behind) → x ≡ afterStamp last ms t
+      → x ≡ next tape place last
   unfolding next aheadBy
   next-stamp {ms} e f a = a ∙ ap (afterStamp last ms) f ∙ rw (← seen, e)
 

@@ -20,7 +20,8 @@ use Rattle.frames.specs.declared.Message.{Message}
 use Rattle.frames.specs.declared.Message.the-variants as Message
 use Rattle.frames.specs.Frames.{messageBy, messageAt, columnsAt, told, ended, refused, Reading, stays, readAt}
 use Rattle.frames.proofs.Reading.{message-drop}
-use Rattle.venue_tapes.specs.VenueTapes.{Sort, quote, stamp, stray, atEnd, unread, sortBy, sortSaid, sortOf, pair, done, refuses, outOfOrder, alone, afterStamp, aheadBy, next, further}
+use Rattle.venue_tapes.specs.VenueTapes.{Sort, quote, stamp, stray, atEnd, unread, sortBy, sortSaid, sortOf, pair, done, refuses, outOfOrder}
+use Rattle.venue_tapes.specs.VenueTapes.{alone, afterStamp, aheadBy, next, further}
 use Rattle.venue_tapes.proofs.Pairs.{Stamped, stamped}
 
 -- ---- what stands at a place, with more bytes before it

@@ -18,7 +18,8 @@ use Rattle.frames.specs.declared.Message.the-variants as Message
 use Rattle.frames.specs.declared.Message.the-variants.{Quote, Position}
 use Rattle.frames.specs.Frames.{messageBy, messageAt, columnsAt, told, Reading, stays, readAt}
 use Rattle.frames.proofs.Reading.{Found, beyond, at-end, unknown, cut, whole, found}
-use Rattle.venue_tapes.specs.VenueTapes.{Sort, quote, stamp, stray, atEnd, unread, sortBy, sortSaid, sortOf, Ahead, pair, done, refuses, outOfOrder, alone, afterStamp, aheadBy, next}
+use Rattle.venue_tapes.specs.VenueTapes.{Sort, quote, stamp, stray, atEnd, unread, sortBy, sortSaid, sortOf, Ahead, pair, done, refuses}
+use Rattle.venue_tapes.specs.VenueTapes.{outOfOrder, alone, afterStamp, aheadBy, next}
 use Rattle.venue_tapes.proofs.Glimpses.{stamp-body}
 
 -- a stamp stands whole at a place
@@ -79,7 +80,8 @@ module _ (tape : List ℕ) (place : ℕ) where
       by-kind true e = (refl, cc, cc)
       by-kind false e = absurd (let z : _≡_ {A = ℕ} 0 1 = cc in omega arith)
 
-      by-shape : (shape : Shape) {next : ℕ} → sortBy (message shape) next ≡ stamp ms behind → (kind ≡ stampKind) × (message shape ≡ Position stampKind ms) × (next ≡ behind)
+      by-shape : (shape : Shape) {next : ℕ} → sortBy (message shape) next ≡ stamp ms behind
+          → (kind ≡ stampKind) × (message shape ≡ Position stampKind ms) × (next ≡ behind)
       by-shape Shape.Columns e = absurd (let z : _≡_ {A = ℕ} 0 1 = cc in omega arith)
       by-shape Shape.Size e = absurd (let z : _≡_ {A = ℕ} 0 1 = cc in omega arith)
       by-shape Shape.SizePosition e = absurd (let z : _≡_ {A = ℕ} 0 1 = cc in omega arith)
@@ -195,7 +197,8 @@ is-pair tape place last {ms} {behind} h = go (sortOf (readAt tape place)) refl h
     in-order true e = absurd (let z : _≡_ {A = ℕ} 0 1 = cc in omega arith)
     in-order false e = (refl, cc, cc)
 
-    after : {x middle : ℕ} → Stamped tape place x middle → (s : Sort) → sortOf (readAt tape middle) ≡ s → afterStamp last x s ≡ pair ms behind → IsPair tape place last ms behind
+    after : {x middle : ℕ} → Stamped tape place x middle → (s : Sort) → sortOf (readAt tape middle) ≡ s → afterStamp last x s ≡ pair ms behind
+        → IsPair tape place last ms behind
     after {x} {middle} st (quote n) q e =
         let r = in-order (outOfOrder last x) e in
         record {
@@ -217,7 +220,8 @@ is-pair tape place last {ms} {behind} h = go (sortOf (readAt tape place)) refl h
     go (unread k) q e = absurd (let z : _≡_ {A = ℕ} 0 1 = cc in omega arith)
 
 -- a pair has at least ten bytes, at most thirty, and lies within the tape
-pub pair-size : {tape : List ℕ} {place last ms behind : ℕ} → IsPair tape place last ms behind → (place + 10 ≤ behind) × (behind ≤ place + 30) × (behind ≤ length tape)
+pub pair-size : {tape : List ℕ} {place last ms behind : ℕ} → IsPair tape place last ms behind
+    → (place + 10 ≤ behind) × (behind ≤ place + 30) × (behind ≤ length tape)
 pair-size p =
     let s = p .stamped in
     let q = p .quoted in

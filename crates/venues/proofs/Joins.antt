@@ -13,7 +13,8 @@ use Rattle.venue_tapes.proofs.Pairs.{is-pair, pair-size, done-at-end, refusal-r
 use Rattle.venues.specs.declared.Venue.{Venue}
 use Rattle.venues.specs.declared.Joining.the-variants as Joining
 use Rattle.venues.specs.declared.Step.{Step}
-use Rattle.venues.specs.Join.{Choice, ofFirst, ofSecond, atEnds, refused, chosen, venue, moved, Joint, jointBy, jointOf, joinAt, passed, partBy, partAt, answerOf, choiceOf, jointIn, Joined}
+use Rattle.venues.specs.Join.{Choice, ofFirst, ofSecond, atEnds, refused, chosen, venue, moved, Joint, jointBy, jointOf, joinAt, passed, partBy}
+use Rattle.venues.specs.Join.{partAt, answerOf, choiceOf, jointIn, Joined}
 
 -- the answer is what was chosen
 choice-kept : (c : Choice) (a b : Ahead) (v w : Venue) → jointBy c a b v w .choice ≡ c

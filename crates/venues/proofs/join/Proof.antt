@@ -15,31 +15,55 @@ enum-told : tie.Need-enum-told
 enum-told c = search needs
 
 sub-result : tie.Need-sub-result
-sub-result c = omega (arith, first-bounds _ _ _ _ (c .before .before .before .join-at .result) (c .before .before .before .join-at .ensures) (c .before .before .number .ensures) (c .enum-told .given .1))
+sub-result c =
+    let at-number = c .before .before in
+    let at-join-at = at-number .before in
+    omega (arith, first-bounds _ _ _ _ (at-join-at .join-at .result) (at-join-at .join-at .ensures) (at-number .number .ensures) (c .enum-told .given .1))
 
 part-result-start : tie.Need-part-result-start
-part-result-start c = omega (arith, first-bounds _ _ _ _ (c .before .before .before .join-at .result) (c .before .before .before .join-at .ensures) (c .before .before .number .ensures) (c .enum-told .given .1))
+part-result-start c =
+    let at-number = c .before .before in
+    let at-join-at = at-number .before in
+    omega (arith, first-bounds _ _ _ _ (at-join-at .join-at .result) (at-join-at .join-at .ensures) (at-number .number .ensures) (c .enum-told .given .1))
 
 part-result-end : tie.Need-part-result-end
-part-result-end c = omega (arith, first-bounds _ _ _ _ (c .before .before .before .join-at .result) (c .before .before .before .join-at .ensures) (c .before .before .number .ensures) (c .enum-told .given .1))
+part-result-end c =
+    let at-number = c .before .before in
+    let at-join-at = at-number .before in
+    omega (arith, first-bounds _ _ _ _ (at-join-at .join-at .result) (at-join-at .join-at .ensures) (at-number .number .ensures) (c .enum-told .given .1))
 
 returns : tie.Need-returns
-returns c = by-first _ _ _ _ (c .before .before .before .before .join-at .result) (c .before .before .before .before .join-at .ensures) (c .before .before .before .number .ensures) (c .before .enum-told .given .1)
+returns c =
+    let at-number = c .before .before .before in
+    let at-join-at = at-number .before in
+    by-first _ _ _ _ (at-join-at .join-at .result) (at-join-at .join-at .ensures) (at-number .number .ensures) (c .before .enum-told .given .1)
 
 enum-told-2 : tie.Need-enum-told-2
 enum-told-2 c = search needs
 
 sub-result-2 : tie.Need-sub-result-2
-sub-result-2 c = omega (arith, second-bounds _ _ _ _ (c .before .before .before .join-at .result) (c .before .before .before .join-at .ensures) (c .before .before .number .ensures) (c .enum-told2 .given .1))
+sub-result-2 c =
+    let at-number = c .before .before in
+    let at-join-at = at-number .before in
+    omega (arith, second-bounds _ _ _ _ (at-join-at .join-at .result) (at-join-at .join-at .ensures) (at-number .number .ensures) (c .enum-told2 .given .1))
 
 part-result-start-2 : tie.Need-part-result-start-2
-part-result-start-2 c = omega (arith, second-bounds _ _ _ _ (c .before .before .before .join-at .result) (c .before .before .before .join-at .ensures) (c .before .before .number .ensures) (c .enum-told2 .given .1))
+part-result-start-2 c =
+    let at-number = c .before .before in
+    let at-join-at = at-number .before in
+    omega (arith, second-bounds _ _ _ _ (at-join-at .join-at .result) (at-join-at .join-at .ensures) (at-number .number .ensures) (c .enum-told2 .given .1))
 
 part-result-end-2 : tie.Need-part-result-end-2
-part-result-end-2 c = omega (arith, second-bounds _ _ _ _ (c .before .before .before .join-at .result) (c .before .before .before .join-at .ensures) (c .before .before .number .ensures) (c .enum-told2 .given .1))
+part-result-end-2 c =
+    let at-number = c .before .before in
+    let at-join-at = at-number .before in
+    omega (arith, second-bounds _ _ _ _ (at-join-at .join-at .result) (at-join-at .join-at .ensures) (at-number .number .ensures) (c .enum-told2 .given .1))
 
 returns-2 : tie.Need-returns-2
-returns-2 c = by-second _ _ _ _ (c .before .before .before .before .join-at .result) (c .before .before .before .before .join-at .ensures) (c .before .before .before .number .ensures) (c .before .enum-told2 .given .1)
+returns-2 c =
+    let at-number = c .before .before .before in
+    let at-join-at = at-number .before in
+    by-second _ _ _ _ (at-join-at .join-at .result) (at-join-at .join-at .ensures) (at-number .number .ensures) (c .before .enum-told2 .given .1)
 
 enum-told-3 : tie.Need-enum-told-3
 enum-told-3 c = search needs
@@ -54,7 +78,10 @@ part-result-end-3 : tie.Need-part-result-end-3
 part-result-end-3 c = search needs
 
 returns-3 : tie.Need-returns-3
-returns-3 c = by-end _ _ _ _ (c .before .before .before .before .join-at .result) (c .before .before .before .before .join-at .ensures) (c .before .before .before .number .ensures) (c .before .enum-told3 .given .1)
+returns-3 c =
+    let at-number = c .before .before .before in
+    let at-join-at = at-number .before in
+    by-end _ _ _ _ (at-join-at .join-at .result) (at-join-at .join-at .ensures) (at-number .number .ensures) (c .before .enum-told3 .given .1)
 
 enum-told-4 : tie.Need-enum-told-4
 enum-told-4 c = search needs
@@ -69,7 +96,10 @@ part-result-end-4 : tie.Need-part-result-end-4
 part-result-end-4 c = search needs
 
 returns-4 : tie.Need-returns-4
-returns-4 c = by-refusal _ _ _ _ (c .before .before .before .before .join-at .result) (c .before .before .before .before .join-at .ensures) (c .before .before .before .number .ensures) _ (c .before .enum-told4 .given .1)
+returns-4 c =
+    let at-number = c .before .before .before in
+    let at-join-at = at-number .before in
+    by-refusal _ _ _ _ (at-join-at .join-at .result) (at-join-at .join-at .ensures) (at-number .number .ensures) _ (c .before .enum-told4 .given .1)
 
 pub join-spec : {M : Type 1} → statement M
 join-spec =
