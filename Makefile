@@ -2,11 +2,12 @@
 # What rt prints goes to a log under build/; standard error gets a line for each crate.
 SHELL := /bin/bash
 .SHELLFLAGS := -euo pipefail -c
-.PHONY: test proofs models try run host random random-calls rules plants rule-plants yardstick notation citations tapes test-slow bench late pieces
+.PHONY: test proofs models try run host random random-calls rules plants rule-plants yardstick notation citations tapes test-slow bench late pieces venues
 
 PRINTER ?= target/bin/tape_printer
 WRITER ?= target/bin/tape_writer
 PLAYER ?= target/bin/book_player
+JOINER ?= target/bin/venue_joiner
 TAPE ?= tapes/worked.tape
 SEED ?= 1
 TAPES ?= 10000
@@ -21,6 +22,8 @@ CALL_PLANTS := renamed torn-first past-memory early live-lower overwritten retir
 RULE_PLANTS := upper-free pair-end due-equal preview-settles preview-held preview-head equals-stay earlier-stands \
   watch2-by-one
 LATE_PLANTS := unshifted list-early past-early changes-early pair-early rows-early other-directions
+VENUE_PLANTS := second-on-equal fifteen-before-seven sixteen-before-fifteen midnight equal-refused second-refuses-first \
+  good-tape-goes-on look-behind quote-misplaced ends-with-one other-moved
 SAMPLES := $(basename $(wildcard tapes/*.txt))
 # of a command, the program that is made here; another's stands already
 made = $(filter target/bin/% build/%,$(firstword $(1)))
@@ -30,7 +33,7 @@ RUSTC := env -u MAKEFLAGS $(IDLE) rustc --edition 2021 -O -D warnings
 
 test: citations
 	@$(MAKE) --no-print-directory -j2 proofs models
-	@$(MAKE) --no-print-directory -j2 host random random-calls late plants pieces notation
+	@$(MAKE) --no-print-directory -j2 host random random-calls late plants pieces notation venues
 	@tools/dearest.sh build/ci.txt
 	@tail -n 1 build/ci.txt | grep -Ex '[0-9]+ passed, 0 failed'
 
@@ -39,7 +42,7 @@ proofs:
 	@rt ci 2>&1 | tools/progress.sh build/ci.txt
 
 # beside the first crates, on what they leave idle: the tests built, and the models held against small tapes and themselves
-models: build/plain_model build/random_calls build/late_book build/notation rules rule-plants
+models: build/plain_model build/random_calls build/late_book build/notation rules rule-plants build/venues
 
 # the printer on the worked tape before anything is proved, by the toolchain's own trial, with its print
 try:
@@ -76,7 +79,7 @@ rules: build/random_calls
 	@$(IDLE) build/random_calls --rules
 
 # a model with a bug planted must not agree with the printer, the player or the tapes
-plants: $(PLANTS:%=plant-in-tapes-%) $(CALL_PLANTS:%=plant-in-calls-%) $(LATE_PLANTS:%=plant-in-late-%) plant-in-pieces
+plants: $(PLANTS:%=plant-in-tapes-%) $(CALL_PLANTS:%=plant-in-calls-%) $(LATE_PLANTS:%=plant-in-late-%) plant-in-pieces $(VENUE_PLANTS:%=plant-in-venues-%)
 
 rule-plants: $(RULE_PLANTS:%=plant-in-rules-%)
 
@@ -91,6 +94,9 @@ plant-in-late-%: build/late_book $(PRINTER)
 
 plant-in-pieces: build/pieces $(PRINTER) $(WRITER)
 	@tests/planted.sh pieces 'the prints differ' build/pieces --plant $(PRINTER) $(WRITER) $(SAMPLES:%=%.tape)
+
+plant-in-venues-%: build/venues $(JOINER)
+	@tests/planted.sh venues-$* 'the joined tapes differ' build/venues --plant $* $(JOINER) $(SEED)
 
 plant-in-rules-%: build/random_calls
 	@$(IDLE) tests/planted.sh rules-$* 'the rules differ' build/random_calls --plant $* --rules
@@ -109,6 +115,10 @@ notation: build/notation $(WRITER)
 pieces: build/pieces $(PRINTER) $(WRITER)
 	@build/pieces $(PRINTER) $(WRITER) $(SAMPLES:%=%.tape) $(SAMPLES:%=%.txt)
 
+# the venue joiner against a plain model of the join, on sound, damaged and long tapes
+venues: build/venues $(JOINER)
+	@build/venues $(JOINER) $(SEED)
+
 # every path that the texts cite, and every name that docs/PROOFS.md cites
 citations:
 	@tests/citations.sh
@@ -121,8 +131,9 @@ tapes: $(WRITER)
 test-slow: build/full_tape $(PRINTER)
 	@build/full_tape $(PRINTER) $(SEED)
 
-bench: build/bench build/yardstick build/plain_model build/make_tape $(PRINTER)
+bench: build/bench build/yardstick build/plain_model build/make_tape build/join build/plain_join $(PRINTER) $(JOINER)
 	@build/bench $(PRINTER) $(RUNS)
+	@build/join $(JOINER) $(RUNS)
 
 target/bin/%: crates.txt $(shell find crates -name '*.rt' -o -name '*.antt')
 	@rt check $* 2>&1 | tools/progress.sh build/$*.txt $*

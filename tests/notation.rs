@@ -36,6 +36,7 @@ fn frame_of(line: &str) -> Option<Vec<u8>> {
         ("P", 3) => frame = [&[23], &n(1)?.to_le_bytes()[..], &n(2)?.to_le_bytes()[..]].concat(),
         ("B", 3) => frame = [&[21], &n(1)?.to_le_bytes()[..], &n(2)?.to_le_bytes()[..]].concat(),
         ("E", 1) => frame.push(22),
+        ("S", 2) => frame = [&[40], &number(fields[1], 1 << 32)?.to_le_bytes()[..]].concat(),
         ("L", 2) => frame = [&[16], &n(1)?.to_le_bytes()[..]].concat(),
         ("U", 2) => frame = [&[18], &n(1)?.to_le_bytes()[..]].concat(),
         ("W2", 2) => frame = [&[19], &n(1)?.to_le_bytes()[..]].concat(),
@@ -75,8 +76,8 @@ fn any_number(r: &mut Random) -> u64 {
 /// A line that may say a frame.
 fn any_line(r: &mut Random) -> Vec<u8> {
     let watches = [("W", 1), ("U", 1), ("W2", 1), ("U2", 1)];
-    let right = [("O", 3), ("Q", 1 + r.below(6)), ("Q", 1 + r.below(6)), ("L", 1), ("P", 2), ("B", 2), ("E", 0)];
-    let any = [("O", r.below(5)), ("Q", r.below(9)), ("P", r.below(4)), ("B", r.below(4)), ("E", r.below(2)), ("R", 1)];
+    let right = [("O", 3), ("Q", 1 + r.below(6)), ("Q", 1 + r.below(6)), ("L", 1), ("P", 2), ("B", 2), ("E", 0), ("S", 1)];
+    let any = [("O", r.below(5)), ("Q", r.below(9)), ("P", r.below(4)), ("B", r.below(4)), ("E", r.below(2)), ("R", 1), ("S", r.below(3)), ("S2", 1)];
     let odd = [("W2", r.below(3)), ("U2", r.below(3)), ("W1", 1), ("U3", 1), ("L2", 1), ("W22", 1), ("2", 1)];
     let words = [&watches[..], &right, &right, &any, &odd][r.below(5) as usize];
     let (word, count) = words[r.below(words.len() as u64) as usize];

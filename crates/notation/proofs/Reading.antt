@@ -11,15 +11,15 @@ use lib.Seq.{drop-cons}
 use borrow.Author.Tests.{lt-ltb, le-ltb, ltb-true, ltb-false, eq-eqb, ne-eqb, not-true, not-false}
 use Rattle.lists.proofs.Booleans.{and-left, and-right}
 use Rattle.refusals.specs.Refusals.{firstOf, granted}
-use Rattle.frame_kinds.specs.Kinds.{lookKind, watchKind, unwatchKind, watchTwoKind, unwatchTwoKind, pairKind, unpairKind, pastKind}
+use Rattle.frame_kinds.specs.Kinds.{lookKind, watchKind, unwatchKind, watchTwoKind, unwatchTwoKind, pairKind, unpairKind, pastKind, stampKind}
 use Rattle.frames.specs.Frames.{framed, frame}
 use Rattle.frame_writer.specs.Writing.{writeAnswer, Wrote}
 use Rattle.frame_writer.specs.declared.Written.{Written}
 use Rattle.frames.specs.declared.Message.{Message}
-use Rattle.frames.specs.declared.Message.the-variants.{Quote, Sized, Pair, Bare, Open}
+use Rattle.frames.specs.declared.Message.the-variants.{Quote, Sized, Pair, Bare, Position, Open}
 use Rattle.line_fields.specs.declared.Fields.{Fields}
 use Rattle.line_fields.specs.Fields.{noField, after, fieldsFrom}
-use Rattle.notation.specs.Lines.{nothing, opens, opening, quoteOf, pairs, pairOf, bareOf, fits, ofNumber, sizedOf, said, marked, signOf, saidBy}
+use Rattle.notation.specs.Lines.{nothing, opens, opening, quoteOf, pairs, pairOf, bareOf, stampOf, fits, ofNumber, sizedOf, said, marked, signOf, saidBy}
 
 -- ---- messages
 
@@ -89,6 +89,14 @@ module _ (f : Fields) where
   unfolding bareOf
   bare-of kind e = rw e
 
+  pub stamp-not : (f .count ≡ 1 → ⊥) → nothing ≡ stampOf f
+  unfolding stampOf
+  stamp-not h = rw (ne-eqb (f .count) 1 h)
+
+  pub stamp-of : f .count ≡ 1 → Position stampKind (getD (f .numbers) 0 0) ≡ stampOf f
+  unfolding stampOf
+  stamp-of e = rw e
+
   module _ (sign : ℕ) where
     pub sized-not : fits f ≡ false → nothing ≡ sizedOf sign f
     unfolding sizedOf
@@ -123,9 +131,13 @@ module _ (f : Fields) where
       unfolding said
       said-unpair e = rw (t, e)
 
-      pub said-number : (sign ≡ 79 → ⊥) → (sign ≡ 81 → ⊥) → (sign ≡ 80 → ⊥) → (sign ≡ 66 → ⊥) → (sign ≡ 69 → ⊥) → sizedOf sign f ≡ said sign f
+      pub said-stamp : sign ≡ 83 → stampOf f ≡ said sign f
       unfolding said
-      said-number o q p b e = rw (t, ne-eqb sign 79 o, ne-eqb sign 81 q, ne-eqb sign 80 p, ne-eqb sign 66 b, ne-eqb sign 69 e)
+      said-stamp e = rw (t, e)
+
+      pub said-number : (sign ≡ 79 → ⊥) → (sign ≡ 81 → ⊥) → (sign ≡ 80 → ⊥) → (sign ≡ 66 → ⊥) → (sign ≡ 69 → ⊥) → (sign ≡ 83 → ⊥) → sizedOf sign f ≡ said sign f
+      unfolding said
+      said-number o q p b e s = rw (t, ne-eqb sign 79 o, ne-eqb sign 81 q, ne-eqb sign 80 p, ne-eqb sign 66 b, ne-eqb sign 69 e, ne-eqb sign 83 s)
 
 -- the signs of a number
 module _ (sign n : ℕ) where

@@ -13,12 +13,12 @@ use borrow.Author.Tests.{ltb-true, ltb-false, lt-ltb, le-ltb, ne-eqb}
 use Rattle.lists.specs.Lists.{flat}
 use Rattle.lists.proofs.Booleans.{either, and-left, and-right}
 use Rattle.text.specs.Text.{digitsUpTo, digits, field, line, line2}
-use Rattle.frames.specs.declared.Message.the-variants.{Quote, Sized, Pair, Bare, Open}
-use Rattle.frame_kinds.specs.Kinds.{lookKind, watchKind, unwatchKind, watchTwoKind, unwatchTwoKind, pairKind, unpairKind, pastKind}
+use Rattle.frames.specs.declared.Message.the-variants.{Quote, Sized, Pair, Bare, Position, Open}
+use Rattle.frame_kinds.specs.Kinds.{lookKind, watchKind, unwatchKind, watchTwoKind, unwatchTwoKind, pairKind, unpairKind, pastKind, stampKind}
 use Rattle.line_fields.specs.declared.Fields.{Fields}
 use Rattle.line_fields.specs.Fields.{noField, grown, after, fieldsFrom}
 use Rattle.notation.specs.declared.Parsed.{Parsed}
-use Rattle.notation.specs.Lines.{opens, opening, quoteOf, pairs, pairOf, bareOf, fits, ofNumber, sizedOf, said, marked, signOf, saidBy}
+use Rattle.notation.specs.Lines.{opens, opening, quoteOf, pairs, pairOf, bareOf, stampOf, fits, ofNumber, sizedOf, said, marked, signOf, saidBy}
 use Rattle.line_fields.proofs.Steps.{begun-next, grown-next, after-space, after-digit}
 
 -- bytes behind bytes
@@ -201,6 +201,11 @@ module _ (n1 n2 : ℕ) (h : n1 < 65536) (k : n2 < 65536) where
   pub pair-read : saidBy (spelled 66 (n1 ∷ n2 ∷ [])) .message ≡ Pair pairKind n1 n2
   unfolding said fieldsOf pairOf pairs
   pair-read = two-read 66 ∙ rw (lt-ltb n1 65536 h, lt-ltb n2 65536 k)
+
+-- the line of a stamp is read back
+pub stamp-read : (ms : ℕ) → ms < 4294967296 → saidBy (spelled 83 (ms ∷ [])) .message ≡ Position stampKind ms
+unfolding noField said stampOf fieldsOf small
+stamp-read ms h = ap (λ (s : Parsed). s .message) (line-read 83 (ms ∷ []) (0 ∷ 0 ∷ 0 ∷ 0 ∷ 0 ∷ []) refl (omega arith) (rw (lt-ltb ms 4294967296 h)))
 
 -- the line of the end of the pair, a letter alone, is read back
 pub unpair-read : saidBy (spelled 69 []) .message ≡ Bare unpairKind

@@ -6,8 +6,8 @@ use lib.Dec.{ltb, eqb}
 use lib.ListN.{getD, drop}
 use Rattle.refusals.specs.declared.Refusal.the-variants.{UnknownKind}
 use Rattle.frames.specs.declared.Message.{Message}
-use Rattle.frames.specs.declared.Message.the-variants.{Quote, Sized, Pair, Bare, Open, Refused}
-use Rattle.frame_kinds.specs.Kinds.{lookKind, watchKind, unwatchKind, watchTwoKind, unwatchTwoKind, pairKind, unpairKind, pastKind}
+use Rattle.frames.specs.declared.Message.the-variants.{Quote, Sized, Pair, Bare, Position, Open, Refused}
+use Rattle.frame_kinds.specs.Kinds.{lookKind, watchKind, unwatchKind, watchTwoKind, unwatchTwoKind, pairKind, unpairKind, pastKind, stampKind}
 use Rattle.line_fields.specs.declared.Fields.{Fields}
 use Rattle.notation.specs.declared.Parsed.{Parsed}
 use Rattle.line_fields.specs.Fields.{noField, fieldsFrom}
@@ -41,6 +41,10 @@ pairOf kind f = cond (pairs f) (Pair kind (getD (f .numbers) 0 0) (getD (f .numb
 unfoldable pub bareOf : ℕ → Fields → Message
 bareOf kind f = cond (eqb (f .count) 0) (Bare kind) nothing
 
+-- the stamp of a single number
+unfoldable pub stampOf : Fields → Message
+stampOf f = cond (eqb (f .count) 1) (Position stampKind (getD (f .numbers) 0 0)) nothing
+
 -- a single number that fits two bytes
 unfoldable pub fits : Fields → Bool
 fits f = eqb (f .count) 1 && ltb (getD (f .numbers) 0 0) 65536
@@ -66,7 +70,7 @@ ofNumber sign n =
 unfoldable pub sizedOf : ℕ → Fields → Message
 sizedOf sign f = cond (fits f) (ofNumber sign (getD (f .numbers) 0 0)) nothing
 
--- the message of a sign and its fields: O, Q, P, B, E, L, W, U, W2 or U2
+-- the message of a sign and its fields: O, Q, P, B, E, S, L, W, U, W2 or U2
 unfoldable pub said : ℕ → Fields → Message
 said sign f =
     cond (not (f .valid) || f .empty) nothing
@@ -74,7 +78,8 @@ said sign f =
     (cond (eqb sign 81) (quoteOf f)
     (cond (eqb sign 80) (pairOf pastKind f)
     (cond (eqb sign 66) (pairOf pairKind f)
-    (cond (eqb sign 69) (bareOf unpairKind f) (sizedOf sign f))))))
+    (cond (eqb sign 69) (bareOf unpairKind f)
+    (cond (eqb sign 83) (stampOf f) (sizedOf sign f)))))))
 
 -- what a line says
 unfoldable pub saidBy : List ℕ → Parsed

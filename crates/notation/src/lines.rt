@@ -4,8 +4,9 @@ ghost use mathlib.Core.Bool.{cond};
 ghost use Prim.Native.Nat.{_+_};
 ghost use lib.ListN.{drop};
 ghost use Rattle.frame_writer.specs.Writing.{Wrote};
-ghost use Rattle.notation.specs.Lines.{opens, opening, quoteOf, pairs, pairOf, bareOf, fits, sizedOf, said, marked, signOf, saidBy};
+ghost use Rattle.notation.specs.Lines.{opens, opening, quoteOf, pairs, pairOf, bareOf, stampOf, fits, sizedOf, said, marked, signOf, saidBy};
 use crate::Parsed;
+use frame_kinds::STAMP;
 use frame_writer::Written;
 use frames::LOOK;
 use frames::Message;
@@ -82,6 +83,17 @@ fn bare(kind: u8, fields: Fields) -> Message
     Message::Bare(kind)
 }
 
+// The stamp of a single number.
+fn stamp(fields: Fields) -> Message
+    ensures { λ r. ⌜ r ≡ stampOf fields ⌝ }
+{
+    let numbers = fields.numbers;
+    if fields.count != 1 {
+        return Message::Refused(Refusal::UnknownKind);
+    }
+    Message::Position(STAMP, numbers[0])
+}
+
 // Whether the fields are a single number that fits two bytes.
 fn fits(fields: Fields) -> bool
     ensures { λ r. ⌜ r ≡ fits fields ⌝ }
@@ -122,6 +134,7 @@ fn message_of(sign: u16, fields: Fields) -> Message
         80 => pair(PAST, fields),
         66 => pair(PAIR, fields),
         69 => bare(UNPAIR, fields),
+        83 => stamp(fields),
         _ => sized(sign, fields),
     }
 }

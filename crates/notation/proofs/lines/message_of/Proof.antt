@@ -1,7 +1,7 @@
 -- `message_of` meets its contract: each answer is a case of the definition.
 use mathlib.Core.Path.{_∙_}
 use borrow.Author.Needs.{needs}
-use Rattle.notation.proofs.Reading.{said-invalid, said-opening, said-quote, said-past, said-pair, said-unpair, said-number}
+use Rattle.notation.proofs.Reading.{said-invalid, said-opening, said-quote, said-past, said-pair, said-unpair, said-stamp, said-number}
 use Rattle.notation.specs.Lines.{nothing}
 use Rattle.notation.proofs.lines.message_of.Statement.{statement}
 use Rattle.notation.proofs.lines.message_of.Tie as tie
@@ -25,6 +25,9 @@ pair-requires-2 c κs = search needs
 bare-requires : tie.Need-bare-requires
 bare-requires c κs = search needs
 
+stamp-requires : tie.Need-stamp-requires
+stamp-requires c κs = search needs
+
 sized-requires : tie.Need-sized-requires
 sized-requires c κs = search needs
 
@@ -44,9 +47,13 @@ returns-6 : tie.Need-returns-6
 returns-6 c = c .bare .ensures ∙ said-unpair _ _ (c .before .before .if1 .left) (c .before .match .keys5)
 
 returns-7 : tie.Need-returns-7
-returns-7 c =
+returns-7 c = c .stamp .ensures ∙ said-stamp _ _ (c .before .before .if1 .left) (c .before .match .keys6)
+
+returns-8 : tie.Need-returns-8
+returns-8 c =
     let r = c .before .match .rest in
-    c .sized .ensures ∙ said-number _ _ (c .before .before .if1 .left) (r .0 .0 .0 .0 .1) (r .0 .0 .0 .1) (r .0 .0 .1) (r .0 .1) (r .1)
+    c .sized .ensures
+    ∙ said-number _ _ (c .before .before .if1 .left) (r .0 .0 .0 .0 .0 .1) (r .0 .0 .0 .0 .1) (r .0 .0 .0 .1) (r .0 .0 .1) (r .0 .1) (r .1)
 
 pub message-of-spec : {M : Type 1} → statement M
 message-of-spec =
@@ -58,10 +65,12 @@ message-of-spec =
     pair-requires
     pair-requires-2
     bare-requires
+    stamp-requires
     sized-requires
     returns-2
     returns-3
     returns-4
     returns-5
     returns-6
-    returns-7)
+    returns-7
+    returns-8)

@@ -1,0 +1,4 @@
+-- The laws of the crate.
+pub mod Merges
+pub mod StampedQuotes
+pub mod Joined

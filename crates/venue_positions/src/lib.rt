@@ -1,0 +1,1 @@
+// Joined quotes on a book: which of them get which positions (specs/), and the theorems (proofs/).
