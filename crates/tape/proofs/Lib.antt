@@ -1,5 +1,4 @@
 -- The laws of the crate.
-pub mod Makes
 pub mod Plays
 pub mod Reached
 pub mod Prints

@@ -18,7 +18,8 @@ use Rattle.tape_model.specs.Play.{Played, playAsked, playAt, Player, bookMake, 
 use Rattle.turn_lines.specs.declared.Turn.{Turn}
 use Rattle.turn_lines.specs.Turns.{player, Effect, made, refusedWith}
 use Rattle.turn_lines.specs.declared.Step.{Step}
-use Rattle.tape.specs.Steps.{Stepped, taken, tablesOf, tablesLeft, Makes, StepMade}
+use Rattle.tape_turns.specs.Making.{taken, tablesOf, Makes}
+use Rattle.tape.specs.Steps.{Stepped, tablesLeft, StepMade}
 use Rattle.tape.specs.declared.SlidStep.{SlidStep}
 
 -- what is played with this effect

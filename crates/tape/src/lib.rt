@@ -1,5 +1,4 @@
 // Playing a tape: one frame on a book with lent tables, its lines laid at the start of a lent text.
-mod making;
 mod playing;
 
 pub use playing::play;
@@ -8,13 +7,6 @@ pub use sizes::CHANGE_BYTES;
 use sizes::CHANGE_FRAME;
 use sizes::PLACES;
 pub use turn_lines::Step;
-use turn_lines::Turn;
-
-// What a call came to, and how many places later the rows begin where none was moved.
-pub struct TurnMade {
-    pub turn: Turn,
-    pub by: usize,
-}
 
 // What playing a frame hands back, and how many places later the rows begin where none was moved.
 pub struct SlidStep {

@@ -9,9 +9,9 @@ ghost use Rattle.tape.specs.Steps.{Stepped, StepMade};
 use crate::CHANGE_BYTES;
 use crate::SlidStep;
 use crate::TEXT_BYTES;
-use crate::making::make;
 use asking::wish_at;
 use head::Head;
+use tape_turns::make;
 use turn_lines::Step;
 use turn_lines::step_of;
 

@@ -2,11 +2,11 @@
 use native.Mathlib.Omega.{arith}
 use lib.ListN.{length-take}
 use Rattle.turns.proofs.Rooms.{quote-fits}
-use Rattle.tape.specs.Steps.{taken}
-use Rattle.tape.proofs.Makes.{wanted-made, nothing-turned, quote-made}
+use Rattle.tape_turns.specs.Making.{taken}
+use Rattle.tape_turns.proofs.Makes.{wanted-made, nothing-turned, quote-made}
 use borrow.Author.Needs.{needs}
-use Rattle.tape.proofs.making.make.Statement.{statement}
-use Rattle.tape.proofs.making.make.Tie as tie
+use Rattle.tape_turns.proofs.make.Statement.{statement}
+use Rattle.tape_turns.proofs.make.Tie as tie
 
 enum-known-wanted : tie.Need-enum-known-wanted
 enum-known-wanted c = search needs

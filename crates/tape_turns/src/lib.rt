@@ -7,8 +7,7 @@ ghost use Rattle.model.specs.Changes.{changeRoom};
 ghost use Rattle.model.specs.Promises.{tables};
 ghost use Rattle.quoting.specs.Known.{Known};
 ghost use Rattle.turn_lines.specs.Turns.{textBytes, player};
-ghost use Rattle.tape.specs.Steps.{taken, Makes};
-use crate::TurnMade;
+ghost use Rattle.tape_turns.specs.Making.{taken, Makes};
 use asking::Wanted;
 use head::Head;
 use opening::open;
@@ -19,6 +18,12 @@ use turn_lines::Turn;
 use turn_lines::put_opening;
 use turn_lines::put_quote;
 use turn_lines::put_refusal;
+
+// What a call came to, and how many places later the rows begin where none was moved.
+pub struct TurnMade {
+    pub turn: Turn,
+    pub by: usize,
+}
 
 // Makes what is wanted, and lays its lines.
 pub fn make(

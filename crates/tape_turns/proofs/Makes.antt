@@ -18,7 +18,7 @@ use Rattle.asking.specs.declared.Wanted.the-variants.{Quote}
 use Rattle.tape_model.specs.Play.{Player, bookMake}
 use Rattle.turn_lines.specs.declared.Turn.{Turn}
 use Rattle.turn_lines.specs.Turns.{player, Effect, made, Turned}
-use Rattle.tape.specs.Steps.{nothing, taken, tablesOf, Makes}
+use Rattle.tape_turns.specs.Making.{nothing, taken, tablesOf, Makes}
 
 -- on the tables that the book model leaves
 turned-there : {one : Effect} {before : List ℕ} {r : Turn} {t' : Tables} {bytes' after : List ℕ} → Turned one before r t' bytes' after → Turned one before r (tablesOf one) bytes' after
