@@ -2,18 +2,18 @@
 use borrow.Author.Needs.{needs}
 use mathlib.Core.Path.{_∙_}
 use borrow.Author.Tests.{not-true, not-false}
-use Rattle.line_fields.proofs.Steps.{after-invalid, after-space, after-low, after-high, after-digit}
-use Rattle.line_fields.proofs.Fields.after.Statement.{statement}
-use Rattle.line_fields.proofs.Fields.after.Tie as tie
+use Rattle.line_fields.proofs.Steps.{step-invalid, step-separator, step-low, step-high, step-digit}
+use Rattle.line_fields.proofs.Scan.after.Statement.{statement}
+use Rattle.line_fields.proofs.Scan.after.Tie as tie
 
 returns : tie.Need-returns
-returns c = after-invalid _ _ (not-true _ (c .if1 .taken))
+returns c = step-invalid _ _ _ (not-true _ (c .if1 .taken))
 
 begun-requires : tie.Need-begun-requires
 begun-requires c κs = search needs
 
 returns-2 : tie.Need-returns-2
-returns-2 c = c .begun .ensures ∙ after-space _ _ (not-false _ (c .before .before .if1 .left)) (c .before .if2 .taken)
+returns-2 c = c .begun .ensures ∙ step-separator _ _ _ (not-false _ (c .before .before .if1 .left)) (c .before .if2 .taken)
 
 invalid-requires : tie.Need-invalid-requires
 invalid-requires c κs = search needs
@@ -22,15 +22,16 @@ returns-3 : tie.Need-returns-3
 returns-3 c =
     let at-if2 = c .before .before in
     let at-if1 = at-if2 .before in
-    c .invalid .ensures ∙ after-low _ _ (not-false _ (at-if1 .if1 .left)) (c .before .if3 .taken) (at-if2 .if2 .left)
+    c .invalid .ensures ∙ step-low _ _ _ (not-false _ (at-if1 .if1 .left)) (at-if2 .if2 .left) (c .before .if3 .taken)
 
 invalid-requires-2 : tie.Need-invalid-requires-2
 invalid-requires-2 c κs = search needs
 
 returns-4 : tie.Need-returns-4
 returns-4 c =
-    let at-if1 = c .before .before .before .before in
-    c .invalid2 .ensures ∙ after-high _ _ (not-false _ (at-if1 .if1 .left)) (c .before .if4 .taken)
+    let at-if2 = c .before .before .before in
+    let at-if1 = at-if2 .before in
+    c .invalid2 .ensures ∙ step-high _ _ _ (not-false _ (at-if1 .if1 .left)) (at-if2 .if2 .left) (c .before .if4 .taken)
 
 cast-grown : tie.Need-cast-grown
 cast-grown c = search needs
@@ -41,8 +42,9 @@ grown-requires c κs = search needs
 returns-5 : tie.Need-returns-5
 returns-5 c =
     let at-if3 = c .before .before in
-    let at-if1 = at-if3 .before .before in
-    c .grown .ensures ∙ after-digit _ _ (not-false _ (at-if1 .if1 .left)) (at-if3 .if3 .left) (c .before .if4 .left)
+    let at-if2 = at-if3 .before in
+    let at-if1 = at-if2 .before in
+    c .grown .ensures ∙ step-digit _ _ _ (not-false _ (at-if1 .if1 .left)) (at-if2 .if2 .left) (at-if3 .if3 .left) (c .before .if4 .left)
 
 pub after-spec : {M : Type 1} → statement M
 after-spec =
