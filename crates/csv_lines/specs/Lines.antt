@@ -1,5 +1,5 @@
 -- The lines of a file, cut at CR LF only, and whether they fit.
-use Prim.Native.Nat.{ℕ, suc}
+use Prim.Native.Nat.{ℕ}
 use mathlib.Core.Bool.{Bool, true, false, _&&_, _||_, not, cond}
 use mathlib.Core.List.{List, [], _∷_, _++_}
 use mathlib.Core.Path.{_≡_}
@@ -30,15 +30,6 @@ fits d line = let f = lineFields line in (f .valid && not (f .empty)) && eqb (f 
 unfoldable pub allFit : ℕ → List (List ℕ) → Bool
 allFit d [] = true
 allFit d (l ∷ ls) = fits d l && allFit d ls
-
--- the number of the first of these lines that does not fit, where they are counted from this number on; 0 where all fit
-unfoldable pub misfitFrom : ℕ → ℕ → List (List ℕ) → ℕ
-misfitFrom k d [] = 0
-misfitFrom k d (l ∷ ls) = cond (fits d l) (misfitFrom (suc k) d ls) k
-
--- the number from 1 of the first line of a file that does not fit; 0 where all fit
-unfoldable pub misfit : ℕ → List ℕ → ℕ
-misfit d file = misfitFrom 1 d (lines file)
 
 -- these lines one behind the other, each followed by CR LF; behind the last it stands only if the file is ended so
 unfoldable pub joined : Bool → List (List ℕ) → List ℕ
