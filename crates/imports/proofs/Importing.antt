@@ -7,7 +7,7 @@ use mathlib.Core.Logic.{_⊎_, inl, inr}
 use mathlib.Core.Bool.{Bool, true, false, _&&_, not, cond}
 use mathlib.Core.List.{List, [], _∷_}
 use lib.Dec.{leb, ltb, eqb}
-use lib.ListN.{length}
+use lib.ListN.{length, length-append}
 use borrow.Author.Tests.{le-leb, lt-leb, lt-ltb, le-ltb, eq-eqb, ne-eqb, ltb-true, ltb-false}
 use Rattle.lists.specs.Lists.{laid}
 use Rattle.lists.proofs.Booleans.{either, both, and-false}
@@ -104,3 +104,17 @@ module _ (d : ℕ) (file before : List ℕ) where
           let m : eqb (misfit d file) 0 ≡ true = eq-eqb (misfit d file) 0 none in
           let l : ltb (length before) (length (framesOf d (lines file))) ≡ false = le-ltb (length before) (length (framesOf d (lines file))) (v .room) in
           record { answer = rw (w, m, l); count = rw (w, m, l) c; line = rw (w, m, l); bytes = rw (w, m, l) b }
+
+-- ---- what callers need
+
+-- the bytes that are counted stand in the output
+pub imported-inside : {d : ℕ} {file before after : List ℕ} {r : Imported} → Imports d file before r after → r .count ≤ length after
+unfolding granted laid
+imported-inside {d} {file} {before} v = rw (v .count, v .bytes) (go (importAnswer d file (length before)))
+  where
+    frames : List ℕ
+    frames = framesOf d (lines file)
+
+    go : (answer : ℕ) → granted answer (length frames) 0 ≤ length (granted answer (laid frames before) before)
+    go zero = rw length-append (omega arith)
+    go (suc k) = omega arith
