@@ -91,13 +91,18 @@ fn file_end(used: usize, is_whole: bool) -> usize
     if is_whole { used } else { 0 }
 }
 
-// Reads a file, imports it and writes its frames.
-fn import_file(d: u32, file: &mut [u8], out: &mut [u8]) {
+// Reads a file, imports it and writes its frames, in these buffers.
+fn import_in(d: u32, file: &mut [u8], out: &mut [u8]) {
     let used = io::read_full(STDIN_FILENO, file);
     let is_whole = at_end();
     let end = file_end(used, is_whole);
     let imported = imports::import(d, &file[..end], out);
     answer(imported, is_whole, out);
+}
+
+// The same in buffers of the largest sizes.
+fn import_file(d: u32, file: &mut [u8; FILE], out: &mut [u8; FRAMES]) {
+    import_in(d, &mut file[..], &mut out[..]);
 }
 
 fn main() {

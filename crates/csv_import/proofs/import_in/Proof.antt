@@ -1,10 +1,10 @@
--- `import_file` meets its contract: what is counted stands in the output.
+-- `import_in` meets its contract: what is counted stands in the output.
 use native.Mathlib.Omega.{arith}
 use lib.ListN.{length-take}
 use borrow.Author.Needs.{needs}
 use Rattle.imports.proofs.Importing.{imported-inside}
-use Rattle.csv_import.proofs.import_file.Statement.{statement}
-use Rattle.csv_import.proofs.import_file.Tie as tie
+use Rattle.csv_import.proofs.import_in.Statement.{statement}
+use Rattle.csv_import.proofs.import_in.Tie as tie
 
 read-full-requires : tie.Need-read-full-requires
 read-full-requires c κs = search needs
@@ -36,8 +36,8 @@ same-length-2 c = search needs
 returns : tie.Need-returns
 returns c = search needs
 
-pub import-file-spec : {M : Type 1} → statement M
-import-file-spec =
+pub import-in-spec : {M : Type 1} → statement M
+import-in-spec =
     tie.close
     (tie.spec
     read-full-requires
