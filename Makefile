@@ -2,16 +2,18 @@
 # What rt prints goes to a log under build/; standard error gets a line for each crate.
 SHELL := /bin/bash
 .SHELLFLAGS := -euo pipefail -c
-.PHONY: test proofs models run host random random-calls rules plants rule-plants yardstick notation citations tapes test-slow bench
+.PHONY: test proofs models run host random random-calls rules plants rule-plants yardstick notation spreadsheet citations tapes test-slow bench
 
 PRINTER ?= target/bin/tape_printer
 WRITER ?= target/bin/tape_writer
 PLAYER ?= target/bin/book_player
+IMPORTER ?= target/bin/csv_import
 TAPE ?= tapes/worked.tape
 SEED ?= 1
 TAPES ?= 10000
 LISTS ?= 10000
 RUNS ?= 9
+FILES ?= 500
 PLANTS := equals-stay earlier-stands oldest window kept misprint upper pair-first nine-first pair-end nine-at-eight \
   desk-two-first watch2-by-one
 CALL_PLANTS := renamed torn-first past-memory early live-lower overwritten retired-lower fourteen-first live-zeros upper-free \
@@ -19,6 +21,7 @@ CALL_PLANTS := renamed torn-first past-memory early live-lower overwritten retir
   equals-stay earlier-stands nine-at-eight shares-free thirteen-fits desk-two-first watch2-by-one desk-left
 RULE_PLANTS := upper-free pair-end due-equal preview-settles preview-held preview-head equals-stay earlier-stands \
   watch2-by-one
+SHEET_PLANTS := lf-cuts leading-zero above empty-rest last-misfit fewer-columns
 SAMPLES := $(basename $(wildcard tapes/*.txt))
 # a test leaves its core to a check that wants it
 IDLE := nice -n 19
@@ -26,7 +29,7 @@ RUSTC := env -u MAKEFLAGS $(IDLE) rustc --edition 2021 -O -D warnings
 
 test: citations
 	@$(MAKE) --no-print-directory -j2 proofs models
-	@$(MAKE) --no-print-directory -j2 host random random-calls plants notation
+	@$(MAKE) --no-print-directory -j2 host random random-calls plants notation spreadsheet
 	@tools/dearest.sh build/ci.txt
 	@tail -n 1 build/ci.txt | grep -Ex '[0-9]+ passed, 0 failed'
 
@@ -35,7 +38,7 @@ proofs:
 	@rt ci 2>&1 | tools/progress.sh build/ci.txt
 
 # beside the first crates, on what they leave idle: the tests built, and the models held against small tapes and themselves
-models: build/plain_model build/random_calls build/notation rules rule-plants
+models: build/plain_model build/random_calls build/notation build/spreadsheet rules rule-plants
 
 run: $(PRINTER)
 	@$(PRINTER) < $(TAPE)
@@ -61,7 +64,7 @@ rules: build/random_calls
 	@$(IDLE) build/random_calls --rules
 
 # a model with a bug planted must not agree with the printer, the player or the tapes
-plants: $(PLANTS:%=plant-in-tapes-%) $(CALL_PLANTS:%=plant-in-calls-%)
+plants: $(PLANTS:%=plant-in-tapes-%) $(CALL_PLANTS:%=plant-in-calls-%) $(SHEET_PLANTS:%=plant-in-sheets-%)
 
 rule-plants: $(RULE_PLANTS:%=plant-in-rules-%)
 
@@ -74,6 +77,9 @@ plant-in-calls-%: build/random_calls $(PLAYER)
 plant-in-rules-%: build/random_calls
 	@$(IDLE) tests/planted.sh rules-$* 'the rules differ' build/random_calls --plant $* --rules
 
+plant-in-sheets-%: build/spreadsheet $(IMPORTER)
+	@tests/planted.sh sheets-$* 'the imports differ' build/spreadsheet --plant $* $(IMPORTER) $(SEED) 100
+
 # the yardstick of make bench against the plain model, without the judgement and with it
 yardstick: build/plain_model build/yardstick
 	build/plain_model build/yardstick $(SEED) $(TAPES)
@@ -83,6 +89,10 @@ yardstick: build/plain_model build/yardstick
 notation: build/notation $(WRITER)
 	@build/notation $(WRITER) $(SEED)
 	@for sample in $(SAMPLES); do $(WRITER) < $$sample.txt | cmp - $$sample.tape; done
+
+# the importer against a plain reading of comma-separated quotes, on random files and on good ones with each byte changed
+spreadsheet: build/spreadsheet $(IMPORTER)
+	@build/spreadsheet $(IMPORTER) $(SEED) $(FILES)
 
 # every path that the texts cite, and every name that docs/PROOFS.md cites
 citations:
@@ -96,8 +106,9 @@ tapes: $(WRITER)
 test-slow: build/full_tape $(PRINTER)
 	@build/full_tape $(PRINTER) $(SEED)
 
-bench: build/bench build/yardstick build/plain_model build/make_tape $(PRINTER)
+bench: build/bench build/yardstick build/plain_model build/make_tape build/imports build/csv_yardstick $(PRINTER) $(IMPORTER)
 	@build/bench $(PRINTER) $(RUNS)
+	@build/imports $(IMPORTER) $(RUNS)
 
 target/bin/%: crates.txt $(shell find crates -name '*.rt' -o -name '*.antt')
 	@rt check $* 2>&1 | tools/progress.sh build/$*.txt $*

@@ -41,7 +41,10 @@ fn at_end() -> bool {
         return false;
     }
     if 0 < got {
-        io::write_all(STDERR_FILENO, b"csv_import: the file is larger than 1 MiB, and nothing is written\n");
+        io::write_all(
+            STDERR_FILENO,
+            b"csv_import: the file is larger than 1 MiB, and nothing is written\n",
+        );
         return false;
     }
     true
@@ -110,7 +113,10 @@ fn main() {
     let length = os::arg(1, &mut text);
     let d = number_of(&text[..length]);
     if !d.is_number | (os::arg_count() != 2) {
-        io::write_all(STDERR_FILENO, b"usage: csv_import D < QUOTES > FRAMES, D the number of columns, from 1 to 6\n");
+        io::write_all(
+            STDERR_FILENO,
+            b"usage: csv_import D < QUOTES > FRAMES, D the number of columns, from 1 to 6\n",
+        );
         return;
     }
     let mut file = [0u8; FILE];

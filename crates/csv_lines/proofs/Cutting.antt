@@ -106,8 +106,8 @@ unfolding fits fieldsFrom
 foreign-misfit d front byte rest i =
     let line : List ℕ = front ++ (byte ∷ rest) in
     let wrong : lineFields line .valid ≡ false =
-        ap (λ (f : Fields). f .valid)
-        (line-fields line ∙ fields-append 44 oneField front (byte ∷ rest) ∙ behind (fieldsFrom 44 oneField front)) ∙ broken-invalid 44 (fieldsFrom 44 oneField front) in
+    ap (λ (f : Fields). f .valid)
+    (line-fields line ∙ fields-append 44 oneField front (byte ∷ rest) ∙ behind (fieldsFrom 44 oneField front)) ∙ broken-invalid 44 (fieldsFrom 44 oneField front) in
     rw wrong
   where
     behind : (f : Fields) → fieldsFrom 44 f (byte ∷ rest) ≡ broken f

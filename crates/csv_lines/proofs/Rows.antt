@@ -135,8 +135,8 @@ module _ (d : ℕ) (h : 1 ≤ d) where
   spelled-lines {file} {qs} k s =
       let fit = rows-fit qs k (s .fit) in
       let e : lines file ≡ map row qs =
-          ap lines (s .bytes) ∙ lines-joined (s .ended) (map row qs) (fit-uncut d (map row qs) fit)
-          (or-right (s .ended) (lastFull (map row qs)) (fit-full d (map row qs) fit)) in
+      ap lines (s .bytes) ∙ lines-joined (s .ended) (map row qs) (fit-uncut d (map row qs) fit)
+      (or-right (s .ended) (lastFull (map row qs)) (fit-full d (map row qs) fit)) in
       (e, rw e fit)
 
   -- the quotes of lines that fit

@@ -108,7 +108,7 @@ module _ {d : ℕ} {file entry out : List ℕ} {at used : ℕ} (v : Writing d fi
   piece-room : length (v .done ++ piece) ≤ length entry
   piece-room =
       let long : length (framesOf d (lines file)) ≡ length (v .done ++ piece) + length (framesOf d (a .others)) =
-          ap length piece-next ∙ length-append (v .done ++ piece) (framesOf d (a .others)) in
+      ap length piece-next ∙ length-append (v .done ++ piece) (framesOf d (a .others)) in
       let r = v .ready .room in
       omega arith
 

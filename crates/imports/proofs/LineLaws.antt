@@ -149,9 +149,9 @@ module _ (d : ℕ) (file : List ℕ) (place : ℕ) (h : place < length file) whe
         let here : returns (byte ∷ others) ≡ false = rw (← q) t in
         let b = lines-begun byte others here in
         let wrong : r .fits ≡ false =
-            e ∙ ap (λ (l : List ℕ). counts (fieldsFrom 44 oneField front) && lineEnds l) (rest-left ∙ q)
-            ∙ ap (λ (z : Bool). counts (fieldsFrom 44 oneField front) && z) (ends-returns byte others ∙ here)
-            ∙ and-false (counts (fieldsFrom 44 oneField front)) in
+        e ∙ ap (λ (l : List ℕ). counts (fieldsFrom 44 oneField front) && lineEnds l) (rest-left ∙ q)
+        ∙ ap (λ (z : Bool). counts (fieldsFrom 44 oneField front) && z) (ends-returns byte others ∙ here)
+        ∙ and-false (counts (fieldsFrom 44 oneField front)) in
         record {
           line = front ++ (byte ∷ b .line);
           others = b .behind;

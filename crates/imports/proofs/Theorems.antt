@@ -121,8 +121,7 @@ first-misfit d file room place = (forth, back)
 
     forth : (importAnswer d file room ≡ 18) × (cond (eqb (importAnswer d file room) 18) (misfitFrom 1 d (lines file)) 0 ≡ suc place) → (within 1 6 d ≡ true) × FirstMisfit d (lines file) place
     forth p =
-        let at : misfitFrom 1 d (lines file) ≡ suc place = rw (p .0) at (p .1) in
-        (
+        let at : misfitFrom 1 d (lines file) ≡ suc place = rw (p .0) at (p .1) in (
           chosen-line (within 1 6 d) (eqb (misfit d file) 0) (ltb room (length (framesOf d (lines file)))) (sym (answer-chosen d file room) ∙ p .0) .0,
           misfit-first 0 d (lines file) place (at ∙ zeroed at),
         )
@@ -132,7 +131,7 @@ first-misfit d file room place = (forth, back)
         let at : misfitFrom 1 d (lines file) ≡ suc place = first-misfits 0 d (lines file) place (p .1) ∙ (let e : suc (0 + place) ≡ suc place = omega arith in e) in
         let some : eqb (misfit d file) 0 ≡ false = ne-eqb (misfit d file) 0 (λ z. omega arith) in
         let said : importAnswer d file room ≡ 18 =
-            answer-chosen d file room ∙ named (within 1 6 d) (eqb (misfit d file) 0) (ltb room (length (framesOf d (lines file)))) (p .0) some in
+        answer-chosen d file room ∙ named (within 1 6 d) (eqb (misfit d file) 0) (ltb room (length (framesOf d (lines file)))) (p .0) some in
         (said, rw said at)
 
 -- ---- the room
@@ -169,7 +168,7 @@ unfolding lineFrame frame fieldsOf
 row-frame d q h k e s =
     let numbers : lineFields (row q) .numbers ≡ q ++ replicate (6 - length q) 0 = ap (λ (f : Fields). f .numbers) (row-fields q (omega arith) (omega arith) s) in
     let front : take d (lineFields (row q) .numbers) ≡ take d q =
-        ap (take d) numbers ∙ take-at q (replicate (6 - length q) 0) d e ∙ sym (take-all d q (omega arith)) in
+    ap (take d) numbers ∙ take-at q (replicate (6 - length q) 0) d e ∙ sym (take-all d q (omega arith)) in
     ap (λ (l : List ℕ). d ∷ flat (map bytes4 l)) front
 
 row-frames : (d : ℕ) → 1 ≤ d → d ≤ 6 → (qs : List (List ℕ)) → quotesOf d qs ≡ true → framesOf d (map row qs) ≡ flat (map (frame (Quote d)) qs)

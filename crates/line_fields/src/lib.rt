@@ -38,7 +38,10 @@ fn extended(number: u32, digit: u32) -> u64
 fn in_fields(separator: u8, byte: u8) -> bool
     ensures { λ r. ⌜ r ≡ inFields separator byte ⌝ }
 {
-    (byte == separator) | ((48 <= byte) & (byte <= 57))
+    if byte == separator {
+        return true;
+    }
+    (48 <= byte) & (byte <= 57)
 }
 
 impl Scan {
