@@ -47,8 +47,8 @@ module _ (s : Scan) where
   -- ---- any byte
 
   module _ (separator byte : ℕ) where
-    pub step-invalid : s .valid ≡ false → s ≡ step separator s byte
-    unfolding step
+    pub step-invalid : s .valid ≡ false → invalid s ≡ step separator s byte
+    unfolding step invalid
     step-invalid e = rw e
 
     module _ (e : s .valid ≡ true) where

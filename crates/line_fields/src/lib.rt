@@ -126,7 +126,7 @@ impl Scan {
         ensures { λ r. ⌜ r ≡ step separator self byte ⌝ }
     {
         if !self.valid {
-            return self;
+            return self.invalid();
         }
         if byte == separator {
             return self.begun();
