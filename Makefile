@@ -13,7 +13,7 @@ SEED ?= 1
 TAPES ?= 10000
 LISTS ?= 10000
 RUNS ?= 9
-FILES ?= 500
+FILES ?= 300
 PLANTS := equals-stay earlier-stands oldest window kept misprint upper pair-first nine-first pair-end nine-at-eight \
   desk-two-first watch2-by-one
 CALL_PLANTS := renamed torn-first past-memory early live-lower overwritten retired-lower fourteen-first live-zeros upper-free \

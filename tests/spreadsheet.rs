@@ -132,7 +132,7 @@ fn spoil(r: &mut Random, file: &mut Vec<u8>) {
 fn near(file: &[u8]) -> Vec<Vec<u8>> {
     let mut files = Vec::new();
     for at in 0..file.len() {
-        for odd in *b"\r\n,09 x" {
+        for odd in *b"\r\n,0x" {
             let mut changed = file.to_vec();
             changed[at] = odd;
             files.push(changed);
