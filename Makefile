@@ -2,18 +2,20 @@
 # What rt prints goes to a log under build/; standard error gets a line for each crate.
 SHELL := /bin/bash
 .SHELLFLAGS := -euo pipefail -c
-.PHONY: test proofs models try run host random random-calls rules plants rule-plants yardstick notation citations tapes test-slow bench late pieces venues
+.PHONY: test proofs models try run host random random-calls rules plants rule-plants yardstick notation citations tapes test-slow bench late pieces venues spreadsheet
 
 PRINTER ?= target/bin/tape_printer
 WRITER ?= target/bin/tape_writer
 PLAYER ?= target/bin/book_player
 JOINER ?= target/bin/venue_joiner
+IMPORTER ?= target/bin/csv_import
 TAPE ?= tapes/worked.tape
 SEED ?= 1
 TAPES ?= 10000
 LISTS ?= 10000
 PAIRS ?= 1000
 RUNS ?= 9
+FILES ?= 300
 PLANTS := equals-stay earlier-stands oldest window kept misprint upper pair-first nine-first pair-end nine-at-eight \
   desk-two-first watch2-by-one
 CALL_PLANTS := renamed torn-first past-memory early live-lower overwritten retired-lower fourteen-first live-zeros upper-free \
@@ -24,6 +26,7 @@ RULE_PLANTS := upper-free pair-end due-equal preview-settles preview-held previe
 LATE_PLANTS := unshifted list-early past-early changes-early pair-early rows-early other-directions
 VENUE_PLANTS := second-on-equal fifteen-before-seven sixteen-before-fifteen midnight equal-refused second-refuses-first \
   good-tape-goes-on look-behind quote-misplaced ends-with-one other-moved
+SHEET_PLANTS := lf-cuts leading-zero above empty-rest last-misfit fewer-columns
 SAMPLES := $(basename $(wildcard tapes/*.txt))
 # of a command, the program that is made here; another's stands already
 made = $(filter target/bin/% build/%,$(firstword $(1)))
@@ -33,7 +36,7 @@ RUSTC := env -u MAKEFLAGS $(IDLE) rustc --edition 2021 -O -D warnings
 
 test: citations
 	@$(MAKE) --no-print-directory -j2 proofs models
-	@$(MAKE) --no-print-directory -j2 host random random-calls late plants pieces notation venues
+	@$(MAKE) --no-print-directory -j2 host random random-calls late plants pieces notation venues spreadsheet
 	@tools/dearest.sh build/ci.txt
 	@tail -n 1 build/ci.txt | grep -Ex '[0-9]+ passed, 0 failed'
 
@@ -42,7 +45,7 @@ proofs:
 	@rt ci 2>&1 | tools/progress.sh build/ci.txt
 
 # beside the first crates, on what they leave idle: the tests built, and the models held against small tapes and themselves
-models: build/plain_model build/random_calls build/late_book build/notation rules rule-plants build/venues
+models: build/plain_model build/random_calls build/late_book build/notation rules rule-plants build/venues build/spreadsheet
 
 # the printer on the worked tape before anything is proved, by the toolchain's own trial, with its print
 try:
@@ -79,7 +82,7 @@ rules: build/random_calls
 	@$(IDLE) build/random_calls --rules
 
 # a model with a bug planted must not agree with the printer, the player or the tapes
-plants: $(PLANTS:%=plant-in-tapes-%) $(CALL_PLANTS:%=plant-in-calls-%) $(LATE_PLANTS:%=plant-in-late-%) plant-in-pieces $(VENUE_PLANTS:%=plant-in-venues-%)
+plants: $(PLANTS:%=plant-in-tapes-%) $(CALL_PLANTS:%=plant-in-calls-%) $(LATE_PLANTS:%=plant-in-late-%) plant-in-pieces $(VENUE_PLANTS:%=plant-in-venues-%) $(SHEET_PLANTS:%=plant-in-sheets-%)
 
 rule-plants: $(RULE_PLANTS:%=plant-in-rules-%)
 
@@ -101,6 +104,9 @@ plant-in-venues-%: build/venues $(JOINER)
 plant-in-rules-%: build/random_calls
 	@$(IDLE) tests/planted.sh rules-$* 'the rules differ' build/random_calls --plant $* --rules
 
+plant-in-sheets-%: build/spreadsheet $(IMPORTER)
+	@tests/planted.sh sheets-$* 'the imports differ' build/spreadsheet --plant $* $(IMPORTER) $(SEED) 100
+
 # the yardstick of make bench against the plain model, without the judgement and with it
 yardstick: build/plain_model build/yardstick
 	build/plain_model build/yardstick $(SEED) $(TAPES)
@@ -119,6 +125,10 @@ pieces: build/pieces $(PRINTER) $(WRITER)
 venues: build/venues $(JOINER)
 	@build/venues $(JOINER) $(SEED)
 
+# the importer against a plain reading of comma-separated quotes, on random files and on good ones with each byte changed
+spreadsheet: build/spreadsheet $(IMPORTER)
+	@build/spreadsheet $(IMPORTER) $(SEED) $(FILES)
+
 # every path that the texts cite, and every name that docs/PROOFS.md cites
 citations:
 	@tests/citations.sh
@@ -131,9 +141,10 @@ tapes: $(WRITER)
 test-slow: build/full_tape $(PRINTER)
 	@build/full_tape $(PRINTER) $(SEED)
 
-bench: build/bench build/yardstick build/plain_model build/make_tape build/join build/plain_join $(PRINTER) $(JOINER)
+bench: build/bench build/yardstick build/plain_model build/make_tape build/join build/plain_join $(PRINTER) $(JOINER) build/imports build/csv_yardstick $(IMPORTER)
 	@build/bench $(PRINTER) $(RUNS)
 	@build/join $(JOINER) $(RUNS)
+	@build/imports $(IMPORTER) $(RUNS)
 
 target/bin/%: crates.txt $(shell find crates -name '*.rt' -o -name '*.antt')
 	@rt check $* 2>&1 | tools/progress.sh build/$*.txt $*

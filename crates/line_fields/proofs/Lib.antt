@@ -1,3 +1,6 @@
 -- The laws of the crate.
 pub mod Steps
 pub mod Scanning
+pub mod Invalid
+pub mod Spelled
+pub mod Unspelled

@@ -18,7 +18,7 @@ use Rattle.frame_writer.specs.declared.Written.{Written}
 use Rattle.frames.specs.declared.Message.{Message}
 use Rattle.frames.specs.declared.Message.the-variants.{Quote, Sized, Pair, Bare, Position, Open}
 use Rattle.line_fields.specs.declared.Fields.{Fields}
-use Rattle.line_fields.specs.Fields.{noField, after, fieldsFrom}
+use Rattle.line_fields.specs.Fields.{noField, fieldsFrom}
 use Rattle.notation.specs.Lines.{nothing, opens, opening, quoteOf, pairs, pairOf, bareOf, stampOf, fits, ofNumber, sizedOf, said, marked, signOf, saidBy}
 
 -- ---- messages
@@ -175,9 +175,9 @@ none-marked (letter ∷ []) h = refl
 none-marked (letter ∷ byte ∷ bytes) h = absurd (omega arith)
 
 -- an empty line
-pub read-none : (line : List ℕ) (place : ℕ) {f : Fields} → length line < 1 → f ≡ fieldsFrom noField (drop place line) → record { message = nothing; numbers = f .numbers } ≡ saidBy line
+pub read-none : (line : List ℕ) (place : ℕ) {f : Fields} → length line < 1 → f ≡ fieldsFrom 32 noField (drop place line) → record { message = nothing; numbers = f .numbers } ≡ saidBy line
 unfolding saidBy fieldsFrom
-read-none [] place h e = ap (λ (g : Fields). record { message = nothing; numbers = g .numbers }) (e ∙ ap (fieldsFrom noField) (drop-of-length-le [] {i = place} (omega arith)))
+read-none [] place h e = ap (λ (g : Fields). record { message = nothing; numbers = g .numbers }) (e ∙ ap (fieldsFrom 32 noField) (drop-of-length-le [] {i = place} (omega arith)))
 read-none (letter ∷ bytes) place h e = absurd (omega arith)
 
 -- the fields of a line begin behind its sign
@@ -187,7 +187,7 @@ behind-sign false letter bytes = refl
 
 -- a line with its sign
 pub read-some : (line : List ℕ) {two : Bool} {place sign : ℕ} {f : Fields} {m : Message} → 1 ≤ length line → two ≡ marked line → place ≡ cond two 2 1
-    → sign ≡ signOf two (getD line 0 0) → f ≡ fieldsFrom noField (drop place line) → m ≡ said sign f → record { message = m; numbers = f .numbers } ≡ saidBy line
+    → sign ≡ signOf two (getD line 0 0) → f ≡ fieldsFrom 32 noField (drop place line) → m ≡ said sign f → record { message = m; numbers = f .numbers } ≡ saidBy line
 unfolding saidBy
 read-some [] h t p g e s = absurd (omega arith)
 read-some (letter ∷ bytes) h t p g e s = rw (s, g, e, p, behind-sign, t)

@@ -86,5 +86,5 @@ unfoldable pub saidBy : List ℕ → Parsed
 saidBy [] = record { message = nothing; numbers = noField .numbers }
 saidBy (letter ∷ bytes) =
     let two = marked (letter ∷ bytes) in
-    let f = fieldsFrom noField (cond two (drop 1 bytes) bytes) in
+    let f = fieldsFrom 32 noField (cond two (drop 1 bytes) bytes) in
     record { message = said (signOf two letter) f; numbers = f .numbers }

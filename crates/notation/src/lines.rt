@@ -172,7 +172,7 @@ pub fn read_line(line: &[u8]) -> Parsed
     ensures { λ r. ⌜ r ≡ saidBy (now (line .entry)) ⌝ }
 {
     let two = marked(line);
-    let fields = fields_from(line, fields_place(two));
+    let fields = fields_from(line, fields_place(two), 32);
     let numbers = fields.numbers;
     if line.len() < 1 {
         return Parsed {

@@ -132,8 +132,8 @@ fn joined(first: [u32; 6], last: [u32; 6]) -> [u32; 12] {
 // At most twelve numbers from a place on, six at a time.
 fn numbers_from(line: &[u8], place: usize) -> Numbers {
     let middle = field_start(line, place, 6);
-    let first = fields_from(part(line, 0, middle), place);
-    let last = fields_from(line, middle);
+    let first = fields_from(part(line, 0, middle), place, 32);
+    let last = fields_from(line, middle, 32);
     let a = first.numbers;
     let b = last.numbers;
     Numbers {

@@ -1,8 +1,8 @@
 -- `invalid` meets its contract.
 use borrow.Author.Needs.{needs}
 use Rattle.line_fields.specs.Fields.{invalid}
-use Rattle.line_fields.proofs.Fields.invalid.Statement.{statement}
-use Rattle.line_fields.proofs.Fields.invalid.Tie as tie
+use Rattle.line_fields.proofs.Scan.invalid.Statement.{statement}
+use Rattle.line_fields.proofs.Scan.invalid.Tie as tie
 
 returns : tie.Need-returns
 unfolding invalid
