@@ -81,7 +81,7 @@ passed d directions count columns e =
     }
 
 -- an array of the longest day's length is long enough
-pub room-enough : (day : Day) (columns : List ℕ) → Fits day columns → day .count ≤ length (replicate 4096 0)
+pub room-enough : (day : Day) (columns : List ℕ) → Fits day columns → day .count ≤ length {A = ℕ} (replicate 4096 0)
 room-enough day columns f = rw (length-replicate {A = ℕ} 4096 0) (f .count)
 
 -- ---- the positions written

@@ -26,7 +26,7 @@ slice-aggregate-sheet-in c = search needs
 
 sheet-in-requires : tie.Need-sheet-in-requires
 sheet-in-requires c κs =
-    let at-told = c .before in
+    let at-told = c .before .before in
     let at-judge = at-told .before .before in
     let fits = passed _ _ _ _ (accepted-number _ (at-judge .judge .ensures) (at-told .enum-told .given .1)) in
     (fits, room-enough _ _ fits)
@@ -36,8 +36,8 @@ same-length c = search needs
 
 returns-2 : tie.Need-returns-2
 returns-2 c =
-    let at-sheet-in = c .before .before in
-    let at-told = at-sheet-in .before .before in
+    let at-sheet-in = c .before .before .before in
+    let at-told = at-sheet-in .before .before .before in
     let at-judge = at-told .before .before in
     sheet-found _ _ _ _ _ (at-judge .judge .ensures) (at-told .enum-told .given .1) (at-sheet-in .sheet-in .ensures)
 
