@@ -108,3 +108,53 @@ module _ (d N directions count : ℕ) (columns : List ℕ) (fits : d * count ≤
         all-quoted d N directions hold o (f .bytes) quotes [] (expectedStep (Open d N directions) o (expectedFirst l) .1)
         (opened d N directions hold o (f .bytes) (expectedFirst l) (f .table)) (quotes-wide d count columns fits)
         (omega (arith, quotes-counted d count columns))
+
+    -- the answer of the look: 13 where the sheet does not fit, and nothing else
+    room : Outputs → ℕ
+    room out = firstOf ((ltb (length (out .cells)) (length (sheetOf d directions count columns)), number ShortOutput) ∷ [])
+
+    -- what the reference model says of the look at the list of N
+    record Says (out : Outputs) (seen : Seen) : Type 0 where
+      number-is : seen .outcome .number ≡ room out
+      count-is : seen .outcome .count ≡ granted (room out) (length (sheetOf d directions count columns)) 0
+      cells-are : seen .outputs .cells ≡ granted (room out) (laid (sheetOf d directions count columns) (out .cells)) (out .cells)
+
+    -- what is laid where it is granted
+    laid-granted : (n : ℕ) (a before : List ℕ) → laid (granted n a []) before ≡ granted n (laid a before) before
+    unfolding granted laid
+    laid-granted zero a before = refl
+    laid-granted (suc n) a before = refl
+
+    look-says : (out : Outputs) (k : Expected) → k .reference ≡ holding d N directions quotes → Says out (expectedStep (Look N) out k .0)
+    unfolding expectedStep referenceStep tells firstOf isOpen outside lengthsOf room
+    look-says out k e =
+        let w = f .within in
+        let one : 1 ≤ N = omega arith in
+        let list = sheet-is-list (omega arith) in
+        let within : leb 1 N && leb N N ≡ true = rw (le-leb 1 N one, le-leb N N (omega arith)) in
+        record {
+          number-is = rw (e, hold, within, list) refl;
+          count-is = rw (e, hold, within, list) refl;
+          cells-are = rw (e, hold, within, list) (laid-granted (room out) (sheetOf d directions count columns) (out .cells));
+        }
+
+    answer-is : (out : Outputs) → sheetAnswer d directions count columns (length (out .cells)) ≡ room out
+    unfolding sheetAnswer firstOf room
+    answer-is out =
+        let w = f .within in
+        let b = f .bounded in
+        rw (f .columns-hold, le-ltb longestDay count (omega arith), le-ltb (length columns) (d * count) fits)
+
+    -- the book's look at the list of N, once it was fed the day alone, answers, counts and writes what the sheet does
+    pub sheet-is-look : (out : Outputs) {r : SheetReply} {after : List ℕ} → Sheeted d directions count columns (out .cells) r after
+        → (numberOf (r .answer) ≡ lookAfter d N directions count columns o l out .outcome .number)
+        × (r .count ≡ lookAfter d N directions count columns o l out .outcome .count)
+        × (after ≡ lookAfter d N directions count columns o l out .outputs .cells)
+    unfolding lookAfter bookStep
+    sheet-is-look out s =
+        let cs : List Lending = fed d N directions quotes o in
+        let agree = call-agrees (Look N) out (expectedAtEnd cs l) (worldAtEnd cs l) (replay-ends cs l) .0 in
+        let says = look-says out (expectedAtEnd cs l) day-fed in
+        (s .answered ∙ answer-is out ∙ sym (ap (λ (x : Seen). x .outcome .number) agree ∙ says .number-is),
+        s .counted ∙ rw (answer-is out) (sym (ap (λ (x : Seen). x .outcome .count) agree ∙ says .count-is)),
+        s .out ∙ rw (answer-is out) (sym (ap (λ (x : Seen). x .outputs .cells) agree ∙ says .cells-are)))
