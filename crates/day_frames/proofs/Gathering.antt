@@ -7,7 +7,7 @@ use native.Mathlib.Omega.{arith}
 use mathlib.Core.Bool.{Bool, true, false, _&&_, _||_, not, cond}
 use mathlib.Core.List.{List, [], _∷_, _++_}
 use lib.Dec.{ltb, leb, eqb}
-use lib.ListN.{length, getD, take, drop, set}
+use lib.ListN.{length, getD, take, drop, set, length-append, length-drop}
 use lib.Seq.{take-at, paste, paste-zero, paste-suc, length-paste}
 use borrow.Author.Tests.{le-leb, lt-leb, ltb-false, ne-eqb, eq-eqb}
 use Rattle.lists.proofs.Booleans.{and-false}
@@ -217,6 +217,13 @@ accepts d directions count columns before {r} s e =
 -- what was laid, by another name
 pub relaid : {l m before : List ℕ} {count : ℕ} {after : List ℕ} → l ≡ m → Laid l before count after → Laid m before count after
 relaid e t = rw e at t
+
+-- what was laid fits the text, whose length it left
+pub laid-fits : (bytes before : List ℕ) {count : ℕ} {after : List ℕ} → Laid bytes before count after → length after ≡ length before → count ≤ length after
+unfolding laid
+laid-fits bytes before {count} {after} t e =
+    let k : length after ≡ length bytes + (length before - length bytes) = rw (t .text, length-append, length-drop) in
+    omega (arith, t .counted)
 
 -- no refusal before the sheet
 pub none-early : (d directions : ℕ) (g : Gathered) {early : ℕ} → early ≡ earlyAnswer d directions g → early ≤ 0 → 0 ≡ earlyAnswer d directions g

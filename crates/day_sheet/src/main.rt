@@ -20,17 +20,23 @@ const POSITIONS: usize = 4096;
 // The bytes of the longest line: a letter, that many fields, and a newline.
 const LINE: usize = 45058;
 
-// The most bytes of the two arguments, a space before each.
-const WORDS: usize = 64;
-
-// The two numbers of the arguments, as the fields of a line: a space before each. Not valid where they are not two decimal numbers.
-fn arguments() -> Fields {
-    let mut words = [32u8; WORDS];
+// Lays the two arguments into the words, a space before each, and returns where they end; one that is missing or too long leaves nothing.
+fn lay_arguments(words: &mut [u8]) -> usize
+    requires { ⌜ 64 ≤ length (now words) ⌝ }
+    ensures { λ r. ⌜ r ≤ length (now (words .exit)) ⌝ }
+{
     let first = os::arg(1, &mut words[1..32]);
     let at = first + 2;
     words[at - 1] = 32;
     let second = os::arg(2, &mut words[at..]);
-    fields_from(&words[..at + second], 0)
+    at + second
+}
+
+// The arguments as the fields of a line; they are two decimal numbers where these are two that are valid.
+fn arguments() -> Fields {
+    let mut words = [32u8; 64];
+    let end = lay_arguments(&mut words);
+    fields_from(&words[..end], 0)
 }
 
 fn main() {
