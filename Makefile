@@ -2,15 +2,17 @@
 # What rt prints goes to a log under build/; standard error gets a line for each crate.
 SHELL := /bin/bash
 .SHELLFLAGS := -euo pipefail -c
-.PHONY: test proofs models run host random random-calls rules plants rule-plants yardstick notation citations tapes test-slow bench
+.PHONY: test proofs models run host random random-calls rules plants rule-plants days day-plants yardstick notation citations tapes test-slow bench
 
 PRINTER ?= target/bin/tape_printer
 WRITER ?= target/bin/tape_writer
 PLAYER ?= target/bin/book_player
+DAY_SHEET ?= target/bin/day_sheet
 TAPE ?= tapes/worked.tape
 SEED ?= 1
 TAPES ?= 10000
 LISTS ?= 10000
+DAYS ?= 1000
 RUNS ?= 9
 PLANTS := equals-stay earlier-stands oldest window kept misprint upper pair-first nine-first pair-end nine-at-eight \
   desk-two-first watch2-by-one
@@ -19,6 +21,7 @@ CALL_PLANTS := renamed torn-first past-memory early live-lower overwritten retir
   equals-stay earlier-stands nine-at-eight shares-free thirteen-fits desk-two-first watch2-by-one desk-left
 RULE_PLANTS := upper-free pair-end due-equal preview-settles preview-held preview-head equals-stay earlier-stands \
   watch2-by-one
+DAY_PLANTS := equals-stay earlier-stands halves-apart from-zero longest-refused columns-first
 SAMPLES := $(basename $(wildcard tapes/*.txt))
 # a test leaves its core to a check that wants it
 IDLE := nice -n 19
@@ -26,7 +29,7 @@ RUSTC := env -u MAKEFLAGS $(IDLE) rustc --edition 2021 -O -D warnings
 
 test: citations
 	@$(MAKE) --no-print-directory -j2 proofs models
-	@$(MAKE) --no-print-directory -j2 host random random-calls plants notation
+	@$(MAKE) --no-print-directory -j2 host random random-calls plants notation days day-plants
 	@tools/dearest.sh build/ci.txt
 	@tail -n 1 build/ci.txt | grep -Ex '[0-9]+ passed, 0 failed'
 
@@ -35,7 +38,7 @@ proofs:
 	@rt ci 2>&1 | tools/progress.sh build/ci.txt
 
 # beside the first crates, on what they leave idle: the tests built, and the models held against small tapes and themselves
-models: build/plain_model build/random_calls build/notation rules rule-plants
+models: build/plain_model build/random_calls build/notation build/day_sheets rules rule-plants
 
 run: $(PRINTER)
 	@$(PRINTER) < $(TAPE)
@@ -74,6 +77,15 @@ plant-in-calls-%: build/random_calls $(PLAYER)
 plant-in-rules-%: build/random_calls
 	@$(IDLE) tests/planted.sh rules-$* 'the rules differ' build/random_calls --plant $* --rules
 
+# the day sheet against a plain model of it, and against the printer's look where the day fits a book
+days: build/day_sheets $(DAY_SHEET) $(PRINTER)
+	@build/day_sheets $(DAY_SHEET) $(PRINTER) $(SEED) $(DAYS)
+
+day-plants: $(DAY_PLANTS:%=plant-in-days-%)
+
+plant-in-days-%: build/day_sheets $(DAY_SHEET) $(PRINTER)
+	@tests/planted.sh days-$* 'the lines differ' build/day_sheets --plant $* $(DAY_SHEET) $(PRINTER) $(SEED) 200
+
 # the yardstick of make bench against the plain model, without the judgement and with it
 yardstick: build/plain_model build/yardstick
 	build/plain_model build/yardstick $(SEED) $(TAPES)
@@ -96,8 +108,9 @@ tapes: $(WRITER)
 test-slow: build/full_tape $(PRINTER)
 	@build/full_tape $(PRINTER) $(SEED)
 
-bench: build/bench build/yardstick build/plain_model build/make_tape $(PRINTER)
+bench: build/bench build/yardstick build/plain_model build/make_tape $(PRINTER) build/day_bench build/day_yardstick $(DAY_SHEET)
 	@build/bench $(PRINTER) $(RUNS)
+	@build/day_bench $(DAY_SHEET) $(RUNS)
 
 target/bin/%: crates.txt $(shell find crates -name '*.rt' -o -name '*.antt')
 	@rt check $* 2>&1 | tools/progress.sh build/$*.txt $*

@@ -138,13 +138,13 @@ fn columns_of(r: &mut Random, sort: u64, d: u32, i: usize) -> Vec<u32> {
     }
 }
 
-/// A random day; every eighth is damaged, and the longest lengths come with every 64th.
+/// A random day; every fourth is damaged. Of 64, one has the longest length, one is longer by one, neither damaged, and one has any length.
 fn day(r: &mut Random, index: u64) -> Day {
     let d = 1 + r.below(6) as u32;
     let directions = r.below(1 << d) as u32;
     let count = match (index % 64, r.below(8)) {
-        (63, 0..=1) => LONGEST,
-        (63, 2..=3) => LONGEST + 1,
+        (1, _) => LONGEST,
+        (2, _) => LONGEST + 1,
         (63, _) => r.below(LONGEST as u64 + 2) as usize,
         (_, 0) => 0,
         (_, 1) => r.below(1_025) as usize,
@@ -156,7 +156,7 @@ fn day(r: &mut Random, index: u64) -> Day {
         frames::quote(&mut tape, &columns_of(r, sort, d, i));
     }
     let mut day = Day { d, directions, tape };
-    if r.below(4) == 0 {
+    if r.below(4) == 0 && !(1..=2).contains(&(index % 64)) {
         damage(r, &mut day);
     }
     day
