@@ -105,11 +105,11 @@ module _ (d : ℕ) (tape : List ℕ) (g : Gathered) (cells : List ℕ) where
       let R = readAt tape (g .place) in
       record {
         gathered =
-          a ∙ sym (said-message d (r .message) (r .next) g) ∙ ap (λ (x : Reading). afterSaying d (x .says) (x .next) g) f
-          ∙ sym (ap (λ (b : Bool). cond b g (afterSaying d (R .says) (R .next) g)) e);
+            a ∙ sym (said-message d (r .message) (r .next) g) ∙ ap (λ (x : Reading). afterSaying d (x .says) (x .next) g) f
+            ∙ sym (ap (λ (b : Bool). cond b g (afterSaying d (R .says) (R .next) g)) e);
         table =
-          l ∙ ap (λ (x : Reading). stored d (x .columns) (g .count * d) cells) f
-          ∙ sym (ap (λ (b : Bool). cond b cells (stored d (R .columns) (g .count * d) cells)) e);
+            l ∙ ap (λ (x : Reading). stored d (x .columns) (g .count * d) cells) f
+            ∙ sym (ap (λ (b : Bool). cond b cells (stored d (R .columns) (g .count * d) cells)) e);
       }
 
 -- never more quotes than frames
@@ -156,7 +156,8 @@ module _ (d : ℕ) (tape entry : List ℕ) where
     pub few-quotes : g .count ≤ i
     few-quotes = rw (s .gathered) (count-bounded i d tape)
 
-    pub gathering-more : i ≤ 4096 → {r : Gathered} {after : List ℕ} → length after ≡ length cells → Stepped d tape g cells r after → Gathering d tape entry r after (i + 1)
+    pub gathering-more : i ≤ 4096 → {r : Gathered} {after : List ℕ} → length after ≡ length cells → Stepped d tape g cells r after
+        → Gathering d tape entry r after (i + 1)
     unfolding gatheredIn cellsIn
     gathering-more h e t = record {
       within = omega arith;
@@ -211,7 +212,8 @@ accepts d directions count columns before {r} s e =
       answer-is = zero-is;
       counted = counts;
       fits = ltb-false (length before) (length (sheetOf d directions count columns)) (four .0);
-      written = rw (counts, leaves) (take-at (sheetOf d directions count columns) (drop (length (sheetOf d directions count columns)) before) (length (sheetOf d directions count columns)) refl);
+      written = rw (counts, leaves) (take-at (sheetOf d directions count columns) (drop (length (sheetOf d directions count columns)) before)
+        (length (sheetOf d directions count columns)) refl);
     }
 
 -- what was laid, by another name

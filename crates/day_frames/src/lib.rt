@@ -164,8 +164,8 @@ pub fn day_line(
 ) -> usize
     requires { ⌜ 13 ≤ length (now text) ⌝ }
     requires { ⌜ 2 + 11 * length (now out) ≤ length (now text) ⌝ }
-    ensures { λ r. ⌜ Laid (dayLine d directions (now (tape .entry)) (now (cells .entry)) (now (out .entry))) (now (text .entry)) r
-        (now (text .exit)) ⌝ }
+    ensures { λ r. ⌜ Laid (dayLine d directions (now (tape .entry)) (now (cells .entry)) (now (out .entry)))
+        (now (text .entry)) r (now (text .exit)) ⌝ }
 {
     let gathered = gather(d, tape, cells);
     let early = judge(d, directions, gathered);

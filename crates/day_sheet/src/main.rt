@@ -43,7 +43,10 @@ fn main() {
     let fields = arguments();
     let numbers = fields.numbers;
     if os::arg_count() != 3 || !fields.valid || fields.empty || fields.count != 2 {
-        io::write_all(STDERR_FILENO, b"usage: day_sheet D DIRECTIONS < quote frames\n");
+        io::write_all(
+            STDERR_FILENO,
+            b"usage: day_sheet D DIRECTIONS < quote frames\n",
+        );
         return;
     }
     let mut tape = [0u8; TAPE];
@@ -51,6 +54,13 @@ fn main() {
     let mut out = [0u32; POSITIONS];
     let mut text = [0u8; LINE];
     let count = io::read_full(STDIN_FILENO, &mut tape);
-    let used = day_line(numbers[0], numbers[1], &tape[..count], &mut cells, &mut out, &mut text);
+    let used = day_line(
+        numbers[0],
+        numbers[1],
+        &tape[..count],
+        &mut cells,
+        &mut out,
+        &mut text,
+    );
     streams::put_out(&text[..used], b"day_sheet: standard output");
 }

@@ -95,7 +95,8 @@ module _ (dom : ℕ → ℕ → Bool) (irreflexive : (p : ℕ) → dom p p ≡ f
   under-unbeaten l p =
       agree (under (unbeaten dom l) p) (under l p)
       (λ t. let r = any-mem (λ x. dom x p) (unbeaten dom l) t in mem-any (λ x. dom x p) (r .0) l (of-filter (λ x. not (under l x)) (r .0) l (r .1) .0) (r .2))
-      (λ t. let r = any-mem (λ x. dom x p) l t in free-over (length (filter (λ x. dom x (r .0)) l)) l p (r .0) (r .1) (r .2) (le-refl (length (filter (λ x. dom x (r .0)) l))))
+      (λ t. let r = any-mem (λ x. dom x p) l t in
+      free-over (length (filter (λ x. dom x (r .0)) l)) l p (r .0) (r .1) (r .2) (le-refl (length (filter (λ x. dom x (r .0)) l))))
 
   -- ---- a split in two
 
@@ -112,8 +113,10 @@ module _ (dom : ℕ → ℕ → Bool) (irreflexive : (p : ℕ) → dom p p ≡ f
   unfolding thinned unbeaten dominatedBy
   unbeaten-append l m =
       filter-append (λ p. not (under (l ++ m) p)) l m
-      ∙ rw (part-unbeaten (l ++ m) l m (λ p. any-append (λ q. dom q p) l m),
-      part-unbeaten (l ++ m) m l (λ p. any-append (λ q. dom q p) l m ∙ or-turned (under l p) (under m p)))
+      ∙ rw (
+        part-unbeaten (l ++ m) l m (λ p. any-append (λ q. dom q p) l m),
+        part-unbeaten (l ++ m) m l (λ p. any-append (λ q. dom q p) l m ∙ or-turned (under l p) (under m p)),
+      )
 
   -- what passes a test is beaten by what is over it, which passes the test or does not
   under-split : (g : ℕ → Bool) (w : List ℕ) (p : ℕ) → under w p ≡ under (filter g w) p || under (filter (λ x. not (g x)) w) p
@@ -184,7 +187,9 @@ module _ (dom : ℕ → ℕ → Bool) (irreflexive : (p : ℕ) → dom p p ≡ f
 
   -- the same, the second thinned by what is left of the first
   pub skyline-in-turn : (a b c : ℕ) → a ≤ suc b → b ≤ c
-      → skyline dom a c ≡ thinned dom (skyline dom a b) (skyline dom (suc b) c) ++ thinned dom (skyline dom (suc b) c) (thinned dom (skyline dom a b) (skyline dom (suc b) c))
+      → skyline dom a c ≡ thinned dom (skyline dom a b) (skyline dom (suc b) c)
+      ++ thinned dom (skyline dom (suc b) c) (thinned dom (skyline dom a b) (skyline dom (suc b) c))
   skyline-in-turn a b c h k =
       skyline-halves a b c h k
-      ∙ rw (skyline-is (suc b) c) (ap (λ (r : List ℕ). thinned dom (skyline dom a b) (unbeaten dom (between (suc b) c)) ++ r) (sym (thinned-again (skyline dom a b) (between (suc b) c))))
+      ∙ rw (skyline-is (suc b) c) (ap (λ (r : List ℕ). thinned dom (skyline dom a b) (unbeaten dom (between (suc b) c)) ++ r)
+      (sym (thinned-again (skyline dom a b) (between (suc b) c))))

@@ -154,7 +154,8 @@ module _ (d N directions count : ℕ) (columns : List ℕ) (fits : d * count ≤
     sheet-is-look out s =
         let cs : List Lending = fed d N directions quotes o in
         let agree = call-agrees (Look N) out (expectedAtEnd cs l) (worldAtEnd cs l) (replay-ends cs l) .0 in
-        let says = look-says out (expectedAtEnd cs l) day-fed in
-        (s .answered ∙ answer-is out ∙ sym (ap (λ (x : Seen). x .outcome .number) agree ∙ says .number-is),
-        s .counted ∙ rw (answer-is out) (sym (ap (λ (x : Seen). x .outcome .count) agree ∙ says .count-is)),
-        s .out ∙ rw (answer-is out) (sym (ap (λ (x : Seen). x .outputs .cells) agree ∙ says .cells-are)))
+        let says = look-says out (expectedAtEnd cs l) day-fed in (
+          s .answered ∙ answer-is out ∙ sym (ap (λ (x : Seen). x .outcome .number) agree ∙ says .number-is),
+          s .counted ∙ rw (answer-is out) (sym (ap (λ (x : Seen). x .outcome .count) agree ∙ says .count-is)),
+          s .out ∙ rw (answer-is out) (sym (ap (λ (x : Seen). x .outputs .cells) agree ∙ says .cells-are)),
+        )

@@ -116,8 +116,8 @@ module _ (positions entry : List ℕ) where
           within = omega arith;
           room = r;
           cells =
-            rw (l .cells, add-one, take-suc positions i 0 h)
-            (rw n at (laid-more (take i positions) entry (getD positions i 0) (omega (arith, n))));
+              rw (l .cells, add-one, take-suc positions i 0 h)
+              (rw n at (laid-more (take i positions) entry (getD positions i 0) (omega (arith, n))));
         }
 
     pub laying-end : length positions ≤ i → Written positions entry (record { answer = Accepted; count = length positions }) out
@@ -155,11 +155,12 @@ module _ (d directions count : ℕ) (columns before : List ℕ) where
       }
 
   -- a sheet that is found
-  pub sheet-found : {a : Answer} → numberOf a ≡ loan → a ≡ Accepted → {r : SheetReply} {after : List ℕ} → Written sheet before r after → Sheeted d directions count columns before r after
+  pub sheet-found : {a : Answer} → numberOf a ≡ loan → a ≡ Accepted → {r : SheetReply} {after : List ℕ} → Written sheet before r after
+      → Sheeted d directions count columns before r after
   sheet-found {a} e f w =
       let n = accepted-number a e f in
       let s : sheetAnswer d directions count columns (length before) ≡ roomAnswer (length before) sheet
-          = answer-is ∙ accepted-granted loan n (roomAnswer (length before) sheet) loan in
+      = answer-is ∙ accepted-granted loan n (roomAnswer (length before) sheet) loan in
       record {
         answered = w .answered ∙ rw s;
         counted = w .counted ∙ rw s;

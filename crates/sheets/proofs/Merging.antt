@@ -29,7 +29,7 @@ older-apart count cells h older newer g =
     let o = g .older-fits in
     let n = g .newer-fits in
     record {
-    behind = le-refl 0;
+      behind = le-refl 0;
       order = omega arith;
       most = omega arith;
       others-order = omega arith;

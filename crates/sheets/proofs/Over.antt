@@ -93,9 +93,22 @@ module _ (day : Day) (columns : List ℕ) where
 
         go : Dec (p < q) → not b && (w || ltb p q) ≡ renewed d (day .directions) quotes q p
         go (yes h) =
-            rw (lt-ltb p q h, renewed-later d (day .directions) quotes q p h, quote-is q inside-q, quote-is p inside-p,
-            no-worse-by d (day .directions) (take d y) (take d x), better-take d (day .directions) x y) (later b w)
+            rw (
+              lt-ltb p q h,
+              renewed-later d (day .directions) quotes q p h,
+              quote-is q inside-q,
+              quote-is p inside-p,
+              no-worse-by d (day .directions) (take d y) (take d x),
+              better-take d (day .directions) x y,
+            ) (later b w)
         go (no h) =
             let k : q ≤ p = omega arith in
-            rw (le-ltb p q k, renewed-earlier d (day .directions) quotes q p k, quote-is q inside-q, quote-is p inside-p,
-            dominated-by d (day .directions) (take d x) (take d y), better-take d (day .directions) x y, better-take d (day .directions) y x) (earlier b w)
+            rw (
+              le-ltb p q k,
+              renewed-earlier d (day .directions) quotes q p k,
+              quote-is q inside-q,
+              quote-is p inside-p,
+              dominated-by d (day .directions) (take d x) (take d y),
+              better-take d (day .directions) x y,
+              better-take d (day .directions) y x,
+            ) (earlier b w)

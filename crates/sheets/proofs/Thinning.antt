@@ -116,7 +116,8 @@ module _ (dom : ℕ → ℕ → Bool) (count : ℕ) (entry : List ℕ) (from to 
           let m = t .given .most in
           let j : i - from < length (cut from to entry) = rw (length-cut from to entry m) (omega arith) in
           let e : from + (i - from) ≡ i = omega arith in
-          rw (next-is) (rw (getD-take (to - from) (drop from entry) (i - from) 0 (omega arith), getD-drop, e) at (inside-at count (cut from to entry) (i - from) (t .given .these-rise) j))
+          rw (next-is) (rw (getD-take (to - from) (drop from entry) (i - from) 0 (omega arith), getD-drop, e)
+          at (inside-at count (cut from to entry) (i - from) (t .given .these-rise) j))
 
       kept-more : kept (i + 1) ≡ kept i ++ keep (not (dominatedBy dom (cut low high entry) (getD entry i 0))) (getD entry i 0) []
       unfolding left thinned cut
@@ -152,8 +153,8 @@ module _ (dom : ℕ → ℕ → Bool) (count : ℕ) (entry : List ℕ) (from to 
               within = omega arith;
               ends = rw (same, length-append) (omega (arith, t .ends));
               laid =
-                rw (t .laid) (store-next 0 (take at entry ++ kept i) entry end p front-length (omega (arith, end-behind))
-                ∙ rw same (simp append-assoc));
+                  rw (t .laid) (store-next 0 (take at entry ++ kept i) entry end p front-length (omega (arith, end-behind))
+                  ∙ rw same (simp append-assoc));
             }
 
     pub thinning-end : to ≤ i → Thinned dom entry from to low high at end cells

@@ -108,7 +108,14 @@ fn thin(
 }
 
 // Puts the sheets of two halves together: the older is thinned by the newer, and the newer by what is left of the older.
-fn merge(day: Day, columns: &[u32], cells: &mut [u32], h: usize, older: usize, newer: usize) -> usize
+fn merge(
+    day: Day,
+    columns: &[u32],
+    cells: &mut [u32],
+    h: usize,
+    older: usize,
+    newer: usize,
+) -> usize
     requires { ⌜ Fits day (now columns) ⌝ }
     requires { ⌜ Halved (day .count) (now cells) h older newer ⌝ }
     ensures { λ r. ⌜ AtFront (merged (overIn day (now (columns .entry))) (take older (now (cells .entry)))
@@ -191,10 +198,7 @@ pub fn sheet(d: u32, directions: u32, count: u32, columns: &[u32], out: &mut [u3
     match answer {
         Answer::Accepted => {}
         Answer::Refused(_) => {
-            return SheetReply {
-                answer,
-                count: 0,
-            };
+            return SheetReply { answer, count: 0 };
         }
     }
     let day = Day {

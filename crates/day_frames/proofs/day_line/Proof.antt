@@ -6,13 +6,6 @@ use Rattle.day_frames.proofs.Gathering.{relaid, none-early, accepts, ea
 use borrow.Author.Needs.{needs}
 use Rattle.day_frames.proofs.day_line.Statement.{statement}
 use Rattle.day_frames.proofs.day_line.Tie as tie
-use Rattle.day_frames.proofs.day_line.Reads as reads
-use Rattle.day_frames.proofs.day_line.Lts as lts
-use Rattle.day_frames.proofs.gather.Reads as gather-reads
-use Rattle.day_frames.proofs.judge.Reads as judge-reads
-use Rattle.refusals.proofs.Refusal.number.Reads as number-reads
-use Rattle.sheets.proofs.sheet.Reads as sheet-reads
-use Rattle.text.proofs.put_line.Reads as put-line-reads
 
 gather-requires : tie.Need-gather-requires
 gather-requires c κs = search needs
@@ -68,7 +61,7 @@ put-line-requires-2 c κs =
     let at-start = at-gather .before .before .before .before .before .before in
     let a = accepts _ _ _ _ _ (at-sheet .sheet .ensures) (at-told .enum-told .given .1) in
     let k = length-take-le (at-sheet .sheet .result .count) (at-sheet .sheet .last .1 .1 .1 .1 .0)
-        (omega (arith, a .counted, a .fits, at-sheet .sheet .kept .1 .1 .1 .1 .0)) in
+    (omega (arith, a .counted, a .fits, at-sheet .sheet .kept .1 .1 .1 .1 .0)) in
     omega (arith, k, a .counted, a .fits, at-start .pre .1)
 
 enum-known-answer : tie.Need-enum-known-answer

@@ -5,10 +5,6 @@ use borrow.Author.Needs.{needs}
 use Rattle.day_frames.proofs.Gathering.{Gathering, gathering-start, few-quotes, gathering-more, gathering-end}
 use Rattle.day_frames.proofs.gather.Statement.{statement}
 use Rattle.day_frames.proofs.gather.Tie as tie
-use Rattle.day_frames.proofs.gather.Reads as reads
-use Rattle.day_frames.proofs.gather.Lts as lts
-use Rattle.day_frames.proofs.Gathered.none.Reads as none-reads
-use Rattle.day_frames.proofs.step.Reads as step-reads
 
 abbrev Inv-loop : tie.InvT-loop
 Inv-loop d tape cells₀ gathered₀ i₀ cells gathered i = Gathering d tape cells₀ gathered cells i

@@ -6,10 +6,6 @@ use Rattle.sheets.proofs.Answering.{settled}
 use Rattle.day_frames.proofs.Gathering.{frames-refused, settings-refused, columns-refused, none-refused}
 use Rattle.day_frames.proofs.judge.Statement.{statement}
 use Rattle.day_frames.proofs.judge.Tie as tie
-use Rattle.day_frames.proofs.judge.Reads as reads
-use Rattle.day_frames.proofs.judge.Lts as lts
-use Rattle.head.proofs.Head.fresh.Reads as fresh-reads
-use Rattle.head.proofs.Head.settings_hold.Reads as settings-hold-reads
 
 returns : tie.Need-returns
 returns c = frames-refused _ _ _ (c .if1 .taken)

@@ -5,11 +5,6 @@ use Rattle.day_frames.proofs.Gathering.{stays-over, steps}
 use borrow.Author.Needs.{needs}
 use Rattle.day_frames.proofs.step.Statement.{statement}
 use Rattle.day_frames.proofs.step.Tie as tie
-use Rattle.day_frames.proofs.step.Reads as reads
-use Rattle.day_frames.proofs.step.Lts as lts
-use Rattle.day_frames.proofs.Gathered.after.Reads as after-reads
-use Rattle.day_frames.proofs.store.Reads as store-reads
-use Rattle.frames.proofs.read_at.Reads as read-at-reads
 
 returns : tie.Need-returns
 returns c = stays-over _ _ _ _ (c .if1 .taken)

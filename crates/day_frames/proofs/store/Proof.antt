@@ -5,8 +5,6 @@ use borrow.Author.Needs.{needs}
 use Rattle.day_frames.proofs.Gathering.{many-columns, no-place, Storing, storing-start, storing-length, storing-more, storing-end}
 use Rattle.day_frames.proofs.store.Statement.{statement}
 use Rattle.day_frames.proofs.store.Tie as tie
-use Rattle.day_frames.proofs.store.Reads as reads
-use Rattle.day_frames.proofs.store.Lts as lts
 
 abbrev Inv-loop : tie.InvT-loop
 Inv-loop d at cells₀ columns i₀ cells i = Storing d columns at cells₀ cells i

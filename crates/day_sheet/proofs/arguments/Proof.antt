@@ -4,10 +4,6 @@ use lib.Seq.{length-take-le}
 use borrow.Author.Needs.{needs}
 use Rattle.day_sheet.proofs.arguments.Statement.{statement}
 use Rattle.day_sheet.proofs.arguments.Tie as tie
-use Rattle.day_sheet.proofs.arguments.Reads as reads
-use Rattle.day_sheet.proofs.arguments.Lts as lts
-use Rattle.day_sheet.proofs.lay_arguments.Reads as lay-arguments-reads
-use Rattle.line_fields.proofs.fields_from.Reads as fields-from-reads
 
 slice-aggregate-lay-arguments : tie.Need-slice-aggregate-lay-arguments
 slice-aggregate-lay-arguments c = search needs

@@ -5,9 +5,6 @@ use Rattle.day_sheet.proofs.Words.{part-counted, one-counted, both-coun
 use borrow.Author.Needs.{needs}
 use Rattle.day_sheet.proofs.lay_arguments.Statement.{statement}
 use Rattle.day_sheet.proofs.lay_arguments.Tie as tie
-use Rattle.day_sheet.proofs.lay_arguments.Reads as reads
-use Rattle.day_sheet.proofs.lay_arguments.Lts as lts
-use Rattle.os.proofs.arg.Reads as arg-reads
 
 sub-arg : tie.Need-sub-arg
 sub-arg c = search needs
@@ -63,8 +60,15 @@ add-result c =
     let at = at-arg .arg .result + 2 in
     let more = at-arg2 .arg2 .last .1 .0 in
     let same2 = at-arg2 .arg2 .kept .1 .0 in
-    omega (arith, one-counted words (at-arg .arg .last .1 .0) same k, part-counted words (at-start .pre), same, at-arg .arg .ensures,
-    rest-counted words (at-arg .arg .last .1 .0) same k at more same2, at-arg2 .arg2 .ensures)
+    omega (
+      arith,
+      one-counted words (at-arg .arg .last .1 .0) same k,
+      part-counted words (at-start .pre),
+      same,
+      at-arg .arg .ensures,
+      rest-counted words (at-arg .arg .last .1 .0) same k at more same2,
+      at-arg2 .arg2 .ensures,
+    )
 
 same-length : tie.Need-same-length
 same-length c =
@@ -90,8 +94,16 @@ returns c =
     let at = at-arg .arg .result + 2 in
     let more = at-arg2 .arg2 .last .1 .0 in
     let same2 = at-arg2 .arg2 .kept .1 .0 in
-    omega (arith, both-counted words (at-arg .arg .last .1 .0) same k at more same2, one-counted words (at-arg .arg .last .1 .0) same k, part-counted words (at-start .pre), same, at-arg .arg .ensures,
-    rest-counted words (at-arg .arg .last .1 .0) same k at more same2, at-arg2 .arg2 .ensures)
+    omega (
+      arith,
+      both-counted words (at-arg .arg .last .1 .0) same k at more same2,
+      one-counted words (at-arg .arg .last .1 .0) same k,
+      part-counted words (at-start .pre),
+      same,
+      at-arg .arg .ensures,
+      rest-counted words (at-arg .arg .last .1 .0) same k at more same2,
+      at-arg2 .arg2 .ensures,
+    )
 
 pub lay-arguments-spec : {M : Type 1} → statement M
 lay-arguments-spec =

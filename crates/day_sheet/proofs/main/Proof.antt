@@ -5,14 +5,6 @@ use Rattle.day_frames.proofs.Gathering.{laid-fits}
 use borrow.Author.Needs.{needs}
 use Rattle.day_sheet.proofs.main.Statement.{statement}
 use Rattle.day_sheet.proofs.main.Tie as tie
-use Rattle.day_sheet.proofs.main.Reads as reads
-use Rattle.day_sheet.proofs.main.Lts as lts
-use Rattle.day_frames.proofs.day_line.Reads as day-line-reads
-use Rattle.day_sheet.proofs.arguments.Reads as arguments-reads
-use Rattle.io.proofs.read_full.Reads as read-full-reads
-use Rattle.io.proofs.write_all.Reads as write-all-reads
-use Rattle.os.proofs.arg_count.Reads as arg-count-reads
-use Rattle.streams.proofs.put_out.Reads as put-out-reads
 
 arguments-requires : tie.Need-arguments-requires
 arguments-requires c κs = search needs

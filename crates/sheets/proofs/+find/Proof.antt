@@ -149,9 +149,10 @@ find-find-requires-2 : (t : ℕ) → find-lts.Need-find-requires-2 (
 ) (find-at t) find.Post
 find-find-requires-2 t c κs =
     let at-find = c .before .before .before in
-    let at-start = at-find .before .before .before .before .before in
-    (omega (arith, at-start .pre .0, rest-counted (at-start .args .cells .now) (at-find .find .last .1 .1 .1 .0) (at-find .find .kept .1 .1 .1 .0)),
-    (at-start .pre .1 .0, newer-part (at-start .args .cells .now) (at-find .find .last .1 .1 .1 .0) (at-find .find .kept .1 .1 .1 .0) (at-start .pre .1 .1)))
+    let at-start = at-find .before .before .before .before .before in (
+      omega (arith, at-start .pre .0, rest-counted (at-start .args .cells .now) (at-find .find .last .1 .1 .1 .0) (at-find .find .kept .1 .1 .1 .0)),
+      (at-start .pre .1 .0, newer-part (at-start .args .cells .now) (at-find .find .last .1 .1 .1 .0) (at-find .find .kept .1 .1 .1 .0) (at-start .pre .1 .1)),
+    )
 
 find-merge-requires : (t : ℕ) → find-lts.Need-merge-requires (
   alone-reads.Asked,
@@ -164,9 +165,11 @@ find-merge-requires : (t : ℕ) → find-lts.Need-merge-requires (
 find-merge-requires t c κs =
     let at-find2 = c .before .before .before in
     let at-find = at-find2 .before .before .before .before in
-    let at-start = at-find .before .before .before .before .before in
-    (at-start .pre .1 .0,
-    halved (at-start .args .cells .now) (at-find .find .last .1 .1 .1 .0) (at-find .find .kept .1 .1 .1 .0) (at-find2 .find2 .last .1 .1 .1 .0) (at-find2 .find2 .kept .1 .1 .1 .0) _ _ _ (at-start .pre .1 .1) (at-find .find .ensures) (at-find2 .find2 .ensures))
+    let at-start = at-find .before .before .before .before .before in (
+      at-start .pre .1 .0,
+      halved (at-start .args .cells .now) (at-find .find .last .1 .1 .1 .0) (at-find .find .kept .1 .1 .1 .0)
+      (at-find2 .find2 .last .1 .1 .1 .0) (at-find2 .find2 .kept .1 .1 .1 .0) _ _ _ (at-start .pre .1 .1) (at-find .find .ensures) (at-find2 .find2 .ensures),
+    )
 
 find-same-length-2 : (t : ℕ) → find-lts.Need-same-length-2 (
   alone-reads.Asked,
@@ -181,7 +184,8 @@ find-same-length-2 t c =
     let at-find2 = at-merge .before .before .before .before in
     let at-find = at-find2 .before .before .before .before in
     let at-start = at-find .before .before .before .before .before in
-    at-merge .merge .kept .1 .1 .0 ∙ whole-counted (at-start .args .cells .now) (at-find .find .last .1 .1 .1 .0) (at-find .find .kept .1 .1 .1 .0) (at-find2 .find2 .last .1 .1 .1 .0) (at-find2 .find2 .kept .1 .1 .1 .0)
+    at-merge .merge .kept .1 .1 .0
+    ∙ whole-counted (at-start .args .cells .now) (at-find .find .last .1 .1 .1 .0) (at-find .find .kept .1 .1 .1 .0) (at-find2 .find2 .last .1 .1 .1 .0) (at-find2 .find2 .kept .1 .1 .1 .0)
 
 find-returns-2 : (t : ℕ) → find-lts.Need-returns-2 (
   alone-reads.Asked,
@@ -197,7 +201,8 @@ find-returns-2 t c =
     let at-find = at-find2 .before .before .before .before in
     let at-if1 = at-find .before .before in
     let at-start = at-if1 .before .before .before in
-    sheet-by-halves (at-start .args .cells .now) (at-find .find .last .1 .1 .1 .0) (at-find .find .kept .1 .1 .1 .0) (at-find2 .find2 .last .1 .1 .1 .0) (at-find2 .find2 .kept .1 .1 .1 .0) _ _ _ (at-start .pre .1 .1) (at-find .find .ensures)
+    sheet-by-halves (at-start .args .cells .now) (at-find .find .last .1 .1 .1 .0) (at-find .find .kept .1 .1 .1 .0)
+    (at-find2 .find2 .last .1 .1 .1 .0) (at-find2 .find2 .kept .1 .1 .1 .0) _ _ _ (at-start .pre .1 .1) (at-find .find .ensures)
     (at-find2 .find2 .ensures) (over-irreflexive _ _) (over-transitive _ _) (at-if1 .if1 .left) (at-merge .merge .ensures)
 
 pub +find-spec : {M : Type 1} → statement M

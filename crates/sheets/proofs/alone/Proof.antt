@@ -5,8 +5,6 @@ use Rattle.sheets.proofs.Over.{over-irreflexive}
 use Rattle.sheets.proofs.Merging.{none-front, one-front}
 use Rattle.sheets.proofs.alone.Statement.{statement}
 use Rattle.sheets.proofs.alone.Tie as tie
-use Rattle.sheets.proofs.alone.Reads as reads
-use Rattle.sheets.proofs.alone.Lts as lts
 
 -- src/lib.rt:130:9
 returns : tie.Need-returns

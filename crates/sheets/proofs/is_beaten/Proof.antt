@@ -7,9 +7,6 @@ use Rattle.sheets.specs.Finding.{overIn}
 use Rattle.sheets.proofs.Beaten.{inside-at, Seeking, seeking-start, seeking-more, seeking-found, seeking-none}
 use Rattle.sheets.proofs.is_beaten.Statement.{statement}
 use Rattle.sheets.proofs.is_beaten.Tie as tie
-use Rattle.sheets.proofs.is_beaten.Reads as reads
-use Rattle.sheets.proofs.is_beaten.Lts as lts
-use Rattle.sheets.proofs.is_over.Reads as is-over-reads
 
 abbrev Inv-loop : tie.InvT-loop
 Inv-loop day columns p others i₀ i = Seeking (overIn day columns) p others i

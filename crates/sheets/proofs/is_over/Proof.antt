@@ -5,9 +5,6 @@ use lib.ListN.{length-drop}
 use Rattle.sheets.proofs.Over.{part-all, cells-in, over-by}
 use Rattle.sheets.proofs.is_over.Statement.{statement}
 use Rattle.sheets.proofs.is_over.Tie as tie
-use Rattle.sheets.proofs.is_over.Reads as reads
-use Rattle.sheets.proofs.is_over.Lts as lts
-use Rattle.dominance.proofs.compare_unrolled.Reads as compare-unrolled-reads
 
 sub-at : tie.Need-sub-at
 sub-at c = search needs

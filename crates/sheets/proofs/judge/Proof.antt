@@ -6,10 +6,6 @@ use mathlib.Core.Path.{sym, _∙_}
 use Rattle.sheets.proofs.Answering.{settled, unsettled, overlong, too-few, fine, cells-small}
 use Rattle.sheets.proofs.judge.Statement.{statement}
 use Rattle.sheets.proofs.judge.Tie as tie
-use Rattle.sheets.proofs.judge.Reads as reads
-use Rattle.sheets.proofs.judge.Lts as lts
-use Rattle.head.proofs.Head.fresh.Reads as fresh-reads
-use Rattle.head.proofs.Head.settings_hold.Reads as settings-hold-reads
 
 -- src/lib.rt:36:9
 fresh-requires : tie.Need-fresh-requires

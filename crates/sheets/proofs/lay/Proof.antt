@@ -5,8 +5,6 @@ use lib.ListN.{length}
 use Rattle.sheets.proofs.Answering.{no-room, Laying, laying-start, laying-length, laying-more, laying-end}
 use Rattle.sheets.proofs.lay.Statement.{statement}
 use Rattle.sheets.proofs.lay.Tie as tie
-use Rattle.sheets.proofs.lay.Reads as reads
-use Rattle.sheets.proofs.lay.Lts as lts
 
 abbrev Inv-loop : tie.InvT-loop
 Inv-loop positions out₀ i₀ out i = Laying positions out₀ out i

@@ -3,9 +3,6 @@ use borrow.Author.Needs.{needs}
 use Rattle.sheets.proofs.Merging.{older-apart, newer-apart, merged-front}
 use Rattle.sheets.proofs.merge.Statement.{statement}
 use Rattle.sheets.proofs.merge.Tie as tie
-use Rattle.sheets.proofs.merge.Reads as reads
-use Rattle.sheets.proofs.merge.Lts as lts
-use Rattle.sheets.proofs.thin.Reads as thin-reads
 
 -- src/lib.rt:117:55
 add-thin : tie.Need-add-thin

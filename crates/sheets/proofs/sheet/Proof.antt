@@ -4,10 +4,6 @@ use Rattle.refusals.proofs.Numbers.{accepted-number}
 use Rattle.sheets.proofs.Answering.{passed, room-enough, sheet-refused, sheet-found}
 use Rattle.sheets.proofs.sheet.Statement.{statement}
 use Rattle.sheets.proofs.sheet.Tie as tie
-use Rattle.sheets.proofs.sheet.Reads as reads
-use Rattle.sheets.proofs.sheet.Lts as lts
-use Rattle.sheets.proofs.judge.Reads as judge-reads
-use Rattle.sheets.proofs.sheet_in.Reads as sheet-in-reads
 
 judge-requires : tie.Need-judge-requires
 judge-requires c κs = search needs

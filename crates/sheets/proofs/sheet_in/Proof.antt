@@ -4,10 +4,6 @@ use borrow.Author.Needs.{needs}
 use Rattle.sheets.proofs.Answering.{lent-counted, whole-day, kept-fits, kept-counted, sheet-written}
 use Rattle.sheets.proofs.sheet_in.Statement.{statement}
 use Rattle.sheets.proofs.sheet_in.Tie as tie
-use Rattle.sheets.proofs.sheet_in.Reads as reads
-use Rattle.sheets.proofs.sheet_in.Lts as lts
-use Rattle.sheets.proofs.find.Reads as find-reads
-use Rattle.sheets.proofs.lay.Reads as lay-reads
 
 slice-relend-prefix-find : tie.Need-slice-relend-prefix-find
 slice-relend-prefix-find c = search needs

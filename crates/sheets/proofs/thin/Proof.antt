@@ -7,9 +7,6 @@ use Rattle.sheets.specs.Finding.{overIn}
 use Rattle.sheets.proofs.Thinning.{Thinning, thinning-start, thinning-pass, thinning-keep, thinning-end, cells-length, end-behind, next-inside, others-rise}
 use Rattle.sheets.proofs.thin.Statement.{statement}
 use Rattle.sheets.proofs.thin.Tie as tie
-use Rattle.sheets.proofs.thin.Reads as reads
-use Rattle.sheets.proofs.thin.Lts as lts
-use Rattle.sheets.proofs.is_beaten.Reads as is-beaten-reads
 
 abbrev Inv-loop : tie.InvT-loop
 Inv-loop day columns cells₀ from to low high at end₀ i₀ cells end i = Thinning (overIn day columns) (day .count) cells₀ from to low high at cells end i

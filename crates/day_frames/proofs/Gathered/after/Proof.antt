@@ -3,11 +3,6 @@ use mathlib.Core.Path.{_∙_, ap}
 use borrow.Author.Needs.{needs}
 use Rattle.day_frames.proofs.Gathered.after.Statement.{statement}
 use Rattle.day_frames.proofs.Gathered.after.Tie as tie
-use Rattle.day_frames.proofs.Gathered.after.Reads as reads
-use Rattle.day_frames.proofs.Gathered.after.Lts as lts
-use Rattle.day_frames.proofs.Gathered.over_with.Reads as over-with-reads
-use Rattle.day_frames.proofs.Gathered.with_quote.Reads as with-quote-reads
-use Rattle.refusals.proofs.Refusal.number.Reads as number-reads
 
 enum-known-message : tie.Need-enum-known-message
 enum-known-message c = search needs

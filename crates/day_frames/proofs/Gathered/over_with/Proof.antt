@@ -3,8 +3,6 @@ use Rattle.day_frames.specs.Gather.{overWith}
 use mathlib.Core.Path.{refl}
 use Rattle.day_frames.proofs.Gathered.over_with.Statement.{statement}
 use Rattle.day_frames.proofs.Gathered.over_with.Tie as tie
-use Rattle.day_frames.proofs.Gathered.over_with.Reads as reads
-use Rattle.day_frames.proofs.Gathered.over_with.Lts as lts
 
 returns : tie.Need-returns
 unfolding overWith

@@ -4,8 +4,6 @@ use mathlib.Core.Path.{refl}
 use borrow.Author.Needs.{needs}
 use Rattle.day_frames.proofs.Gathered.with_quote.Statement.{statement}
 use Rattle.day_frames.proofs.Gathered.with_quote.Tie as tie
-use Rattle.day_frames.proofs.Gathered.with_quote.Reads as reads
-use Rattle.day_frames.proofs.Gathered.with_quote.Lts as lts
 
 add-count : tie.Need-add-count
 add-count c = search needs
