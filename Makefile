@@ -2,18 +2,20 @@
 # What rt prints goes to a log under build/; standard error gets a line for each crate.
 SHELL := /bin/bash
 .SHELLFLAGS := -euo pipefail -c
-.PHONY: test proofs models try run host random random-calls rules plants rule-plants yardstick notation citations tapes test-slow bench late pieces venues spreadsheet
+.PHONY: test proofs models try run host random random-calls rules plants rule-plants yardstick notation citations tapes test-slow bench late pieces venues spreadsheet days day-plants
 
 PRINTER ?= target/bin/tape_printer
 WRITER ?= target/bin/tape_writer
 PLAYER ?= target/bin/book_player
 JOINER ?= target/bin/venue_joiner
 IMPORTER ?= target/bin/csv_import
+DAY_SHEET ?= target/bin/day_sheet
 TAPE ?= tapes/worked.tape
 SEED ?= 1
 TAPES ?= 10000
 LISTS ?= 10000
 PAIRS ?= 1000
+DAYS ?= 1000
 RUNS ?= 9
 FILES ?= 300
 PLANTS := equals-stay earlier-stands oldest window kept misprint upper pair-first nine-first pair-end nine-at-eight \
@@ -27,6 +29,7 @@ LATE_PLANTS := unshifted list-early past-early changes-early pair-early rows-ear
 VENUE_PLANTS := second-on-equal fifteen-before-seven sixteen-before-fifteen midnight equal-refused second-refuses-first \
   good-tape-goes-on look-behind quote-misplaced ends-with-one other-moved
 SHEET_PLANTS := lf-cuts leading-zero above empty-rest last-misfit fewer-columns
+DAY_PLANTS := equals-stay earlier-stands halves-apart from-zero longest-refused columns-first
 SAMPLES := $(basename $(wildcard tapes/*.txt))
 # of a command, the program that is made here; another's stands already
 made = $(filter target/bin/% build/%,$(firstword $(1)))
@@ -36,7 +39,7 @@ RUSTC := env -u MAKEFLAGS $(IDLE) rustc --edition 2021 -O -D warnings
 
 test: citations
 	@$(MAKE) --no-print-directory -j2 proofs models
-	@$(MAKE) --no-print-directory -j2 host random random-calls late plants pieces notation venues spreadsheet
+	@$(MAKE) --no-print-directory -j2 host random random-calls late plants pieces notation venues spreadsheet days day-plants
 	@tools/dearest.sh build/ci.txt
 	@tail -n 1 build/ci.txt | grep -Ex '[0-9]+ passed, 0 failed'
 
@@ -45,7 +48,7 @@ proofs:
 	@rt ci 2>&1 | tools/progress.sh build/ci.txt
 
 # beside the first crates, on what they leave idle: the tests built, and the models held against small tapes and themselves
-models: build/plain_model build/random_calls build/late_book build/notation rules rule-plants build/venues build/spreadsheet
+models: build/plain_model build/random_calls build/late_book build/notation rules rule-plants build/venues build/spreadsheet build/day_sheets
 
 # the printer on the worked tape before anything is proved, by the toolchain's own trial, with its print
 try:
@@ -107,6 +110,15 @@ plant-in-rules-%: build/random_calls
 plant-in-sheets-%: build/spreadsheet $(IMPORTER)
 	@tests/planted.sh sheets-$* 'the imports differ' build/spreadsheet --plant $* $(IMPORTER) $(SEED) 100
 
+# the day sheet against a plain model of it, and against the printer's look where the day fits a book
+days: build/day_sheets $(DAY_SHEET) $(PRINTER)
+	@build/day_sheets $(DAY_SHEET) $(PRINTER) $(SEED) $(DAYS)
+
+day-plants: $(DAY_PLANTS:%=plant-in-days-%)
+
+plant-in-days-%: build/day_sheets $(DAY_SHEET) $(PRINTER)
+	@tests/planted.sh days-$* 'the lines differ' build/day_sheets --plant $* $(DAY_SHEET) $(PRINTER) $(SEED) 200
+
 # the yardstick of make bench against the plain model, without the judgement and with it
 yardstick: build/plain_model build/yardstick
 	build/plain_model build/yardstick $(SEED) $(TAPES)
@@ -141,10 +153,11 @@ tapes: $(WRITER)
 test-slow: build/full_tape $(PRINTER)
 	@build/full_tape $(PRINTER) $(SEED)
 
-bench: build/bench build/yardstick build/plain_model build/make_tape build/join build/plain_join $(PRINTER) $(JOINER) build/imports build/csv_yardstick $(IMPORTER)
+bench: build/bench build/yardstick build/plain_model build/make_tape build/join build/plain_join $(PRINTER) $(JOINER) build/imports build/csv_yardstick $(IMPORTER) build/day_bench build/day_yardstick $(DAY_SHEET)
 	@build/bench $(PRINTER) $(RUNS)
 	@build/join $(JOINER) $(RUNS)
 	@build/imports $(IMPORTER) $(RUNS)
+	@build/day_bench $(DAY_SHEET) $(RUNS)
 
 target/bin/%: crates.txt $(shell find crates -name '*.rt' -o -name '*.antt')
 	@rt check $* 2>&1 | tools/progress.sh build/$*.txt $*

@@ -1,0 +1,1 @@
+// The skyline of a day put together from those of its halves: definitions and laws.
