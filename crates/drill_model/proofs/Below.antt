@@ -1,10 +1,12 @@
 -- Laws of tests of the first k numbers: some, each, the least. Assumes nothing.
 use mathlib.Core.Path.{_≡_, refl, sym, ap, _∙_}
-use mathlib.Core.Bool.{Bool, true, false, _&&_, _||_, cond}
+use mathlib.Core.Bool.{Bool, true, false, _&&_, _||_, not, cond}
 use mathlib.Core.Logic.{_⊎_, inl, inr, ⊎-elim}
 use Prim.Native.Nat.{ℕ, zero, suc, _+_, _<_, _≤_}
 use native.Mathlib.Omega.{arith}
 use native.Mathlib.Decide.{decLt}
+use lib.Dec.{eqb}
+use borrow.Author.Tests.{eq-eqb, ne-eqb}
 use Rattle.lists.proofs.Booleans.{either, clash, refute, and-left, and-right, both, or-cases, or-left, or-right, neither, none-left, none-right}
 use Rattle.drill_model.specs.Turns.{someBelow, eachBelow, leastBelow}
 
@@ -92,6 +94,12 @@ module _ (f : ℕ → Bool) where
         (λ (c : f k ≡ true). let found : suc k ≡ 0 = rw (b, c) at z in absurd (omega arith))
         (λ (c : f k ≡ false). neither (someBelow f k) (f k) b c)
         (either (f k)))
+      (either (someBelow f k))
+
+  pub some-least : (k : ℕ) → someBelow f k ≡ not (eqb (leastBelow f k) 0)
+  some-least k = ⊎-elim
+      (λ (a : someBelow f k ≡ true). a ∙ sym (ap not (ne-eqb (leastBelow f k) 0 (λ z. clash (someBelow f k) a (least-some k z)))))
+      (λ (b : someBelow f k ≡ false). b ∙ sym (ap not (eq-eqb (leastBelow f k) 0 (least-none k b))))
       (either (someBelow f k))
 
 -- the same tests give the same answers

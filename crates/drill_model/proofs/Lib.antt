@@ -2,4 +2,8 @@
 pub mod Below
 pub mod Hands
 pub mod Judged
+pub mod Turned
 pub mod Choosing
+pub mod Places
+pub mod Unlaid
+pub mod LaidLists

@@ -63,6 +63,11 @@ module _ {Q : Type 0} (none : Q) (won : List Q → Bool) where
     passes : {second laid : List Q} → 0 < length second → Wins Second [] second laid → Wins First [] second laid
     repasses : {first laid : List Q} → 0 < length first → Wins First first [] laid → Wins Second first [] laid
 
+  -- laying the quote at a place of the first hand, counted from 0, keeps the win
+  pub record Keeps (first second laid : List Q) (i : ℕ) : Type 0 where
+    pub place : i < length first
+    pub wins : Wins Second (left i first) second (laying none i first laid)
+
   -- the same judged turn by turn, with k quotes in hand: each quote laid leaves one fewer
   unfoldable pub judged : ℕ → Side → List Q → List Q → List Q → Bool
   judged zero turn first second laid = won laid
@@ -71,14 +76,14 @@ module _ {Q : Type 0} (none : Q) (won : List Q → Bool) where
       (someBelow (λ i. judged k Second (left i first) second (laying none i first laid)) (length first))
       (eachBelow (λ i. judged k First first (left i second) (laying none i second laid)) (length second))
 
-  -- whether the first side wins
+  -- whether the first side is judged to win
   unfoldable pub wins : Side → List Q → List Q → List Q → Bool
   wins turn first second laid = judged (length first + length second) turn first second laid
 
-  -- whether the first side's laying of the quote at a place keeps the win
+  -- whether laying the quote at a place of the first hand is judged to keep the win
   unfoldable pub keeps : List Q → List Q → List Q → ℕ → Bool
   keeps first second laid i = wins Second (left i first) second (laying none i first laid)
 
-  -- the earliest place, counted from 1, whose laying keeps the win, or 0 where there is none
+  -- the earliest place, counted from 1, whose laying is judged to keep the win, or 0 where there is none
   unfoldable pub bestPlace : List Q → List Q → List Q → ℕ
   bestPlace first second laid = leastBelow (keeps first second laid) (length first)
