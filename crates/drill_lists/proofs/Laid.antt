@@ -60,12 +60,6 @@ any-shifted f a (suc k) = ap (λ r. f (suc a) || r) (any-shifted f (suc a) k)
 rest-whole : (x : ℕ) (l : List ℕ) → take (length l - x) (drop x l) ≡ drop x l
 rest-whole x l = take-all (length l - x) (drop x l) (omega (arith, length-drop x l))
 
--- a place of a mapped list
-getD-map : {A B : Type 0} (f : A → B) (z : A) (w : B) (l : List A) (i : ℕ) → i < length l → getD (map f l) i w ≡ f (getD l i z)
-getD-map f z w [] i h = absurd (omega arith)
-getD-map f z w (x ∷ l) zero h = refl
-getD-map f z w (x ∷ l) (suc i) h = getD-map f z w l i (omega arith)
-
 -- only the first d columns are compared
 compared-columns : (d directions : ℕ) (p q : List ℕ) → compared d directions (take d p) (take d q) ≡ compared d directions p q
 unfolding compared
@@ -123,14 +117,14 @@ module _ (cells : List ℕ) (rules : Rules) (laid : List ℕ) where
 
     held-at : (i : ℕ) → i < count → (w : Held) → getD held i w ≡ numbered d cells (getD laid i 0)
     held-at i h w =
-        getD-map (numbered d cells) 0 w (take count laid) i (omega (arith, taken)) ∙ ap (numbered d cells) (getD-take count laid i 0 h)
+        getD-mapped (numbered d cells) w 0 i (take count laid) (omega (arith, taken)) ∙ ap (numbered d cells) (getD-take count laid i 0 h)
 
     quote-at : (i : ℕ) → i < count → quoteAt quotes (suc i) ≡ take d (drop (6 * (getD laid i 0 % 8)) cells)
     unfolding quoteAt numbered
     quote-at i h =
         let here : suc i - 1 ≡ i = omega arith in
         rw here
-        (getD-map (λ (q : Held). q .columns) noQuote [] held i (omega (arith, length-mapped (numbered d cells) (take count laid), taken))
+        (getD-mapped (λ (q : Held). q .columns) [] noQuote i held (omega (arith, length-mapped (numbered d cells) (take count laid), taken))
         ∙ ap (λ (q : Held). q .columns) (held-at i h noQuote))
 
     side-at : (i : ℕ) → i < count → isFirst (getD held i noQuote .side) ≡ ltb (getD laid i 0 % 8) 4

@@ -84,6 +84,17 @@ module _ (f : ℕ → Bool) where
         (either (f k)))
       (either (someBelow f k))
 
+  -- the least, counted from 1, is at most k
+  pub least-within : (k : ℕ) → leastBelow f k ≤ k
+  unfolding leastBelow
+  least-within zero = omega arith
+  least-within (suc k) = go (someBelow f k) (f k) (least-within k)
+    where
+      go : (b c : Bool) → leastBelow f k ≤ k → cond b (leastBelow f k) (cond c (suc k) 0) ≤ suc k
+      go true c h = omega arith
+      go false true h = omega arith
+      go false false h = omega arith
+
   -- some passes exactly if there is a least
   pub least-some : (k : ℕ) → leastBelow f k ≡ 0 → someBelow f k ≡ false
   unfolding leastBelow someBelow

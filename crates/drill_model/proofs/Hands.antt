@@ -39,14 +39,15 @@ module _ {P Q : Type 0} (f : P → Q) where
   left-mapped zero (x ∷ xs) = refl
   left-mapped (suc i) (x ∷ xs) = ap (λ (r : List Q). f x ∷ r) (left-mapped i xs)
 
-  pub getD-mapped : (z : P) (i : ℕ) (l : List P) → getD (map f l) i (f z) ≡ f (getD l i z)
-  getD-mapped z i [] = refl
-  getD-mapped z zero (x ∷ xs) = refl
-  getD-mapped z (suc i) (x ∷ xs) = getD-mapped z i xs
+  pub getD-mapped : (none : Q) (z : P) (i : ℕ) (l : List P) → i < length l → getD (map f l) i none ≡ f (getD l i z)
+  getD-mapped none z i [] h = absurd (omega arith)
+  getD-mapped none z zero (x ∷ xs) h = refl
+  getD-mapped none z (suc i) (x ∷ xs) h = getD-mapped none z i xs (omega arith)
 
-  pub laying-mapped : (z : P) (i : ℕ) (hand laid : List P) → laying (f z) i (map f hand) (map f laid) ≡ map f (laying z i hand laid)
+  pub laying-mapped : (none : Q) (z : P) (i : ℕ) (hand laid : List P) → i < length hand
+      → laying none i (map f hand) (map f laid) ≡ map f (laying z i hand laid)
   unfolding laying
-  laying-mapped z i hand laid = rw (getD-mapped z i hand) (sym (map-append f laid (getD hand i z ∷ [])))
+  laying-mapped none z i hand laid h = rw (getD-mapped none z i hand h) (sym (map-append f laid (getD hand i z ∷ [])))
 
   pub layer-mapped : (turn : Side) (first second : List P) → layer turn (map f first) (map f second) ≡ layer turn first second
   unfolding layer

@@ -7,3 +7,4 @@ pub mod Choosing
 pub mod Places
 pub mod Unlaid
 pub mod LaidLists
+pub mod Drilled

@@ -12,27 +12,27 @@ use Rattle.drill_model.proofs.Below.{some-least, some-same, each-same, 
 use Rattle.drill_model.proofs.Hands.{length-left, length-mapped, left-mapped, laying-mapped, layer-mapped}
 
 -- hands of one type of quotes that stand for quotes of another type are judged alike
-module _ {P Q : Type 0} (f : P → Q) (z : P) (won : List Q → Bool) where
+module _ {P Q : Type 0} (f : P → Q) (none : Q) (z : P) (won : List Q → Bool) where
   abbrev pub wonMapped : List P → Bool
   wonMapped laid = won (map f laid)
 
   pub judged-mapped : (k : ℕ) (turn : Side) (first second laid : List P)
-      → judged (f z) won k turn (map f first) (map f second) (map f laid) ≡ judged z wonMapped k turn first second laid
+      → judged none won k turn (map f first) (map f second) (map f laid) ≡ judged z wonMapped k turn first second laid
   unfolding judged
   judged-mapped zero turn first second laid = refl
   judged-mapped (suc k) turn first second laid =
       rw (layer-mapped f turn first second, length-mapped f first, length-mapped f second)
       (ap₂ (bySide (layer turn first second))
-      (some-same _ _ (length first) (λ i u. rw (left-mapped f i first, laying-mapped f z i first laid) (judged-mapped k Second (left i first) second (laying z i first laid))))
-      (each-same _ _ (length second) (λ i u. rw (left-mapped f i second, laying-mapped f z i second laid) (judged-mapped k First first (left i second) (laying z i second laid)))))
+      (some-same _ _ (length first) (λ i u. rw (left-mapped f i first, laying-mapped f none z i first laid u) (judged-mapped k Second (left i first) second (laying z i first laid))))
+      (each-same _ _ (length second) (λ i u. rw (left-mapped f i second, laying-mapped f none z i second laid u) (judged-mapped k First first (left i second) (laying z i second laid)))))
 
   pub best-mapped : (first second laid : List P)
-      → bestPlace (f z) won (map f first) (map f second) (map f laid) ≡ bestPlace z wonMapped first second laid
+      → bestPlace none won (map f first) (map f second) (map f laid) ≡ bestPlace z wonMapped first second laid
   unfolding bestPlace keeps wins
   best-mapped first second laid =
       rw (length-mapped f first)
       (least-same _ _ (length first) (λ i u.
-        rw (left-mapped f i first, laying-mapped f z i first laid, length-mapped f (left i first), length-mapped f second)
+        rw (left-mapped f i first, laying-mapped f none z i first laid u, length-mapped f (left i first), length-mapped f second)
         (judged-mapped (length (left i first) + length second) Second (left i first) second (laying z i first laid))))
 
 -- on its turn a first side with a quote in hand wins exactly if there is a best place; so it does on the other's turn, if that has none

@@ -1,5 +1,5 @@
 -- A first side without quotes cannot win: no position of the last list is its own. Assumes nothing.
-use mathlib.Core.Path.{_≡_, refl}
+use mathlib.Core.Path.{_≡_, refl, _∙_}
 use mathlib.Core.Bool.{Bool, true, false, _||_}
 use mathlib.Core.List.{List, [], _∷_, _++_, map}
 use Prim.Native.Nat.{ℕ, zero, suc, _+_, _-_, _<_}
@@ -10,7 +10,8 @@ use Rattle.lists.proofs.Booleans.{clash, neither, none-left, none-right}
 use Rattle.lists.proofs.Filters.{any-append}
 use Rattle.lists.proofs.Members.{none-mem}
 use Rattle.drill_model.specs.Turns.{Side, First, Second, left, laying, Wins, over, lays, faces, passes, repasses}
-use Rattle.drill_model.specs.Drill.{Held, noQuote, handOf, isFirst, firstStands, lastList, WinsDrill}
+use Rattle.drill_model.proofs.Hands.{length-mapped}
+use Rattle.drill_model.specs.Drill.{Held, held, noQuote, handOf, isFirst, firstStands, lastList, WinsDrill}
 
 -- some of these quotes is the first side's
 abbrev someFirst : List Held → Bool
@@ -57,6 +58,6 @@ module _ (d N directions n : ℕ) where
   never (repasses u w) z s l = omega arith
 
   -- with an empty first hand it cannot (02)
-  pub empty-loses : (second : List (List ℕ)) → WinsDrill d N directions n [] second → ⊥
+  pub empty-loses : (first second : List (List ℕ)) → length first ≡ 0 → WinsDrill d N directions n first second → ⊥
   unfolding handOf any
-  empty-loses second w = never w refl (none-held second) refl
+  empty-loses first second z w = never w (length-mapped (λ (columns : List ℕ). held First columns) first ∙ z) (none-held second) refl

@@ -5,7 +5,7 @@ use mathlib.Core.List.{List, [], map}
 use lib.ListN.{getD}
 use Rattle.lists.specs.Lists.{any}
 use Rattle.model.specs.Reference.{Reference, opening, withQuotes, skylineOf}
-use Rattle.drill_model.specs.Turns.{Side, First, Second, Wins, wins, bestPlace, keeps}
+use Rattle.drill_model.specs.Turns.{Side, First, Second, Wins, Keeps, bestPlace}
 
 -- a quote of the drill: the side that holds it, and its columns
 pub record Held : Type 0 where
@@ -16,9 +16,13 @@ pub record Held : Type 0 where
 abbrev pub noQuote : Held
 noQuote = record { side = Second; columns = [] }
 
+-- a quote in a side's hand
+abbrev pub held : Side → List ℕ → Held
+held side columns = record { side = side; columns = columns }
+
 -- the quotes of a side's hand
 unfoldable pub handOf : Side → List (List ℕ) → List Held
-handOf side quotes = map (λ columns. record { side = side; columns = columns }) quotes
+handOf side quotes = map (held side) quotes
 
 -- the quote is the first side's
 unfoldable pub isFirst : Side → Bool
@@ -41,6 +45,10 @@ module _ (d N directions n : ℕ) where
   -- the first side wins the drill with these hands: it begins, and nothing is laid
   abbrev pub WinsDrill : List (List ℕ) → List (List ℕ) → Type 0
   WinsDrill first second = Wins noQuote firstStands First (handOf First first) (handOf Second second) []
+
+  -- laying the quote at a place of the first hand, counted from 0, keeps the win
+  abbrev pub KeepsDrill : List (List ℕ) → List (List ℕ) → ℕ → Type 0
+  KeepsDrill first second i = Keeps noQuote firstStands (handOf First first) (handOf Second second) [] i
 
   -- the earliest place of the first hand, counted from 1, whose laying keeps the win, or 0 where there is none
   unfoldable pub drillPlace : List (List ℕ) → List (List ℕ) → ℕ

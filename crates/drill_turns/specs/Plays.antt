@@ -28,8 +28,9 @@ module _ (p : Play) where
   unfoldable pub laidIn : List ℕ
   laidIn = take (p .«laid_count») (p .laid)
 
-  -- at most four quotes in each hand, and eight in all
+  -- at most four quotes in each hand, eight in all, and room for as many laid
   pub record Fair : Type 0 where
+    pub long : length (p .laid) ≡ 8
     pub first : p .«first_count» ≤ 4
     pub second : p .«second_count» ≤ 4
     pub all : p .«first_count» + p .«second_count» + p .«laid_count» ≤ 8

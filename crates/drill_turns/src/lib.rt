@@ -31,9 +31,9 @@ fn left(hand: [u32; 4], i: usize) -> [u32; 4]
 
 impl Play {
     // Before the first quote is laid: the first hand has the numbers from 0 on, the second those from 4 on.
-    pub fn start(first_count: usize, second_count: usize) -> Play
-        requires { ⌜ (first_count ≤ 4) × (second_count ≤ 4) ⌝ }
-        ensures { λ r. ⌜ Started first_count second_count r ⌝ }
+    pub fn start(firsts: usize, seconds: usize) -> Play
+        requires { ⌜ (firsts ≤ 4) × (seconds ≤ 4) ⌝ }
+        ensures { λ r. ⌜ Started firsts seconds r ⌝ }
     {
         let mut first = [0u32; 4];
         let mut second = [4u32; 4];
@@ -45,9 +45,9 @@ impl Play {
         second[3] = 7;
         Play {
             first,
-            first_count,
+            first_count: firsts,
             second,
-            second_count,
+            second_count: seconds,
             laid: [0; 8],
             laid_count: 0,
         }

@@ -1,0 +1,4 @@
+-- The proofs of the crate.
+pub mod Judging
+pub mod Placing
+pub mod Answers
