@@ -11,7 +11,8 @@ use lib.ListN.{getD}
 use borrow.Author.Tests.{not-true, not-false, ltb-false}
 use Rattle.lists.specs.Lists.{any, run}
 use Rattle.lists.proofs.Booleans.{none-left, none-right}
-use Rattle.head.specs.Heads.{settingsHold}
+use Rattle.head.specs.declared.Head.{Head}
+use Rattle.head.specs.Heads.{freshHead, settingsHold}
 use Rattle.head.proofs.Settings.{settings-within}
 use Rattle.refusals.specs.Refusals.{firstOf}
 use Rattle.refusals.proofs.Numbers.{zero-passed}
@@ -21,25 +22,26 @@ use Rattle.drills.specs.declared.Hand.{Hand}
 use Rattle.drills.specs.Drills.{uneven, refusals, Small}
 
 -- the column counts below i were looked at
-pub record Looking (h : Hand) (d : ℕ) (found : Bool) (i : ℕ) : Type 0 where
-  pub within : i ≤ h .count
-  pub so-far : found ≡ any (λ j. not (eqb (getD (h .columns) j 0) d)) (run 0 i)
+pub record Looking (columns : List ℕ) (count d : ℕ) (found : Bool) (i : ℕ) : Type 0 where
+  pub room : count ≤ 4
+  pub within : i ≤ count
+  pub so-far : found ≡ any (λ j. not (eqb (getD columns j 0) d)) (run 0 i)
 
-module _ (h : Hand) (d : ℕ) where
-  pub start-look : Looking h d false 0
+module _ (columns : List ℕ) (count d : ℕ) where
+  pub start-look : count ≤ 4 → Looking columns count d false 0
   unfolding any run
-  start-look = record { within = omega arith; so-far = refl }
+  start-look h = record { room = h; within = omega arith; so-far = refl }
 
-  module _ (found : Bool) (i : ℕ) (s : Looking h d found i) where
-    pub more-look : i < h .count → Looking h d (found || not (eqb (getD (h .columns) i 0) d)) (i + 1)
+  module _ (found : Bool) (i : ℕ) (s : Looking columns count d found i) where
+    pub more-look : i < count → Looking columns count d (found || not (eqb (getD columns i 0) d)) (i + 1)
     more-look u = record {
+      room = s .room;
       within = omega arith;
-      so-far = rw (s .so-far, add-one i) (sym (rw (zero-add i) at (any-more (λ j. not (eqb (getD (h .columns) j 0) d)) 0 i)));
+      so-far = rw (s .so-far, add-one i) (sym (rw (zero-add i) at (any-more (λ j. not (eqb (getD columns j 0) d)) 0 i)));
     }
 
-    pub end-look : h .count ≤ i → found ≡ uneven d h
-    unfolding uneven
-    end-look u = let e : i ≡ h .count = omega (arith, s .within) in s .so-far ∙ rw e
+    pub end-look : count ≤ i → found ≡ any (λ j. not (eqb (getD columns j 0) d)) (run 0 count)
+    end-look u = let e : i ≡ count = omega (arith, s .within) in s .so-far ∙ rw e
 
 module _ (rules : Rules) (first second : Hand) where
   abbrev holds : Bool
@@ -56,6 +58,11 @@ module _ (rules : Rules) (first second : Hand) where
 
   abbrev answer : ℕ
   answer = firstOf (refusals rules first second)
+
+  -- the settings as a fresh head has them
+  pub by-head : {h : Head} {b : Bool} → h ≡ freshHead (rules .dimensions) (rules .capacity) (rules .directions)
+      → b ≡ settingsHold (h .dimensions) (h .capacity) (h .directions) → b ≡ holds
+  by-head {h} e f = f ∙ ap (λ (x : Head). settingsHold (x .dimensions) (x .capacity) (x .directions)) e
 
   -- a judgement that stops at a test: those before it did not hold
   pub by-settings : {b : Bool} → b ≡ holds → not b ≡ true → 3 ≡ answer
@@ -92,12 +99,10 @@ module _ (rules : Rules) (first second : Hand) where
 
   -- hands that are not too large for 19
   pub few-first : large ≡ false → first .count ≤ 4
-  few-first l = ltb-false 4 (first .count) (none-left (ltb 4 (first .count)) (ltb 4 (second .count) || ltb 8 (rules .capacity)) l)
+  few-first l = ltb-false 4 (first .count) (none-left (ltb 4 (first .count)) (ltb 4 (second .count)) (none-left _ (ltb 8 (rules .capacity)) l))
 
   pub few-second : large ≡ false → second .count ≤ 4
-  few-second l =
-      ltb-false 4 (second .count)
-      (none-left (ltb 4 (second .count)) (ltb 8 (rules .capacity)) (none-right (ltb 4 (first .count)) (ltb 4 (second .count) || ltb 8 (rules .capacity)) l))
+  few-second l = ltb-false 4 (second .count) (none-right (ltb 4 (first .count)) (ltb 4 (second .count)) (none-left _ (ltb 8 (rules .capacity)) l))
 
   -- what is accepted is small
   pub accepted-small : answer ≡ 0 → Small rules first second
@@ -108,6 +113,6 @@ module _ (rules : Rules) (first second : Hand) where
       let hold : holds ≡ true = not-false holds (one .0) in
       record {
         narrow = settings-within (rules .dimensions) (rules .capacity) (rules .directions) hold .bounded-columns;
-        first = few-first (two .0);
-        second = few-second (two .0);
+        firsts = few-first (two .0);
+        seconds = few-second (two .0);
       }

@@ -2,3 +2,4 @@
 pub mod Judging
 pub mod Placing
 pub mod Answers
+pub mod Theorems

@@ -25,19 +25,23 @@ use Rattle.drills.specs.declared.Hand.{Hand}
 use Rattle.drills.specs.Drills.{quotesOf, Small}
 
 -- both hands' cells, one behind the other
-pub joined-cells : (a b : List ℕ) → length a ≡ 24 → length b ≡ 24 → paste (paste (replicate 48 0) 0 a (length a)) 24 b (length b) ≡ a ++ b
+joined-cells : (a b : List ℕ) → length a ≡ 24 → length b ≡ 24 → paste (paste (replicate 48 0) 0 a (length a)) 24 b (length b) ≡ a ++ b
 joined-cells a b u v =
     rw (u, v)
-    (ap₂ (λ (x y : List ℕ). x ++ y)
-    (front a u)
-    (ap₂ (λ (x y : List ℕ). x ++ y) (take-all 24 b (omega arith)) (rest a u)) ∙ ap (λ (l : List ℕ). a ++ l) (append-nil b))
+    (ap₂ (λ (x y : List ℕ). x ++ y) (ap₂ (λ (x y : List ℕ). x ++ y) (front a u) (take-all 24 b (omega arith))) (rest a u) ∙ append-nil (a ++ b))
   where
     whole : (a : List ℕ) → length a ≡ 24 → take 24 a ≡ a
     whole a u = take-all 24 a (omega arith)
     front : (a : List ℕ) → length a ≡ 24 → take 24 (take 24 a ++ drop 24 (replicate 48 0)) ≡ a
     front a u = take-append-le 24 (take 24 a) (drop 24 (replicate 48 0)) (omega (arith, ap length (whole a u))) ∙ rw (whole a u) (whole a u)
     rest : (a : List ℕ) → length a ≡ 24 → drop 48 (take 24 a ++ drop 24 (replicate 48 0)) ≡ []
-    rest a u = rw (whole a u) (ap (λ (k : ℕ). drop k (a ++ drop 24 (replicate 48 0))) (omega arith) ∙ drop-append-add a (drop 24 (replicate 48 0)) 24)
+    rest a u =
+        let end : 48 ≡ length a + 24 = omega arith in
+        rw (whole a u) (ap (λ (k : ℕ). drop k (a ++ drop 24 (replicate 48 0))) end ∙ drop-append-add a (drop 24 (replicate 48 0)) 24)
+
+pub joined-by : (a b : List ℕ) {q r : List ℕ} → length a ≡ 24 → length b ≡ 24 → q ≡ paste (replicate 48 0) 0 a (length a)
+    → r ≡ paste q 24 b (length b) → (r ≡ a ++ b) × (length a ≡ 24)
+joined-by a b u v e f = (f ∙ rw e (joined-cells a b u v), u)
 
 module _ (d : ℕ) (a b : List ℕ) (narrow : d ≤ 6) (long : length a ≡ 24) where
   -- a number below 4 is a quote of the first hand
@@ -79,7 +83,7 @@ module _ (rules : Rules) (first second : Hand) (small : Small rules first second
       (quotesOf (rules .dimensions) second)
 
   -- the place that the turns find
-  pub turns-place : length (first .cells) ≡ 24 → (play : Play) → Started (first .count) (second .count) play
+  turns-place : length (first .cells) ≡ 24 → (play : Play) → Started (first .count) (second .count) play
       → placeIn (first .cells ++ second .cells) rules play ≡ place
   unfolding placeIn drillPlace quotesOf wonBy
   turns-place long play s =
@@ -87,8 +91,12 @@ module _ (rules : Rules) (first second : Hand) (small : Small rules first second
       (sym (best-mapped (numbered (rules .dimensions) (first .cells ++ second .cells)) noQuote 0
         (firstStands (rules .dimensions) (rules .capacity) (rules .directions) (rules .n)) (run 0 (first .count)) (run 4 (second .count)) [])
       ∙ ap₂ (λ (x y : List Held). bestPlace noQuote (firstStands (rules .dimensions) (rules .capacity) (rules .directions) (rules .n)) x y [])
-      (hand-first (rules .dimensions) (first .cells) (second .cells) (small .narrow) long (first .count) (small .first))
-      (hand-second (rules .dimensions) (first .cells) (second .cells) (small .narrow) long (second .count) (small .second)))
+      (hand-first (rules .dimensions) (first .cells) (second .cells) (small .narrow) long (first .count) (small .firsts))
+      (hand-second (rules .dimensions) (first .cells) (second .cells) (small .narrow) long (second .count) (small .seconds)))
+
+  pub found-place : {cells : List ℕ} {r : ℕ} → (cells ≡ first .cells ++ second .cells) × (length (first .cells) ≡ 24) → (play : Play)
+      → Started (first .count) (second .count) play → r ≡ placeIn cells rules play → r ≡ place
+  found-place j play s e = e ∙ rw (j .0) (turns-place (j .1) play s)
 
   length-quotes : length (quotesOf (rules .dimensions) first) ≡ first .count
   unfolding quotesOf

@@ -9,7 +9,9 @@ use Rattle.lists.specs.Lists.{any, run}
 use Rattle.head.specs.Heads.{settingsHold}
 use Rattle.refusals.specs.declared.Refusal.the-variants.{Settings, ColumnCount, WindowSize, DrillSize}
 use Rattle.refusals.specs.Refusals.{number, firstOf, granted}
-use Rattle.drill_model.specs.Drill.{drillPlace}
+use Rattle.drill_model.specs.Turns.{First, Second}
+use Rattle.drill_model.specs.Ways.{WinningWay}
+use Rattle.drill_model.specs.Drill.{noQuote, handOf, firstStands, WinsDrill, KeepsDrill, drillPlace}
 use Rattle.drill_lists.specs.declared.Rules.{Rules}
 use Rattle.drills.specs.declared.Hand.{Hand}
 use Rattle.drills.specs.declared.Outcome.{Outcome}
@@ -34,8 +36,8 @@ refusals rules first second =
 -- hands of at most four quotes, of at most six columns
 pub record Small (rules : Rules) (first second : Hand) : Type 0 where
   pub narrow : rules .dimensions ≤ 6
-  pub first : first .count ≤ 4
-  pub second : second .count ≤ 4
+  pub firsts : first .count ≤ 4
+  pub seconds : second .count ≤ 4
 
 -- what the drill can say: yes with the place of the quote to lay first, counted from 1, no, or the number of a refusal
 pub data Saying : Type 0 where
@@ -62,3 +64,27 @@ drilled rules first second =
     granted refusal
     (answered (drillPlace d (rules .capacity) (rules .directions) (rules .n) (quotesOf d first) (quotesOf d second)))
     (refused refusal)
+
+module _ (rules : Rules) (first second : Hand) where
+  -- no condition of a refusal holds
+  abbrev pub Accepted : Type 0
+  Accepted = firstOf (refusals rules first second) ≡ 0
+
+  -- the first side has a strategy that wins
+  abbrev pub Winning : Type 0
+  Winning =
+      WinsDrill (rules .dimensions) (rules .capacity) (rules .directions) (rules .n) (quotesOf (rules .dimensions) first)
+      (quotesOf (rules .dimensions) second)
+
+  -- laying the quote at a place of the first hand, counted from 0, keeps the win
+  abbrev pub Keeping : ℕ → Type 0
+  Keeping =
+      KeepsDrill (rules .dimensions) (rules .capacity) (rules .directions) (rules .n) (quotesOf (rules .dimensions) first)
+      (quotesOf (rules .dimensions) second)
+
+  -- the first side has a way of choosing, a map from the replies so far to a place, that wins for every order in which the second hand can
+  -- be laid
+  abbrev pub WinningByWay : Type 0
+  WinningByWay =
+      WinningWay noQuote (firstStands (rules .dimensions) (rules .capacity) (rules .directions) (rules .n)) First
+      (handOf First (quotesOf (rules .dimensions) first)) (handOf Second (quotesOf (rules .dimensions) second)) []

@@ -2,6 +2,7 @@
 ghost use mathlib.Core.Path.{_≡_};
 ghost use Prim.Native.Nat.{_+_, _*_, _≤_};
 ghost use mathlib.Core.List.{_++_};
+ghost use lib.ListN.{length};
 ghost use Rattle.refusals.specs.Refusals.{numberOf, firstOf};
 ghost use Rattle.drill_model.specs.Drill.{drillPlace};
 ghost use Rattle.drills.specs.Drills.{uneven, quotesOf, refusals, Small, saying, drilled};
@@ -64,7 +65,7 @@ fn judge(rules: Rules, first: Hand, second: Hand) -> Answer
 
 // The quotes of both hands, those of the first before those of the second.
 fn joined(first: [u32; 24], second: [u32; 24]) -> [u32; 48]
-    ensures { λ r. ⌜ r ≡ first ++ second ⌝ }
+    ensures { λ r. ⌜ (r ≡ first ++ second) × (length first ≡ 24) ⌝ }
 {
     let mut quotes = [0u32; 48];
     cells::put(&mut quotes, 0, &first);
