@@ -177,19 +177,31 @@ fn frames(hand: &[Vec<u32>]) -> Vec<u8> {
         .collect()
 }
 
+/// The files of the two hands; each run has its own.
+fn files() -> [String; 2] {
+    ["first", "second"].map(|hand| format!("build/drill_{}_{hand}", std::process::id()))
+}
+
+/// Ends the run with a line on what differs.
+fn differ(what: String) -> ! {
+    println!("the answers differ: {what}");
+    files().iter().for_each(|file| drop(fs::remove_file(file)));
+    exit(1)
+}
+
 /// Runs the program on a game, with these bytes for the hands, and compares what it prints.
 fn compare(program: &str, game: &Game, first: &[u8], second: &[u8], expected: &str) {
-    fs::write("build/drill_first", first).unwrap();
-    fs::write("build/drill_second", second).unwrap();
+    let files = files();
+    fs::write(&files[0], first).unwrap();
+    fs::write(&files[1], second).unwrap();
     let numbers = [game.d, game.memory, game.directions, game.n].map(|number| number.to_string());
-    let output = Command::new(program).args(numbers).args(["build/drill_first", "build/drill_second"]).output().unwrap();
+    let output = Command::new(program).args(numbers).args(&files).output().unwrap();
     let printed = String::from_utf8_lossy(&output.stdout).into_owned();
     if printed != expected {
-        println!(
-            "the answers differ: d {} N {} directions {} n {} first {:?} second {:?}: {:?}, not {:?}",
+        differ(format!(
+            "d {} N {} directions {} n {} first {:?} second {:?}: {:?}, not {:?}",
             game.d, game.memory, game.directions, game.n, game.first, game.second, printed, expected
-        );
-        exit(1);
+        ));
     }
 }
 
@@ -207,8 +219,9 @@ fn hands(most: usize, values: u32) -> Vec<Vec<Vec<u32>>> {
     all
 }
 
-/// Every game of small hands, by ways and turn by turn.
-fn small_games(program: &str, seen: &mut BTreeMap<String, usize>) {
+/// Every game of small hands, by ways and turn by turn: how many.
+fn small_games(program: &str, seen: &mut BTreeMap<String, usize>) -> usize {
+    let mut games = 0;
     for (most, values, windows) in [(2, 3, &[(1, 1), (2, 2), (3, 2)][..]), (3, 2, &[(2, 1), (4, 3), (8, 8)][..])] {
         for first in hands(most, values) {
             for second in hands(most, values) {
@@ -216,15 +229,16 @@ fn small_games(program: &str, seen: &mut BTreeMap<String, usize>) {
                     let game = Game { d: 1, memory, directions: 0, n, first: first.clone(), second: second.clone() };
                     let line = game.line(|place| game.wins_by_way(place));
                     if line != game.line(|place| game.keeps(place)) {
-                        println!("the answers differ: by ways and turn by turn: {first:?} {second:?}");
-                        exit(1);
+                        differ(format!("by ways and turn by turn: N {memory} n {n} {first:?} {second:?}"));
                     }
                     compare(program, &game, &frames(&first), &frames(&second), &line);
                     *seen.entry(line.trim().split(' ').next().unwrap().into()).or_default() += 1;
+                    games += 1;
                 }
             }
         }
     }
+    games
 }
 
 /// A random hand.
@@ -282,9 +296,9 @@ fn main() {
     let mut seen = BTreeMap::new();
     let program = &arguments[0];
     fs::create_dir_all("build").unwrap();
-    small_games(program, &mut seen);
-    let small: usize = seen.values().sum();
     random_games(program, number(1, 1), number(2, 600) as usize, &mut seen);
+    let small = small_games(program, &mut seen);
+    files().iter().for_each(|file| fs::remove_file(file).unwrap());
     for answer in ["no", "yes", "yes, place 1", "yes, place 2", "R 1", "R 2", "R 3", "R 4", "R 5", "R 7", "R 19"] {
         if !seen.contains_key(answer) {
             println!("the answer {answer} never came");
