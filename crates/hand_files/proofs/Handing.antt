@@ -4,9 +4,9 @@ use mathlib.Core.Bool.{Bool, true, false, cond}
 use mathlib.Core.List.{List, []}
 use Prim.Native.Nat.{ℕ, zero, suc, _+_, _*_, _<_, _≤_}
 use native.Mathlib.Omega.{arith}
+use native.Mathlib.Numerals.{add-one}
 use lib.Dec.{ltb, leb, eqb}
 use lib.ListN.{length, getD, set}
-use lib.Seq.{paste}
 use borrow.Author.Tests.{le-leb, lt-leb}
 use Rattle.refusals.specs.declared.Refusal.{Refusal}
 use Rattle.refusals.specs.declared.Answer.{Answer}
@@ -14,13 +14,49 @@ use Rattle.refusals.specs.declared.Answer.the-variants as Answer
 use Rattle.refusals.specs.Refusals.{number, numberOf, granted}
 use Rattle.refusals.proofs.Numbers.{accepted-number, refused-number, refused-granted}
 use Rattle.frame_kinds.specs.Kinds.{bodyLength}
+use Rattle.frames.specs.declared.Message.{Message}
+use Rattle.frames.specs.declared.Message.the-variants as Message
 use Rattle.frames.specs.declared.Read.{Read}
 use Rattle.frames.specs.Frames as Frames
 use Rattle.frames.specs.Frames.{Reading, reading, saying, stays, readAt}
 use Rattle.drills.specs.declared.Hand.{Hand}
 use Rattle.drills.specs.Drills as Drills
 use Rattle.drill_lists.specs.declared.Rules.{Rules}
-use Rattle.hand_files.specs.Files.{noHand, withQuote, numberIn, columnsIn, handFrom, handIn, filesDrilled}
+use Rattle.hand_files.specs.Files.{noHand, entered, withQuote, numberIn, columnsIn, handFrom, handIn, filesDrilled}
+
+-- the first j of a quote's cells are stored
+pub record Entering (cells : List ℕ) (at : ℕ) (quote after : List ℕ) (j : ℕ) : Type 0 where
+  pub within : j ≤ 6
+  pub so-far : after ≡ entered cells at quote j
+
+module _ (cells : List ℕ) (at : ℕ) (quote : List ℕ) where
+  pub start-enter : Entering cells at quote cells 0
+  unfolding entered
+  start-enter = record { within = omega arith; so-far = refl }
+
+  pub more-enter : (after : List ℕ) (j : ℕ) → Entering cells at quote after j → j < 6 → Entering cells at quote (set after (at + j) (getD quote j 0)) (j + 1)
+  unfolding entered
+  more-enter after j s h = record { within = omega arith; so-far = rw (s .so-far, add-one j) }
+
+  pub end-enter : (after : List ℕ) (j : ℕ) → Entering cells at quote after j → 6 ≤ j → after ≡ entered cells at quote 6
+  end-enter after j s h = let e : j ≡ 6 = omega (arith, s .within) in s .so-far ∙ rw e
+
+module _ (h : Hand) (count : ℕ) (quote : List ℕ) where
+  -- the fifth quote is counted and not held
+  pub fifth-quote : 4 ≤ h .count → record { count = 5; columns = h .columns; cells = h .cells } ≡ withQuote h count quote
+  unfolding withQuote
+  fifth-quote e = rw (le-leb 4 (h .count) e)
+
+  -- one of the first four is held
+  pub held-quote : h .count < 4 → {cells : List ℕ} → cells ≡ entered (h .cells) (h .count * 6) quote 6
+      → record { count = h .count + 1; columns = set (h .columns) (h .count) count; cells = cells } ≡ withQuote h count quote
+  unfolding withQuote
+  held-quote u e = rw (lt-leb 4 (h .count) u, e)
+
+-- what cannot be read
+pub refused-in : {m : Message} {k : Refusal} → m ≡ Message.Refused k → number k ≡ numberIn (saying m)
+unfolding numberIn saying
+refused-in e = rw e
 
 -- a quote was read: the place behind it is further on
 quote-on : (file : List ℕ) (place : ℕ) → numberIn (readAt file place .says) ≡ 0 → place < readAt file place .next
@@ -28,7 +64,11 @@ unfolding readAt stays numberIn
 quote-on file place = go (ltb (length file) place) (eqb place (length file)) (eqb (bodyLength (getD file place 0)) 255) (ltb (length file) (place + 1 + bodyLength (getD file place 0)))
   where
     whole : Reading
-    whole = record { says = readAt file place .says; columns = []; next = place + 1 + bodyLength (getD file place 0) }
+    whole = record {
+      says = Frames.told (Frames.messageAt file (place + 1) (getD file place 0));
+      columns = Frames.columnsAt file (place + 1) (getD file place 0);
+      next = place + 1 + bodyLength (getD file place 0);
+    }
     go : (a b c e : Bool)
         → numberIn (cond a (stays (Frames.refused 2) place) (cond b (stays Frames.ended place) (cond c (stays (Frames.refused 1) place) (cond e (stays (Frames.refused 2) place) whole))) .says) ≡ 0
         → place < cond a (stays (Frames.refused 2) place) (cond b (stays Frames.ended place) (cond c (stays (Frames.refused 1) place) (cond e (stays (Frames.refused 2) place) whole))) .next

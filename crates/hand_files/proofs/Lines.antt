@@ -8,10 +8,12 @@ use Rattle.refusals.specs.declared.Answer.the-variants as Answer
 use Rattle.refusals.specs.Refusals.{number, numberOf, granted}
 use Rattle.refusals.proofs.Numbers.{refused-granted}
 use Rattle.drills.specs.declared.Hand.{Hand}
+use Rattle.drills.specs.declared.Outcome.{Outcome}
+use Rattle.drills.specs.declared.Outcome.the-variants as Outcome
 use Rattle.drills.specs.Drills as Drills
 use Rattle.drill_lists.specs.declared.Rules.{Rules}
 use Rattle.hand_files.specs.declared.Handful.{Handful}
-use Rattle.hand_files.specs.Files.{handed, handIn, filesDrilled}
+use Rattle.hand_files.specs.Files.{handed, handIn, filesDrilled, lineOf}
 
 module _ (rules : Rules) (first second : List ℕ) (one : Handful) (e : handed one ≡ handIn first) where
   pub first-refused : (k : Refusal) → one .answer ≡ Answer.Refused k → Drills.refused (number k) ≡ filesDrilled rules first second
@@ -37,3 +39,10 @@ module _ (rules : Rules) (first second : List ℕ) (one : Handful) (e : handed o
         let mine : handIn first .1 ≡ one .hand = sym (ap (λ (x : ℕ × Hand). x .1) e) in
         let theirs : handIn second .1 ≡ two .hand = sym (ap (λ (x : ℕ × Hand). x .1) u) in
         d ∙ rw (taken, n, mine, theirs)
+
+-- the line of what an outcome says
+pub says-line : {o p : Outcome} → o ≡ p → lineOf (Drills.saying o) ≡ lineOf (Drills.saying p)
+says-line e = ap (λ (x : Outcome). lineOf (Drills.saying x)) e
+
+pub refused-line : {o : Outcome} {k : Refusal} {n : ℕ} → o ≡ Outcome.Refused k → n ≡ number k → lineOf (Drills.saying o) ≡ lineOf (Drills.refused n)
+refused-line e f = says-line e ∙ ap (λ (x : ℕ). lineOf (Drills.refused x)) (sym f)

@@ -4,7 +4,6 @@ use mathlib.Core.Bool.{_&&_, not, cond}
 use mathlib.Core.List.{List, [], _∷_}
 use lib.Dec.{leb, eqb}
 use lib.ListN.{length, getD, set, replicate}
-use lib.Seq.{paste}
 use Rattle.refusals.specs.declared.Refusal.the-variants.{OutOfPlace}
 use Rattle.refusals.specs.Refusals.{number, numberOf, granted}
 use Rattle.frames.specs.declared.Message.{Message}
@@ -22,11 +21,16 @@ use Rattle.hand_files.specs.declared.Handful.{Handful}
 abbrev pub noHand : Hand
 noHand = record { count = 0; columns = replicate 4 0; cells = replicate 24 0 }
 
+-- cells with the first k of a quote's stored from a place on
+unfoldable pub entered : List ℕ → ℕ → List ℕ → ℕ → List ℕ
+entered cells at quote zero = cells
+entered cells at quote (suc k) = set (entered cells at quote k) (at + k) (getD quote k 0)
+
 -- the hand with one quote more behind the others: so many columns, and these; the fifth and those behind it are counted as one, and not held
 unfoldable pub withQuote : Hand → ℕ → List ℕ → Hand
 withQuote h count quote =
     cond (leb 4 (h .count)) (record { count = 5; columns = h .columns; cells = h .cells })
-    (record { count = h .count + 1; columns = set (h .columns) (h .count) count; cells = paste (h .cells) (h .count * 6) quote 6 })
+    (record { count = h .count + 1; columns = set (h .columns) (h .count) count; cells = entered (h .cells) (h .count * 6) quote 6 })
 
 -- 0 for a quote; 7 for any other message, and the number of a refusal
 unfoldable pub numberIn : Saying → ℕ

@@ -6,7 +6,7 @@ ghost use Rattle.text.specs.Text.{Laid};
 ghost use Rattle.drills.specs.Drills.{saying, yes, no, refused};
 ghost use Rattle.refusals.specs.Refusals.{numberOf};
 ghost use Rattle.frames.specs.Frames.{saying as said};
-ghost use Rattle.hand_files.specs.Files.{noHand, withQuote, numberIn, columnsIn, handed, handIn, filesDrilled, askedBy, lineOf};
+ghost use Rattle.hand_files.specs.Files.{noHand, entered, withQuote, numberIn, columnsIn, handed, handIn, filesDrilled, askedBy, lineOf};
 ghost use Rattle.line_fields.specs.Fields.{noField, fieldsFrom};
 use drills::Hand;
 use drills::Outcome;
@@ -32,13 +32,27 @@ fn none() -> Hand
     }
 }
 
+// The cells with a quote's six from a place on.
+fn entered(cells: [u32; 24], at: usize, quote: [u32; 6]) -> [u32; 24]
+    requires { ⌜ at ≤ 18 ⌝ }
+    ensures { λ r. ⌜ r ≡ entered cells at quote 6 ⌝ }
+{
+    let mut after = cells;
+    let mut j: usize = 0;
+    while j < 6 {
+        after[at + j] = quote[j];
+        j += 1;
+    }
+    after
+}
+
 // The hand with one quote more behind the others; the fifth and those behind it are counted as one, and not held.
 fn with_quote(hand: Hand, count: u32, quote: [u32; 6]) -> Hand
     ensures { λ r. ⌜ r ≡ withQuote hand count quote ⌝ }
 {
     let held = hand.count;
     let mut columns = hand.columns;
-    let mut cells = hand.cells;
+    let cells = hand.cells;
     if 4 <= held {
         return Hand {
             count: 5,
@@ -48,7 +62,7 @@ fn with_quote(hand: Hand, count: u32, quote: [u32; 6]) -> Hand
     }
     let at = held as usize;
     columns[at] = count;
-    cells::put(&mut cells, at * 6, &quote);
+    let cells = entered(cells, at * 6, quote);
     Hand {
         count: held + 1,
         columns,
