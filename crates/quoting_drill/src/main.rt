@@ -24,6 +24,24 @@ fn say_usage() {
     io::write_all(STDERR_FILENO, b"usage: quoting_drill D N DIRECTIONS n FIRST SECOND\n");
 }
 
+// The first so many bytes, or all of them where there are fewer.
+fn front<'a>(bytes: &'a [u8], count: usize) -> &'a [u8] {
+    if count < bytes.len() {
+        return &bytes[..count];
+    }
+    bytes
+}
+
+// What was read of a file.
+fn read_part<'a>(bytes: &'a [u8; 65536], count: usize) -> &'a [u8] {
+    front(&bytes[..], count)
+}
+
+// What is to be printed of a text.
+fn printed_part<'a>(text: &'a [u8; 16], count: usize) -> &'a [u8] {
+    front(&text[..], count)
+}
+
 // The line with an argument of at most 16 bytes behind it.
 fn with_argument(line: Line, i: usize) -> Line
     requires { ⌜ line .used ≤ 51 ⌝ }
@@ -95,7 +113,7 @@ fn main() {
     line = with_argument(line, 4);
     let used = line.used;
     let bytes = line.bytes;
-    let asked = hand_files::rules_in(&bytes[..used]);
+    let asked = hand_files::rules_in(front(&bytes[..], used));
     if !(asked.valid & line.whole) {
         say_usage();
         return;
@@ -113,8 +131,8 @@ fn main() {
     let rules = asked.rules;
     let a = one.count;
     let b = two.count;
-    let outcome = hand_files::drill_files(rules, &first[..a], &second[..b]);
+    let outcome = hand_files::drill_files(rules, read_part(&first, a), read_part(&second, b));
     let mut text = [0u8; 16];
     let count = hand_files::put_outcome(outcome, &mut text);
-    streams::put_out(&text[..count], b"quoting_drill: standard output");
+    streams::put_out(printed_part(&text, count), b"quoting_drill: standard output");
 }
