@@ -106,8 +106,9 @@ tapes: $(WRITER)
 test-slow: build/full_tape $(PRINTER)
 	@build/full_tape $(PRINTER) $(SEED)
 
-bench: build/bench build/yardstick build/plain_model build/make_tape $(PRINTER)
+bench: build/bench build/yardstick build/plain_model build/make_tape build/drill_time $(PRINTER) $(DRILL)
 	@build/bench $(PRINTER) $(RUNS)
+	@build/drill_time $(DRILL)
 
 target/bin/%: crates.txt $(shell find crates -name '*.rt' -o -name '*.antt')
 	@rt check $* 2>&1 | tools/progress.sh build/$*.txt $*

@@ -1,12 +1,10 @@
 -- The tests over quotes laid, by their numbers, are those of the last list of n. Assumes nothing.
-use mathlib.Core.Path.{_≡_, refl, sym, ap, ap₂, _∙_}
+use mathlib.Core.Path.{_≡_, refl, ap, _∙_}
 use mathlib.Core.Bool.{Bool, true, false, _&&_, _||_, not, cond}
-use mathlib.Core.Logic.{_⊎_, inl, inr, ⊎-elim}
-use mathlib.Core.List.{List, [], _∷_, _++_, map}
+use mathlib.Core.Logic.{_⊎_, ⊎-elim}
+use mathlib.Core.List.{List, [], _∷_, map}
 use Prim.Native.Nat.{ℕ, zero, suc, _+_, _-_, _*_, _%_, _<_, _≤_, max}
-use native.Mathlib.Nat.{add-zero, zero-add, suc-add}
 use native.Mathlib.Omega.{arith}
-use native.Mathlib.Numerals.{add-one}
 use lib.Dec.{ltb}
 use lib.ListN.{length, getD, take, drop, length-drop}
 use lib.Seq.{getD-take, length-take-le, take-all}
@@ -14,21 +12,20 @@ use borrow.Author.Tests.{lt-ltb, le-ltb}
 use Rattle.lists.specs.Lists.{keep, filter, any, run, between}
 use Rattle.lists.proofs.Filters.{any-append}
 use Rattle.lists.proofs.Runs.{run-snoc, any-same}
-use Rattle.lists.proofs.Booleans.{either}
-use Rattle.dominance.specs.Dominance.{someBetter, dominates, noWorse}
+use Rattle.dominance.specs.Dominance.{dominates}
 use Rattle.dominance.specs.declared.Comparison.{Comparison}
 use Rattle.dominance.specs.Compared.{compared}
 use Rattle.dominance.specs.Renewal.{quoteAt, renewed}
 use Rattle.dominance.proofs.Comparing.{dominates-by, no-worse-by, some-better-same}
 use Rattle.dominance.proofs.Renewal.{renewed-later, renewed-earlier}
 use Rattle.skyline.specs.Skyline.{windowStart, dominatedIn, skyline}
-use Rattle.model.specs.Reference.{opening, withQuotes, skylineOf}
-use Rattle.drill_model.specs.Turns.{Side, First, Second}
+use Rattle.model.specs.Reference.{opening, skylineOf}
+use Rattle.drill_model.specs.Turns.{First, Second}
 use Rattle.drill_model.specs.Drill.{Held, noQuote, isFirst, fedBook, lastList, firstStands}
 use Rattle.drill_model.proofs.Below.{below-or-not}
 use Rattle.drill_model.proofs.Hands.{length-mapped, getD-mapped}
 use Rattle.drill_lists.specs.declared.Rules.{Rules}
-use Rattle.drill_lists.specs.Numbers.{numbered, wonBy, Fits, overAt, dominatedAt}
+use Rattle.drill_lists.specs.Numbers.{numbered, wonBy, overAt, dominatedAt}
 
 -- some element that passes both tests
 any-filter : {A : Type 0} (f g : A → Bool) (l : List A) → any g (filter f l) ≡ any (λ x. f x && g x) l
@@ -76,15 +73,16 @@ module _ (d directions : ℕ) (quotes : List (List ℕ)) (j i : ℕ) where
   over-compared : renewed d directions quotes (suc j) (suc i) ≡ not (found .1) && (found .0 || ltb i j)
   over-compared = ⊎-elim
       (λ (h : i < j). renewed-later d directions quotes (suc j) (suc i) (omega arith) ∙ no-worse-by d directions (quoteAt quotes (suc j)) (quoteAt quotes (suc i))
-        ∙ rw (lt-ltb i j h) (later (found .1) (found .0)))
+      ∙ rw (lt-ltb i j h) (later (found .1) (found .0)))
       (λ (h : j ≤ i). renewed-earlier d directions quotes (suc j) (suc i) (omega arith) ∙ dominates-by d directions (quoteAt quotes (suc j)) (quoteAt quotes (suc i))
-        ∙ rw (le-ltb i j h) (earlier (found .1) (found .0)))
+      ∙ rw (le-ltb i j h) (earlier (found .1) (found .0)))
       (below-or-not i j)
     where
       later : (w b : Bool) → not w ≡ not w && (b || true)
       later true b = refl
       later false true = refl
       later false false = refl
+
       earlier : (w b : Bool) → b && not w ≡ not w && (b || false)
       earlier true true = refl
       earlier true false = refl
@@ -173,6 +171,6 @@ module _ (cells : List ℕ) (rules : Rules) (laid : List ℕ) where
         ∙ rw window-run
         (any-shifted (λ p. not (dominatedIn D (windowStart (length quotes) (rules .n)) (length quotes) p) && isFirst (getD held (p - 1) noQuote .side)) from (count - from)
         ∙ any-same _ _ from (count - from) (λ i u v.
-          let here : suc i - 1 ≡ i = omega arith in
-          let h : i < count = omega arith in
-          rw (here, dominated-at i h, side-at i h)))
+        let here : suc i - 1 ≡ i = omega arith in
+        let h : i < count = omega arith in
+        rw (here, dominated-at i h, side-at i h)))

@@ -1,6 +1,6 @@
 -- The quotes of both hands by their numbers: the first hand's are 0 to 3, the second's 4 to 7, six cells each.
 use mathlib.Core.Path.{_≡_}
-use Prim.Native.Nat.{ℕ, _+_, _*_, _%_, _≤_}
+use Prim.Native.Nat.{ℕ, _*_, _%_, _≤_}
 use mathlib.Core.Bool.{Bool, _&&_, _||_, not, cond}
 use mathlib.Core.List.{List, map}
 use lib.Dec.{ltb}

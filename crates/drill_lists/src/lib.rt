@@ -56,7 +56,14 @@ fn is_over(cells: &[u32], rules: Rules, laid: [u32; 8], j: usize, i: usize) -> b
 }
 
 // Whether some quote laid from a place on is over the one laid at place i.
-fn is_dominated(cells: &[u32], rules: Rules, laid: [u32; 8], from: usize, count: usize, i: usize) -> bool
+fn is_dominated(
+    cells: &[u32],
+    rules: Rules,
+    laid: [u32; 8],
+    from: usize,
+    count: usize,
+    i: usize,
+) -> bool
     requires { ⌜ Fits (now cells) rules ⌝ }
     requires { ⌜ (from ≤ count) × (count ≤ 8) × (i < 8) ⌝ }
     ensures { λ r. ⌜ r ≡ dominatedAt (now (cells .entry)) rules laid from (count - from) i ⌝ }

@@ -1,8 +1,8 @@
 -- Laws of tests of the first k numbers: some, each, the least. Assumes nothing.
 use mathlib.Core.Path.{_≡_, refl, sym, ap, _∙_}
-use mathlib.Core.Bool.{Bool, true, false, _&&_, _||_, not, cond}
+use mathlib.Core.Bool.{Bool, true, false, not, cond}
 use mathlib.Core.Logic.{_⊎_, inl, inr, ⊎-elim}
-use Prim.Native.Nat.{ℕ, zero, suc, _+_, _<_, _≤_}
+use Prim.Native.Nat.{ℕ, zero, suc, _<_, _≤_}
 use native.Mathlib.Omega.{arith}
 use native.Mathlib.Decide.{decLt}
 use lib.Dec.{eqb}
@@ -78,10 +78,10 @@ module _ (f : ℕ → Bool) where
   least-is (suc k) i e = ⊎-elim
       (λ a. let t = least-is k i (rw a at e) in (omega (arith, t .0), t .1, t .2))
       (λ (b : someBelow f k ≡ false). ⊎-elim
-        (λ (c : f k ≡ true). let found : suc k ≡ suc i = rw (b, c) at e in let same : k ≡ i = omega arith in
-          (omega arith, rw (← same) c, λ j u. none-some k j b (omega arith)))
-        (λ (c : f k ≡ false). let found : 0 ≡ suc i = rw (b, c) at e in absurd (omega arith))
-        (either (f k)))
+      (λ (c : f k ≡ true). let found : suc k ≡ suc i = rw (b, c) at e in let same : k ≡ i = omega arith in
+      (omega arith, rw (← same) c, λ j u. none-some k j b (omega arith)))
+      (λ (c : f k ≡ false). let found : 0 ≡ suc i = rw (b, c) at e in absurd (omega arith))
+      (either (f k)))
       (either (someBelow f k))
 
   -- the least, counted from 1, is at most k
@@ -102,9 +102,9 @@ module _ (f : ℕ → Bool) where
   least-some (suc k) z = ⊎-elim
       (λ a. absurd (clash (someBelow f k) a (least-some k (rw a at z))))
       (λ (b : someBelow f k ≡ false). ⊎-elim
-        (λ (c : f k ≡ true). let found : suc k ≡ 0 = rw (b, c) at z in absurd (omega arith))
-        (λ (c : f k ≡ false). neither (someBelow f k) (f k) b c)
-        (either (f k)))
+      (λ (c : f k ≡ true). let found : suc k ≡ 0 = rw (b, c) at z in absurd (omega arith))
+      (λ (c : f k ≡ false). neither (someBelow f k) (f k) b c)
+      (either (f k)))
       (either (someBelow f k))
 
   pub some-least : (k : ℕ) → someBelow f k ≡ not (eqb (leastBelow f k) 0)

@@ -75,8 +75,8 @@ module _ {Q : Type 0} (none : Q) (won : List Q → Bool) where
         → (way : Way) × WinsBy (suc k) turn way first (y ∷ second) laid
     way-of-second has h e =
         let ways : Replies = λ i u. has First first (left i (y ∷ second)) (laying none i (y ∷ second) laid)
-          (omega (arith, length-left i (y ∷ second) u))
-          (each-at (λ i. judged none won k First first (left i (y ∷ second)) (laying none i (y ∷ second) laid)) (length (y ∷ second)) i e u) in
+        (omega (arith, length-left i (y ∷ second) u))
+        (each-at (λ i. judged none won k First first (left i (y ∷ second)) (laying none i (y ∷ second) laid)) (length (y ∷ second)) i e u) in
         (answering ways, answering-wins ways)
 
   has-way : (k : ℕ) → HasWay k
@@ -101,13 +101,13 @@ module _ {Q : Type 0} (none : Q) (won : List Q → Bool) where
   judged-first k judges turn way first second laid l h w =
       let i = way 0 [] in
       let later : (order : List ℕ) → Order second order
-        → ltb i (length first) && wonBy none won k Second (onceLaid way) order (left i first) second (laying none i first laid) ≡ true
-        = λ order o. rw l at (w order o) in
+      → ltb i (length first) && wonBy none won k Second (onceLaid way) order (left i first) second (laying none i first laid) ≡ true
+      = λ order o. rw l at (w order o) in
       let some = some-order second in
       let u : i < length first = ltb-true i (length first) (and-left (ltb i (length first)) _ (later (some .0) (some .1))) in
       some-at (λ i. judged none won k Second (left i first) second (laying none i first laid)) (length first) i u
       (judges Second (onceLaid way) (left i first) second (laying none i first laid) (omega (arith, length-left i first u))
-        (λ order o. and-right (ltb i (length first)) _ (later order o)))
+      (λ order o. and-right (ltb i (length first)) _ (later order o)))
 
   judged-second : (k : ℕ) → Judges k → (turn : Side) (way : Way) (first second laid : List Q) → layer turn first second ≡ Second
       → suc k ≡ length first + length second → WinsBy (suc k) turn way first second laid
@@ -116,7 +116,7 @@ module _ {Q : Type 0} (none : Q) (won : List Q → Bool) where
   judged-second k judges turn way first second laid l h w =
       each-all (λ i. judged none won k First first (left i second) (laying none i second laid)) (length second)
       (λ i u. judges First (onceReplied i way) first (left i second) (laying none i second laid) (omega (arith, length-left i second u))
-        (λ order o. rw l at (w (i ∷ order) (next i u o))))
+      (λ order o. rw l at (w (i ∷ order) (next i u o))))
 
   way-judged : (k : ℕ) → Judges k
   unfolding judged layer wonBy

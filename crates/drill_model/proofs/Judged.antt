@@ -52,7 +52,7 @@ module _ {Q : Type 0} (none : Q) (won : List Q → Bool) where
   laid-second k sound first second laid h u e =
       faces u
       (λ i v. sound First first (left i second) (laying none i second laid) (omega (arith, length-left i second v))
-        (each-at (λ i. judged none won k First first (left i second) (laying none i second laid)) (length second) i e v))
+      (each-at (λ i. judged none won k First first (left i second) (laying none i second laid)) (length second) i e v))
 
   -- what is judged to win has a strategy
   pub judged-wins : (k : ℕ) (turn : Side) (first second laid : List Q) → k ≡ length first + length second

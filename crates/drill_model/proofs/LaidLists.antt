@@ -1,11 +1,11 @@
 -- The last list of the drill is the reference model's list of n, after it was opened and fed the quotes laid, each accepted. Assumes nothing.
-use mathlib.Core.Path.{_≡_, refl, sym, ap, _∙_}
+use mathlib.Core.Path.{_≡_, sym, ap, _∙_}
 use mathlib.Core.Bool.{true}
 use mathlib.Core.List.{List, map}
 use Prim.Native.Nat.{ℕ, _≤_}
 use lib.ListN.{length}
 use Rattle.head.specs.Heads.{freshHead, settingsHold, lastPosition}
-use Rattle.model.specs.Reference.{opening, skylineOf, referenceStep, tells, ample, unopened, Open}
+use Rattle.model.specs.Reference.{opening, skylineOf, referenceStep, tells}
 use Rattle.refusals.specs.Refusals.{granted}
 use Rattle.audit_model.specs.Audit.{tapeOpening, plays}
 use Rattle.audit_model.proofs.Plays.{WideAll, opening-plays, opening-accepted}

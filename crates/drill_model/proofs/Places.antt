@@ -1,13 +1,13 @@
 -- The earliest place that keeps the win, by the strategy: the first side wins exactly if there is one. Assumes nothing.
-use mathlib.Core.Path.{_≡_, refl}
-use mathlib.Core.Bool.{Bool, true, false}
-use mathlib.Core.List.{List, [], _∷_}
-use Prim.Native.Nat.{ℕ, suc, _+_, _<_}
+use mathlib.Core.Path.{_≡_}
+use mathlib.Core.Bool.{Bool, true}
+use mathlib.Core.List.{List}
+use Prim.Native.Nat.{ℕ, suc, _<_}
 use native.Mathlib.Omega.{arith}
 use lib.ListN.{length}
 use Rattle.lists.proofs.Booleans.{clash, refute}
-use Rattle.drill_model.specs.Turns.{Side, First, Second, left, laying, someBelow, leastBelow, Wins, over, lays, faces, passes, repasses, wins, keeps, Keeps, bestPlace}
-use Rattle.drill_model.proofs.Below.{some-at, some-found, least-none, least-at, least-is, least-some, some-none}
+use Rattle.drill_model.specs.Turns.{First, Second, left, laying, someBelow, Wins, over, lays, passes, wins, keeps, Keeps, bestPlace}
+use Rattle.drill_model.proofs.Below.{some-at, least-none, least-at, least-is, least-some, some-none}
 use Rattle.drill_model.proofs.Judged.{judged-iff-wins}
 
 module _ {Q : Type 0} (none : Q) (won : List Q → Bool) (first second laid : List Q) where

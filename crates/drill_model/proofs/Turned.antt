@@ -32,8 +32,8 @@ module _ {P Q : Type 0} (f : P → Q) (none : Q) (z : P) (won : List Q → Bool)
   best-mapped first second laid =
       rw (length-mapped f first)
       (least-same _ _ (length first) (λ i u.
-        rw (left-mapped f i first, laying-mapped f none z i first laid u, length-mapped f (left i first), length-mapped f second)
-        (judged-mapped (length (left i first) + length second) Second (left i first) second (laying z i first laid))))
+      rw (left-mapped f i first, laying-mapped f none z i first laid u, length-mapped f (left i first), length-mapped f second)
+      (judged-mapped (length (left i first) + length second) Second (left i first) second (laying z i first laid))))
 
 -- on its turn a first side with a quote in hand wins exactly if there is a best place; so it does on the other's turn, if that has none
 module _ {Q : Type 0} (none : Q) (won : List Q → Bool) where
@@ -47,7 +47,7 @@ module _ {Q : Type 0} (none : Q) (won : List Q → Bool) where
   some-place x first second laid =
       some-same _ (keeps none won (x ∷ first) second laid) (length (x ∷ first))
       (λ i u. let one : length first + length second ≡ length (left i (x ∷ first)) + length second = omega (arith, length-left i (x ∷ first) u) in
-        ap (λ k. judged none won k Second (left i (x ∷ first)) second (laying none i (x ∷ first) laid)) one)
+      ap (λ k. judged none won k Second (left i (x ∷ first)) second (laying none i (x ∷ first) laid)) one)
       ∙ some-least (keeps none won (x ∷ first) second laid) (length (x ∷ first))
 
   pub first-by-place : (first second laid : List Q) → 0 < length first → wins none won First first second laid ≡ hasPlace first second laid
@@ -79,7 +79,7 @@ module _ {Q : Type 0} (none : Q) (won : List Q → Bool) where
       rw (add-suc (length first) (length second))
       (each-same _ _ (length (y ∷ second))
       (λ i u. let one : length first + length second ≡ length first + length (left i (y ∷ second)) = omega (arith, length-left i (y ∷ second) u) in
-        ap (λ k. judged none won k First first (left i (y ∷ second)) (laying none i (y ∷ second) laid)) one))
+      ap (λ k. judged none won k First first (left i (y ∷ second)) (laying none i (y ∷ second) laid)) one))
 
   -- both hands empty
   pub over-by-list : (laid : List Q) → wins none won Second [] [] laid ≡ won laid

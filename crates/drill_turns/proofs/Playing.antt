@@ -1,8 +1,8 @@
 -- Hands and quotes laid in arrays: what is left of a hand, a play once a quote is laid, and the first one. Assumes nothing.
 use mathlib.Core.Path.{_≡_, refl, sym, ap, _∙_}
 use mathlib.Core.Bool.{Bool, true, false, cond}
-use mathlib.Core.Logic.{_⊎_, inl, inr, ⊎-elim}
-use mathlib.Core.List.{List, [], _∷_, _++_, map}
+use mathlib.Core.Logic.{_⊎_, ⊎-elim}
+use mathlib.Core.List.{List, [], _∷_}
 use Prim.Native.Nat.{ℕ, zero, suc, _+_, _-_, _<_, _≤_}
 use native.Mathlib.Nat.{zero-add}
 use native.Mathlib.Omega.{arith}
@@ -35,9 +35,9 @@ module _ (hand : List ℕ) (i : ℕ) where
       long = length-set kept j x ∙ s .long;
       within = omega arith;
       at = λ m u. ⊎-elim
-        (λ (a : m < j). getD-set-other kept j m x 0 (λ z. omega arith) ∙ s .at m a)
-        (λ (b : m ≡ j). rw b (getD-set-same kept j x 0 (omega (arith, s .long)) ∙ e ∙ ap (λ (k : ℕ). cond (ltb j i) (getD hand j 0) (getD hand k 0)) (add-one j)))
-        (below-cases m j (omega arith));
+          (λ (a : m < j). getD-set-other kept j m x 0 (λ z. omega arith) ∙ s .at m a)
+          (λ (b : m ≡ j). rw b (getD-set-same kept j x 0 (omega (arith, s .long)) ∙ e ∙ ap (λ (k : ℕ). cond (ltb j i) (getD hand j 0) (getD hand k 0)) (add-one j)))
+          (below-cases m j (omega arith));
     }
 
     pub end-keep : 3 ≤ j → LeftOf hand i kept
@@ -70,12 +70,12 @@ number-at count hand m h = getD-run (λ j. getD hand j 0) 0 0 count m h ∙ ap (
 left-numbers : (count i : ℕ) (hand r : List ℕ) → i < count → count ≤ 4 → LeftOf hand i r → numbersOf (count - 1) r ≡ left i (numbersOf count hand)
 left-numbers count i hand r h u s =
     let kept : length (left i (numbersOf count hand)) ≡ count - 1
-      = omega (arith, length-left i (numbersOf count hand) (omega (arith, length-numbers count hand)), length-numbers count hand) in
+    = omega (arith, length-left i (numbersOf count hand) (omega (arith, length-numbers count hand)), length-numbers count hand) in
     ext-getD 0 (numbersOf (count - 1) r) (left i (numbersOf count hand)) (length-numbers (count - 1) r ∙ sym kept)
     (λ m v.
-      let w : m < count - 1 = omega (arith, length-numbers (count - 1) r) in
-      number-at (count - 1) r m w ∙ s .at m (omega arith)
-      ∙ sym (getD-left i (numbersOf count hand) m ∙ rw (number-at count hand m (omega arith), number-at count hand (suc m) (omega arith))))
+    let w : m < count - 1 = omega (arith, length-numbers (count - 1) r) in
+    number-at (count - 1) r m w ∙ s .at m (omega arith)
+    ∙ sym (getD-left i (numbersOf count hand) m ∙ rw (number-at count hand m (omega arith), number-at count hand (suc m) (omega arith))))
 
 -- one quote more is laid behind the others
 laid-more : (count i c : ℕ) (hand laid : List ℕ) → i < count → c < length laid

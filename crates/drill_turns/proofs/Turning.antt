@@ -2,7 +2,7 @@
 use mathlib.Core.Path.{_≡_, refl, sym, ap, _∙_}
 use mathlib.Core.Bool.{Bool, true, false, not}
 use mathlib.Core.List.{List, []}
-use Prim.Native.Nat.{ℕ, zero, suc, _+_, _<_, _≤_}
+use Prim.Native.Nat.{ℕ, _+_, _<_, _≤_}
 use native.Mathlib.Omega.{arith}
 use native.Mathlib.Numerals.{add-one}
 use lib.Dec.{eqb}
@@ -10,7 +10,7 @@ use lib.ListN.{length, take}
 use borrow.Author.Tests.{eq-eqb, ne-eqb}
 use Rattle.lists.specs.Lists.{run}
 use Rattle.lists.proofs.Booleans.{both, neither}
-use Rattle.drill_model.specs.Turns.{First, Second, left, laying, someBelow, eachBelow, wins, keeps, bestPlace}
+use Rattle.drill_model.specs.Turns.{First, left, laying, someBelow, eachBelow, wins, keeps, bestPlace}
 use Rattle.drill_model.proofs.Below.{least-none, least-at, each-not}
 use Rattle.drill_model.proofs.Turned.{first-by-place, alone-by-place, pass-first, second-by-each, over-by-list}
 use Rattle.drill_lists.specs.declared.Rules.{Rules}

@@ -6,7 +6,7 @@ use mathlib.Core.List.{List, [], map}
 use lib.Dec.{ltb}
 use lib.ListN.{length, getD, take}
 use Rattle.lists.specs.Lists.{run}
-use Rattle.drill_model.specs.Turns.{Side, First, Second, left, laying, wins, keeps, bestPlace}
+use Rattle.drill_model.specs.Turns.{Second, left, laying, wins, keeps, bestPlace}
 use Rattle.drill_lists.specs.declared.Rules.{Rules}
 use Rattle.drill_lists.specs.Numbers.{wonBy}
 use Rattle.drill_turns.specs.declared.Play.{Play}

@@ -1,7 +1,6 @@
 -- What the drill answers, by its parts: a refusal, no, or yes with a place. Assumes nothing.
 use mathlib.Core.Path.{_≡_, refl, sym, ap, _∙_}
 use Prim.Native.Nat.{ℕ, zero, suc}
-use native.Mathlib.Omega.{arith}
 use Rattle.refusals.specs.declared.Refusal.{Refusal}
 use Rattle.refusals.specs.declared.Answer.{Answer}
 use Rattle.refusals.specs.declared.Answer.the-variants.{Accepted, Refused}
@@ -10,7 +9,7 @@ use Rattle.refusals.proofs.Numbers.{accepted-number, refused-number, refused-gr
 use Rattle.drill_model.specs.Drill.{drillPlace}
 use Rattle.drill_lists.specs.declared.Rules.{Rules}
 use Rattle.drills.specs.declared.Hand.{Hand}
-use Rattle.drills.specs.Drills.{quotesOf, refusals, Saying, yes, no, refused, answered, drilled}
+use Rattle.drills.specs.Drills.{quotesOf, refusals, yes, no, refused, answered, drilled}
 
 module _ (rules : Rules) (first second : Hand) where
   abbrev place : ℕ

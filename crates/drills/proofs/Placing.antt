@@ -1,18 +1,17 @@
 -- The quotes of both hands by their numbers are the hands of the drill, so the place that the turns find is the drill's. Assumes nothing.
-use mathlib.Core.Path.{_≡_, refl, sym, ap, ap₂, _∙_}
-use mathlib.Core.Bool.{Bool, true, false, cond}
-use mathlib.Core.List.{List, [], _∷_, _++_, map, append-nil, append-assoc}
-use Prim.Native.Nat.{ℕ, zero, suc, _+_, _-_, _*_, _%_, _<_, _≤_}
+use mathlib.Core.Path.{_≡_, sym, ap, ap₂, _∙_}
+use mathlib.Core.List.{List, [], _++_, map, append-nil}
+use Prim.Native.Nat.{ℕ, _+_, _-_, _*_, _%_, _<_, _≤_}
 use native.Mathlib.Omega.{arith}
 use lib.Dec.{ltb}
-use lib.ListN.{length, take, drop, replicate, length-append, length-drop}
-use lib.Seq.{paste, take-length, take-all, drop-append-le, take-append-le, drop-append-add}
+use lib.ListN.{length, take, drop, replicate, length-drop}
+use lib.Seq.{paste, take-all, drop-append-le, take-append-le, drop-append-add}
 use borrow.Author.Tests.{lt-ltb, le-ltb}
 use Rattle.lists.specs.Lists.{run}
 use Rattle.lists.proofs.Filters.{map-map}
 use Rattle.lists.proofs.Members.{map-same-mem}
 use Rattle.lists.proofs.Runs.{of-run, run-from, length-run}
-use Rattle.drill_model.specs.Turns.{Side, First, Second, bestPlace}
+use Rattle.drill_model.specs.Turns.{First, Second, bestPlace}
 use Rattle.drill_model.specs.Drill.{Held, held, noQuote, handOf, firstStands, drillPlace}
 use Rattle.drill_model.proofs.Hands.{length-mapped}
 use Rattle.drill_model.proofs.Turned.{best-mapped}
@@ -32,8 +31,10 @@ joined-cells a b u v =
   where
     whole : (a : List ℕ) → length a ≡ 24 → take 24 a ≡ a
     whole a u = take-all 24 a (omega arith)
+
     front : (a : List ℕ) → length a ≡ 24 → take 24 (take 24 a ++ drop 24 (replicate 48 0)) ≡ a
     front a u = take-append-le 24 (take 24 a) (drop 24 (replicate 48 0)) (omega (arith, ap length (whole a u))) ∙ rw (whole a u) (whole a u)
+
     rest : (a : List ℕ) → length a ≡ 24 → drop 48 (take 24 a ++ drop 24 (replicate 48 0)) ≡ []
     rest a u =
         let end : 48 ≡ length a + 24 = omega arith in
@@ -89,7 +90,7 @@ module _ (rules : Rules) (first second : Hand) (small : Small rules first second
   turns-place long play s =
       rw (s .first, s .second, s .laid)
       (sym (best-mapped (numbered (rules .dimensions) (first .cells ++ second .cells)) noQuote 0
-        (firstStands (rules .dimensions) (rules .capacity) (rules .directions) (rules .n)) (run 0 (first .count)) (run 4 (second .count)) [])
+      (firstStands (rules .dimensions) (rules .capacity) (rules .directions) (rules .n)) (run 0 (first .count)) (run 4 (second .count)) [])
       ∙ ap₂ (λ (x y : List Held). bestPlace noQuote (firstStands (rules .dimensions) (rules .capacity) (rules .directions) (rules .n)) x y [])
       (hand-first (rules .dimensions) (first .cells) (second .cells) (small .narrow) long (first .count) (small .firsts))
       (hand-second (rules .dimensions) (first .cells) (second .cells) (small .narrow) long (second .count) (small .seconds)))
@@ -105,9 +106,12 @@ module _ (rules : Rules) (first second : Hand) (small : Small rules first second
   -- it is at most 4, and 0 for an empty hand
   pub place-most : place ≤ first .count
   place-most =
-      omega (arith, length-quotes,
-      place-within (rules .dimensions) (rules .capacity) (rules .directions) (rules .n) (quotesOf (rules .dimensions) first)
-      (quotesOf (rules .dimensions) second))
+      omega (
+        arith,
+        length-quotes,
+        place-within (rules .dimensions) (rules .capacity) (rules .directions) (rules .n) (quotesOf (rules .dimensions) first)
+            (quotesOf (rules .dimensions) second),
+      )
 
   pub place-empty : first .count ≡ 0 → 0 ≡ place
   place-empty e = omega (arith, place-most)

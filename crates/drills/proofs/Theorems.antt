@@ -10,7 +10,7 @@ use Rattle.drill_model.proofs.Drilled.{named-keeps, keeps-named, none-wins, win
 use Rattle.drill_lists.specs.declared.Rules.{Rules}
 use Rattle.drills.specs.declared.Hand.{Hand}
 use Rattle.drills.specs.declared.Outcome.{Outcome}
-use Rattle.drills.specs.Drills.{quotesOf, refusals, Saying, yes, no, refused, saying, answered, drilled, Accepted, Winning, Keeping, WinningByWay}
+use Rattle.drills.specs.Drills.{quotesOf, refusals, yes, no, refused, saying, answered, drilled, Accepted, Winning, Keeping, WinningByWay}
 use Rattle.drills.proofs.Placing.{place-empty}
 use Rattle.drills.proofs.Judging.{accepted-small}
 
@@ -75,6 +75,7 @@ module _ (rules : Rules) (first second : Hand) where
 
   -- a strategy wins exactly if there is a way of choosing, a map from the replies so far to a place, that wins for every order of replies
   pub wins-iff-way : (Winning rules first second → WinningByWay rules first second) × (WinningByWay rules first second → Winning rules first second)
-  wins-iff-way =
-      (way-of-wins noQuote (firstStands d (rules .capacity) (rules .directions) (rules .n)),
-      wins-of-way noQuote (firstStands d (rules .capacity) (rules .directions) (rules .n)))
+  wins-iff-way = (
+    way-of-wins noQuote (firstStands d (rules .capacity) (rules .directions) (rules .n)),
+    wins-of-way noQuote (firstStands d (rules .capacity) (rules .directions) (rules .n)),
+  )

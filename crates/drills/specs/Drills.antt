@@ -4,7 +4,7 @@ use Prim.Native.Nat.{ℕ, zero, suc, _*_, _≤_}
 use mathlib.Core.Bool.{Bool, _||_, not}
 use mathlib.Core.List.{List, [], _∷_, map}
 use lib.Dec.{ltb, eqb}
-use lib.ListN.{length, getD, take, drop}
+use lib.ListN.{getD, take, drop}
 use Rattle.lists.specs.Lists.{any, run}
 use Rattle.head.specs.Heads.{settingsHold}
 use Rattle.refusals.specs.declared.Refusal.the-variants.{Settings, ColumnCount, WindowSize, DrillSize}

@@ -1,7 +1,7 @@
 -- A hand gathered from a file, frame by frame: the pass over the frames, and what it comes to. Assumes nothing.
 use mathlib.Core.Path.{_≡_, refl, sym, ap, _∙_}
 use mathlib.Core.Bool.{Bool, true, false, cond}
-use mathlib.Core.List.{List, []}
+use mathlib.Core.List.{List}
 use Prim.Native.Nat.{ℕ, zero, suc, _+_, _*_, _<_, _≤_}
 use native.Mathlib.Omega.{arith}
 use native.Mathlib.Numerals.{add-one}
@@ -20,9 +20,7 @@ use Rattle.frames.specs.declared.Read.{Read}
 use Rattle.frames.specs.Frames as Frames
 use Rattle.frames.specs.Frames.{Reading, reading, saying, stays, readAt}
 use Rattle.drills.specs.declared.Hand.{Hand}
-use Rattle.drills.specs.Drills as Drills
-use Rattle.drill_lists.specs.declared.Rules.{Rules}
-use Rattle.hand_files.specs.Files.{noHand, entered, withQuote, numberIn, columnsIn, handFrom, handIn, filesDrilled}
+use Rattle.hand_files.specs.Files.{noHand, entered, withQuote, numberIn, columnsIn, handFrom, handIn}
 
 -- the first j of a quote's cells are stored
 pub record Entering (cells : List ℕ) (at : ℕ) (quote after : List ℕ) (j : ℕ) : Type 0 where
@@ -69,6 +67,7 @@ quote-on file place = go (ltb (length file) place) (eqb place (length file)) (eq
       columns = Frames.columnsAt file (place + 1) (getD file place 0);
       next = place + 1 + bodyLength (getD file place 0);
     }
+
     go : (a b c e : Bool)
         → numberIn (cond a (stays (Frames.refused 2) place) (cond b (stays Frames.ended place) (cond c (stays (Frames.refused 1) place) (cond e (stays (Frames.refused 2) place) whole))) .says) ≡ 0
         → place < cond a (stays (Frames.refused 2) place) (cond b (stays Frames.ended place) (cond c (stays (Frames.refused 1) place) (cond e (stays (Frames.refused 2) place) whole))) .next

@@ -6,7 +6,6 @@ use lib.Dec.{leb, eqb}
 use lib.ListN.{length, getD, set, replicate}
 use Rattle.refusals.specs.declared.Refusal.the-variants.{OutOfPlace}
 use Rattle.refusals.specs.Refusals.{number, numberOf, granted}
-use Rattle.frames.specs.declared.Message.{Message}
 use Rattle.frames.specs.declared.Message.the-variants.{Quote, Sized, Change, Pair, Bare, Position, Open, EndOfTape, Refused}
 use Rattle.frames.specs.Frames.{Saying, told, ended, refused, readAt}
 use Rattle.text.specs.Text.{line, line2}

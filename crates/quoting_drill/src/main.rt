@@ -21,7 +21,10 @@ struct Came {
 
 // Says how the program is used.
 fn say_usage() {
-    io::write_all(STDERR_FILENO, b"usage: quoting_drill D N DIRECTIONS n FIRST SECOND\n");
+    io::write_all(
+        STDERR_FILENO,
+        b"usage: quoting_drill D N DIRECTIONS n FIRST SECOND\n",
+    );
 }
 
 // The first so many bytes, or all of them where there are fewer.
@@ -89,7 +92,10 @@ fn read_file(i: usize, bytes: &mut [u8; 65536]) -> Came
     let count = io::read_full(file, bytes);
     libc::close(file);
     if MOST <= count {
-        io::write_all(STDERR_FILENO, b"quoting_drill: a file is too long for a hand\n");
+        io::write_all(
+            STDERR_FILENO,
+            b"quoting_drill: a file is too long for a hand\n",
+        );
     }
     Came {
         count,
@@ -134,5 +140,8 @@ fn main() {
     let outcome = hand_files::drill_files(rules, read_part(&first, a), read_part(&second, b));
     let mut text = [0u8; 16];
     let count = hand_files::put_outcome(outcome, &mut text);
-    streams::put_out(printed_part(&text, count), b"quoting_drill: standard output");
+    streams::put_out(
+        printed_part(&text, count),
+        b"quoting_drill: standard output",
+    );
 }

@@ -5,11 +5,6 @@ use native.Mathlib.Omega.{arith}
 use Rattle.drill_lists.proofs.Scans.{Seeking, start-seek, more-seek, end-seek}
 use Rattle.drill_lists.proofs.first_stands.Statement.{statement}
 use Rattle.drill_lists.proofs.first_stands.Tie as tie
-use Rattle.drill_lists.proofs.first_stands.Reads as reads
-use Rattle.drill_lists.proofs.first_stands.Lts as lts
-use Rattle.drill_lists.proofs.is_dominated.Reads as is-dominated-reads
-use Rattle.drill_lists.proofs.is_first.Reads as is-first-reads
-use Rattle.drill_lists.proofs.window_from.Reads as window-from-reads
 
 abbrev Inv-loop : tie.InvT-loop
 Inv-loop cells rules count laid from found₀ i₀ found i = Seeking cells rules laid from count found i
@@ -17,44 +12,34 @@ Inv-loop cells rules count laid from found₀ i₀ found i = Seeking cells rules
 abbrev μ-loop : tie.MeasureT-loop
 μ-loop cells rules count laid from found₀ i₀ found i = count - i
 
--- src/lib.rt:79:9
 window-from-requires : tie.Need-window-from-requires Inv-loop μ-loop
 window-from-requires c κs = search needs
 
--- src/lib.rt:82:5
 loop-holds : tie.Need-loop-holds Inv-loop μ-loop
 loop-holds c = start-seek _ _ _ _ _ (c .window-from .ensures) (omega arith) (omega arith)
 
--- src/lib.rt:83:13
 is-dominated-requires : tie.Need-is-dominated-requires Inv-loop μ-loop
 is-dominated-requires c κs = (c .before .before .before .before .pre .0, search needs)
 
--- src/lib.rt:84:48
 mul-is-first : tie.Need-mul-is-first Inv-loop μ-loop
 mul-is-first c = omega arith
 
--- src/lib.rt:84:48
 array-read-is-first : tie.Need-array-read-is-first Inv-loop μ-loop
 array-read-is-first c = omega arith
 
--- src/lib.rt:84:39
 is-first-requires : tie.Need-is-first-requires Inv-loop μ-loop
 is-first-requires c κs = search needs
 
--- src/lib.rt:85:9
 add-i : tie.Need-add-i Inv-loop μ-loop
 add-i c = omega arith
 
--- src/lib.rt:82:5
 loop-less : tie.Need-loop-less Inv-loop μ-loop
 loop-less c = omega arith
 
--- src/lib.rt:82:5
 loop-again : tie.Need-loop-again Inv-loop μ-loop
 loop-again c =
     more-seek _ _ _ _ _ _ _ (c .before .before .before .loop .inv) (c .before .before .loop-test .taken) (c .before .is-dominated .ensures) (c .is-first .ensures)
 
--- src/lib.rt:74:1
 returns : tie.Need-returns Inv-loop μ-loop
 returns c = end-seek _ _ _ _ _ _ _ (c .before .loop .inv) (c .loop-test .left)
 

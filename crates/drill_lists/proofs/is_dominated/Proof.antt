@@ -5,9 +5,6 @@ use native.Mathlib.Omega.{arith}
 use Rattle.drill_lists.proofs.Scans.{Scanning, start-scan, more-scan, end-scan}
 use Rattle.drill_lists.proofs.is_dominated.Statement.{statement}
 use Rattle.drill_lists.proofs.is_dominated.Tie as tie
-use Rattle.drill_lists.proofs.is_dominated.Reads as reads
-use Rattle.drill_lists.proofs.is_dominated.Lts as lts
-use Rattle.drill_lists.proofs.is_over.Reads as is-over-reads
 
 abbrev Inv-loop : tie.InvT-loop
 Inv-loop cells rules laid from count i found₀ j₀ found j = Scanning cells rules laid from count i found j
@@ -15,27 +12,21 @@ Inv-loop cells rules laid from count i found₀ j₀ found j = Scanning cells ru
 abbrev μ-loop : tie.MeasureT-loop
 μ-loop cells rules laid from count i found₀ j₀ found j = count - j
 
--- src/lib.rt:66:5
 loop-holds : tie.Need-loop-holds Inv-loop μ-loop
 loop-holds c = start-scan _ _ _ _ _ _ (omega arith)
 
--- src/lib.rt:67:25
 is-over-requires : tie.Need-is-over-requires Inv-loop μ-loop
 is-over-requires c κs = (c .before .before .before .pre .0, search needs)
 
--- src/lib.rt:68:9
 add-j : tie.Need-add-j Inv-loop μ-loop
 add-j c = omega arith
 
--- src/lib.rt:66:5
 loop-less : tie.Need-loop-less Inv-loop μ-loop
 loop-less c = omega arith
 
--- src/lib.rt:66:5
 loop-again : tie.Need-loop-again Inv-loop μ-loop
 loop-again c = more-scan _ _ _ _ _ _ _ _ (c .before .before .loop .inv) (c .before .loop-test .taken) (c .is-over .ensures)
 
--- src/lib.rt:59:1
 returns : tie.Need-returns Inv-loop μ-loop
 returns c = end-scan _ _ _ _ _ _ _ _ (c .before .loop .inv) (c .loop-test .left)
 

@@ -47,7 +47,6 @@ first-turn-Inv-loop quotes rules play count i₀ i = Trying quotes rules play i
 abbrev first-turn-μ-loop : first-turn-lts.MeasureT-loop
 first-turn-μ-loop quotes rules play count i₀ i = play .«first_count» - i
 
--- src/lib.rt:110:5
 first-turn-loop-holds : (t : ℕ) → first-turn-lts.Need-loop-holds (
   lay-first-reads.Asked,
   lay-first-reads.Learnt,
@@ -60,7 +59,6 @@ first-turn-loop-holds : (t : ℕ) → first-turn-lts.Need-loop-holds (
 ) (first-turn-at t) first-turn.Post first-turn-Inv-loop first-turn-μ-loop
 first-turn-loop-holds t c = start-try _ _ _
 
--- src/lib.rt:111:13
 first-turn-lay-first-requires : (t : ℕ) → first-turn-lts.Need-lay-first-requires (
   lay-first-reads.Asked,
   lay-first-reads.Learnt,
@@ -74,7 +72,6 @@ first-turn-lay-first-requires : (t : ℕ) → first-turn-lts.Need-lay-first-requ
 first-turn-lay-first-requires t c κs =
     (c .before .before .before .pre .1 .1 .0, omega arith)
 
--- src/lib.rt:112:9
 first-turn-add-i : (t : ℕ) → first-turn-lts.Need-add-i (
   lay-first-reads.Asked,
   lay-first-reads.Learnt,
@@ -87,7 +84,6 @@ first-turn-add-i : (t : ℕ) → first-turn-lts.Need-add-i (
 ) (first-turn-at t) first-turn.Post first-turn-Inv-loop first-turn-μ-loop
 first-turn-add-i t c = search needs
 
--- src/lib.rt:114:16
 first-turn-second-turn-requires : (t : ℕ) → first-turn-lts.Need-second-turn-requires (
   lay-first-reads.Asked,
   lay-first-reads.Learnt,
@@ -101,7 +97,6 @@ first-turn-second-turn-requires : (t : ℕ) → first-turn-lts.Need-second-turn-
 first-turn-second-turn-requires t c κs =
     (omega (arith, c .before .before .lay-first .ensures .fewer, c .before .before .lay-first .ensures .same, c .before .before .before .before .before .before .pre .0), (c .before .before .before .before .before .before .pre .1 .0, (c .before .before .lay-first .ensures .fair, c .if1 .taken)))
 
--- src/lib.rt:115:17
 first-turn-returns : (t : ℕ) → first-turn-lts.Need-returns (
   lay-first-reads.Asked,
   lay-first-reads.Learnt,
@@ -116,7 +111,6 @@ first-turn-returns t c =
     found-try _ _ _ _ (c .before .before .before .before .before .before .loop .inv) (c .before .before .before .before .before .loop-test .taken)
     (keeps-second _ _ _ _ _ (c .before .before .before .before .lay-first .ensures) ∙ sym (c .before .second-turn .ensures) ∙ c .if2 .taken)
 
--- src/lib.rt:110:5
 first-turn-loop-less : (t : ℕ) → first-turn-lts.Need-loop-less (
   lay-first-reads.Asked,
   lay-first-reads.Learnt,
@@ -129,7 +123,6 @@ first-turn-loop-less : (t : ℕ) → first-turn-lts.Need-loop-less (
 ) (first-turn-at t) first-turn.Post first-turn-Inv-loop first-turn-μ-loop
 first-turn-loop-less t c = search needs
 
--- src/lib.rt:110:5
 first-turn-loop-again : (t : ℕ) → first-turn-lts.Need-loop-again (
   lay-first-reads.Asked,
   lay-first-reads.Learnt,
@@ -144,7 +137,6 @@ first-turn-loop-again t c =
     more-try _ _ _ _ (c .before .before .before .before .before .before .loop .inv) (c .before .before .before .before .before .loop-test .taken)
     (keeps-second _ _ _ _ _ (c .before .before .before .before .lay-first .ensures) ∙ sym (c .before .second-turn .ensures) ∙ c .if2 .left)
 
--- src/lib.rt:119:24
 first-turn-first-turn-requires : (t : ℕ) → first-turn-lts.Need-first-turn-requires (
   lay-first-reads.Asked,
   lay-first-reads.Learnt,
@@ -158,7 +150,6 @@ first-turn-first-turn-requires : (t : ℕ) → first-turn-lts.Need-first-turn-re
 first-turn-first-turn-requires t c κs =
     (omega (arith, c .before .before .before .before .lay-first .ensures .fewer, c .before .before .before .before .lay-first .ensures .same, c .before .before .before .before .before .before .before .before .pre .0), (c .before .before .before .before .before .before .before .before .pre .1 .0, (c .before .before .before .before .lay-first .ensures .fair, c .if3 .taken)))
 
--- src/lib.rt:120:21
 first-turn-returns-2 : (t : ℕ) → first-turn-lts.Need-returns-2 (
   lay-first-reads.Asked,
   lay-first-reads.Learnt,
@@ -174,7 +165,6 @@ first-turn-returns-2 t c =
     (keeps-first _ _ _ _ _ (c .before .before .before .before .before .before .lay-first .ensures) (omega (arith, c .before .before .before .before .if1 .left)) (c .before .before .if3 .taken)
     ∙ place-some (c .before .first-turn .ensures) (λ z. omega (arith, c .if4 .taken)))
 
--- src/lib.rt:110:5
 first-turn-loop-less-2 : (t : ℕ) → first-turn-lts.Need-loop-less-2 (
   lay-first-reads.Asked,
   lay-first-reads.Learnt,
@@ -187,7 +177,6 @@ first-turn-loop-less-2 : (t : ℕ) → first-turn-lts.Need-loop-less-2 (
 ) (first-turn-at t) first-turn.Post first-turn-Inv-loop first-turn-μ-loop
 first-turn-loop-less-2 t c = search needs
 
--- src/lib.rt:110:5
 first-turn-loop-again-2 : (t : ℕ) → first-turn-lts.Need-loop-again-2 (
   lay-first-reads.Asked,
   lay-first-reads.Learnt,
@@ -203,7 +192,6 @@ first-turn-loop-again-2 t c =
     (keeps-first _ _ _ _ _ (c .before .before .before .before .before .before .lay-first .ensures) (omega (arith, c .before .before .before .before .if1 .left)) (c .before .before .if3 .taken)
     ∙ place-none (c .before .first-turn .ensures) (omega (arith, c .if4 .left)))
 
--- src/lib.rt:124:20
 first-turn-first-stands-requires : (t : ℕ) → first-turn-lts.Need-first-stands-requires (
   lay-first-reads.Asked,
   lay-first-reads.Learnt,
@@ -217,7 +205,6 @@ first-turn-first-stands-requires : (t : ℕ) → first-turn-lts.Need-first-stand
 first-turn-first-stands-requires t c κs =
     (c .before .before .before .before .before .before .before .before .before .pre .1 .0, omega (arith, c .before .before .before .before .before .lay-first .ensures .fair .all))
 
--- src/lib.rt:125:21
 first-turn-returns-3 : (t : ℕ) → first-turn-lts.Need-returns-3 (
   lay-first-reads.Asked,
   lay-first-reads.Learnt,
@@ -232,7 +219,6 @@ first-turn-returns-3 t c =
     found-try _ _ _ _ (c .before .before .before .before .before .before .before .before .before .loop .inv) (c .before .before .before .before .before .before .before .before .loop-test .taken)
     (keeps-over _ _ _ _ _ (c .before .before .before .before .before .before .before .lay-first .ensures) (omega (arith, c .before .before .before .before .before .if1 .left)) (omega (arith, c .before .before .before .if3 .left)) ∙ sym (c .before .first-stands .ensures) ∙ c .if5 .taken)
 
--- src/lib.rt:110:5
 first-turn-loop-less-3 : (t : ℕ) → first-turn-lts.Need-loop-less-3 (
   lay-first-reads.Asked,
   lay-first-reads.Learnt,
@@ -245,7 +231,6 @@ first-turn-loop-less-3 : (t : ℕ) → first-turn-lts.Need-loop-less-3 (
 ) (first-turn-at t) first-turn.Post first-turn-Inv-loop first-turn-μ-loop
 first-turn-loop-less-3 t c = search needs
 
--- src/lib.rt:110:5
 first-turn-loop-again-3 : (t : ℕ) → first-turn-lts.Need-loop-again-3 (
   lay-first-reads.Asked,
   lay-first-reads.Learnt,
@@ -260,7 +245,6 @@ first-turn-loop-again-3 t c =
     more-try _ _ _ _ (c .before .before .before .before .before .before .before .before .before .loop .inv) (c .before .before .before .before .before .before .before .before .loop-test .taken)
     (keeps-over _ _ _ _ _ (c .before .before .before .before .before .before .before .lay-first .ensures) (omega (arith, c .before .before .before .before .before .if1 .left)) (omega (arith, c .before .before .before .if3 .left)) ∙ sym (c .before .first-stands .ensures) ∙ c .if5 .left)
 
--- src/lib.rt:102:1
 first-turn-returns-4 : (t : ℕ) → first-turn-lts.Need-returns-4 (
   lay-first-reads.Asked,
   lay-first-reads.Learnt,
@@ -280,7 +264,6 @@ second-turn-Inv-loop quotes rules play count i₀ i = Facing quotes rules play i
 abbrev second-turn-μ-loop : second-turn-lts.MeasureT-loop
 second-turn-μ-loop quotes rules play count i₀ i = play .«second_count» - i
 
--- src/lib.rt:142:5
 second-turn-loop-holds : (t : ℕ) → second-turn-lts.Need-loop-holds (
   lay-second-reads.Asked,
   lay-second-reads.Learnt,
@@ -293,7 +276,6 @@ second-turn-loop-holds : (t : ℕ) → second-turn-lts.Need-loop-holds (
 ) (second-turn-at t) second-turn.Post second-turn-Inv-loop second-turn-μ-loop
 second-turn-loop-holds t c = start-face _ _ _
 
--- src/lib.rt:143:13
 second-turn-lay-second-requires : (t : ℕ) → second-turn-lts.Need-lay-second-requires (
   lay-second-reads.Asked,
   lay-second-reads.Learnt,
@@ -307,7 +289,6 @@ second-turn-lay-second-requires : (t : ℕ) → second-turn-lts.Need-lay-second-
 second-turn-lay-second-requires t c κs =
     (c .before .before .before .pre .1 .1 .0, omega arith)
 
--- src/lib.rt:144:9
 second-turn-add-i : (t : ℕ) → second-turn-lts.Need-add-i (
   lay-second-reads.Asked,
   lay-second-reads.Learnt,
@@ -320,7 +301,6 @@ second-turn-add-i : (t : ℕ) → second-turn-lts.Need-add-i (
 ) (second-turn-at t) second-turn.Post second-turn-Inv-loop second-turn-μ-loop
 second-turn-add-i t c = search needs
 
--- src/lib.rt:146:16
 second-turn-first-turn-requires : (t : ℕ) → second-turn-lts.Need-first-turn-requires (
   lay-second-reads.Asked,
   lay-second-reads.Learnt,
@@ -334,7 +314,6 @@ second-turn-first-turn-requires : (t : ℕ) → second-turn-lts.Need-first-turn-
 second-turn-first-turn-requires t c κs =
     (omega (arith, c .before .before .lay-second .ensures .fewer, c .before .before .lay-second .ensures .same, c .before .before .before .before .before .before .pre .0), (c .before .before .before .before .before .before .pre .1 .0, (c .before .before .lay-second .ensures .fair, c .if1 .taken)))
 
--- src/lib.rt:147:17
 second-turn-returns : (t : ℕ) → second-turn-lts.Need-returns (
   lay-second-reads.Asked,
   lay-second-reads.Learnt,
@@ -349,7 +328,6 @@ second-turn-returns t c =
     lost-face _ _ _ _ (c .before .before .before .before .before .before .loop .inv) (c .before .before .before .before .before .loop-test .taken)
     (after-first _ _ _ _ _ (c .before .before .before .before .lay-second .ensures) (c .before .before .if1 .taken) ∙ place-none (c .before .first-turn .ensures) (c .if2 .taken))
 
--- src/lib.rt:142:5
 second-turn-loop-less : (t : ℕ) → second-turn-lts.Need-loop-less (
   lay-second-reads.Asked,
   lay-second-reads.Learnt,
@@ -362,7 +340,6 @@ second-turn-loop-less : (t : ℕ) → second-turn-lts.Need-loop-less (
 ) (second-turn-at t) second-turn.Post second-turn-Inv-loop second-turn-μ-loop
 second-turn-loop-less t c = search needs
 
--- src/lib.rt:142:5
 second-turn-loop-again : (t : ℕ) → second-turn-lts.Need-loop-again (
   lay-second-reads.Asked,
   lay-second-reads.Learnt,
@@ -377,7 +354,6 @@ second-turn-loop-again t c =
     more-face _ _ _ _ (c .before .before .before .before .before .before .loop .inv) (c .before .before .before .before .before .loop-test .taken)
     (after-first _ _ _ _ _ (c .before .before .before .before .lay-second .ensures) (c .before .before .if1 .taken) ∙ place-some (c .before .first-turn .ensures) (c .if2 .left))
 
--- src/lib.rt:151:21
 second-turn-second-turn-requires : (t : ℕ) → second-turn-lts.Need-second-turn-requires (
   lay-second-reads.Asked,
   lay-second-reads.Learnt,
@@ -391,7 +367,6 @@ second-turn-second-turn-requires : (t : ℕ) → second-turn-lts.Need-second-tur
 second-turn-second-turn-requires t c κs =
     (omega (arith, c .before .before .before .before .lay-second .ensures .fewer, c .before .before .before .before .lay-second .ensures .same, c .before .before .before .before .before .before .before .before .pre .0), (c .before .before .before .before .before .before .before .before .pre .1 .0, (c .before .before .before .before .lay-second .ensures .fair, c .if3 .taken)))
 
--- src/lib.rt:152:21
 second-turn-returns-2 : (t : ℕ) → second-turn-lts.Need-returns-2 (
   lay-second-reads.Asked,
   lay-second-reads.Learnt,
@@ -406,7 +381,6 @@ second-turn-returns-2 t c =
     lost-face _ _ _ _ (c .before .before .before .before .before .before .before .before .loop .inv) (c .before .before .before .before .before .before .before .loop-test .taken)
     (after-second _ _ _ _ _ (c .before .before .before .before .before .before .lay-second .ensures) (omega (arith, c .before .before .before .before .if1 .left)) ∙ sym (c .before .second-turn .ensures) ∙ not-true _ (c .if4 .taken))
 
--- src/lib.rt:142:5
 second-turn-loop-less-2 : (t : ℕ) → second-turn-lts.Need-loop-less-2 (
   lay-second-reads.Asked,
   lay-second-reads.Learnt,
@@ -419,7 +393,6 @@ second-turn-loop-less-2 : (t : ℕ) → second-turn-lts.Need-loop-less-2 (
 ) (second-turn-at t) second-turn.Post second-turn-Inv-loop second-turn-μ-loop
 second-turn-loop-less-2 t c = search needs
 
--- src/lib.rt:142:5
 second-turn-loop-again-2 : (t : ℕ) → second-turn-lts.Need-loop-again-2 (
   lay-second-reads.Asked,
   lay-second-reads.Learnt,
@@ -434,7 +407,6 @@ second-turn-loop-again-2 t c =
     more-face _ _ _ _ (c .before .before .before .before .before .before .before .before .loop .inv) (c .before .before .before .before .before .before .before .loop-test .taken)
     (after-second _ _ _ _ _ (c .before .before .before .before .before .before .lay-second .ensures) (omega (arith, c .before .before .before .before .if1 .left)) ∙ sym (c .before .second-turn .ensures) ∙ not-false _ (c .if4 .left))
 
--- src/lib.rt:156:21
 second-turn-first-stands-requires : (t : ℕ) → second-turn-lts.Need-first-stands-requires (
   lay-second-reads.Asked,
   lay-second-reads.Learnt,
@@ -448,7 +420,6 @@ second-turn-first-stands-requires : (t : ℕ) → second-turn-lts.Need-first-sta
 second-turn-first-stands-requires t c κs =
     (c .before .before .before .before .before .before .before .before .before .pre .1 .0, omega (arith, c .before .before .before .before .before .lay-second .ensures .fair .all))
 
--- src/lib.rt:157:21
 second-turn-returns-3 : (t : ℕ) → second-turn-lts.Need-returns-3 (
   lay-second-reads.Asked,
   lay-second-reads.Learnt,
@@ -463,7 +434,6 @@ second-turn-returns-3 t c =
     lost-face _ _ _ _ (c .before .before .before .before .before .before .before .before .before .loop .inv) (c .before .before .before .before .before .before .before .before .loop-test .taken)
     (after-over _ _ _ _ _ (c .before .before .before .before .before .before .before .lay-second .ensures) (omega (arith, c .before .before .before .before .before .if1 .left)) (omega (arith, c .before .before .before .if3 .left)) ∙ sym (c .before .first-stands .ensures) ∙ not-true _ (c .if5 .taken))
 
--- src/lib.rt:142:5
 second-turn-loop-less-3 : (t : ℕ) → second-turn-lts.Need-loop-less-3 (
   lay-second-reads.Asked,
   lay-second-reads.Learnt,
@@ -476,7 +446,6 @@ second-turn-loop-less-3 : (t : ℕ) → second-turn-lts.Need-loop-less-3 (
 ) (second-turn-at t) second-turn.Post second-turn-Inv-loop second-turn-μ-loop
 second-turn-loop-less-3 t c = search needs
 
--- src/lib.rt:142:5
 second-turn-loop-again-3 : (t : ℕ) → second-turn-lts.Need-loop-again-3 (
   lay-second-reads.Asked,
   lay-second-reads.Learnt,
@@ -491,7 +460,6 @@ second-turn-loop-again-3 t c =
     more-face _ _ _ _ (c .before .before .before .before .before .before .before .before .before .loop .inv) (c .before .before .before .before .before .before .before .before .loop-test .taken)
     (after-over _ _ _ _ _ (c .before .before .before .before .before .before .before .lay-second .ensures) (omega (arith, c .before .before .before .before .before .if1 .left)) (omega (arith, c .before .before .before .if3 .left)) ∙ sym (c .before .first-stands .ensures) ∙ not-false _ (c .if5 .left))
 
--- src/lib.rt:134:1
 second-turn-returns-4 : (t : ℕ) → second-turn-lts.Need-returns-4 (
   lay-second-reads.Asked,
   lay-second-reads.Learnt,

@@ -5,9 +5,6 @@ use native.Mathlib.Omega.{arith}
 use Rattle.drill_turns.proofs.Playing.{Keeping, start-keep, more-keep, end-keep}
 use Rattle.drill_turns.proofs.left.Statement.{statement}
 use Rattle.drill_turns.proofs.left.Tie as tie
-use Rattle.drill_turns.proofs.left.Reads as reads
-use Rattle.drill_turns.proofs.left.Lts as lts
-use Rattle.cells.proofs.chosen.Reads as chosen-reads
 
 abbrev Inv-loop : tie.InvT-loop
 Inv-loop i hand kept₀ j₀ kept j = Keeping hand i kept j
@@ -15,55 +12,42 @@ Inv-loop i hand kept₀ j₀ kept j = Keeping hand i kept j
 abbrev μ-loop : tie.MeasureT-loop
 μ-loop i hand kept₀ j₀ kept j = 3 - j
 
--- src/lib.rt:25:5
 loop-holds : tie.Need-loop-holds Inv-loop μ-loop
 loop-holds c = start-keep _ _
 
--- src/lib.rt:26:40
 mul-chosen : tie.Need-mul-chosen Inv-loop μ-loop
 mul-chosen c = omega arith
 
--- src/lib.rt:26:40
 array-read-chosen : tie.Need-array-read-chosen Inv-loop μ-loop
 array-read-chosen c = omega arith
 
--- src/lib.rt:26:54
 add-chosen : tie.Need-add-chosen Inv-loop μ-loop
 add-chosen c = omega arith
 
--- src/lib.rt:26:49
 mul-chosen-2 : tie.Need-mul-chosen-2 Inv-loop μ-loop
 mul-chosen-2 c = omega arith
 
--- src/lib.rt:26:49
 array-read-chosen-2 : tie.Need-array-read-chosen-2 Inv-loop μ-loop
 array-read-chosen-2 c = omega arith
 
--- src/lib.rt:26:19
 chosen-requires : tie.Need-chosen-requires Inv-loop μ-loop
 chosen-requires c κs = search needs
 
--- src/lib.rt:26:9
 mul-kept : tie.Need-mul-kept Inv-loop μ-loop
 mul-kept c = omega arith
 
--- src/lib.rt:26:9
 array-write-kept : tie.Need-array-write-kept Inv-loop μ-loop
 array-write-kept c = omega arith
 
--- src/lib.rt:27:9
 add-j : tie.Need-add-j Inv-loop μ-loop
 add-j c = omega arith
 
--- src/lib.rt:25:5
 loop-less : tie.Need-loop-less Inv-loop μ-loop
 loop-less c = omega arith
 
--- src/lib.rt:25:5
 loop-again : tie.Need-loop-again Inv-loop μ-loop
 loop-again c = more-keep _ _ _ _ (c .before .before .loop .inv) (c .before .loop-test .taken) (c .chosen .ensures)
 
--- src/lib.rt:20:1
 returns : tie.Need-returns Inv-loop μ-loop
 returns c = end-keep _ _ _ _ (c .before .loop .inv) (c .loop-test .left)
 

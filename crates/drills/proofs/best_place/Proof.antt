@@ -3,41 +3,28 @@ use borrow.Author.Needs.{needs}
 use Rattle.drills.proofs.Placing.{place-empty, found-place}
 use Rattle.drills.proofs.best_place.Statement.{statement}
 use Rattle.drills.proofs.best_place.Tie as tie
-use Rattle.drills.proofs.best_place.Reads as reads
-use Rattle.drills.proofs.best_place.Lts as lts
-use Rattle.drill_turns.proofs.Play.start.Reads as start-reads
-use Rattle.drill_turns.proofs.first_turn.Reads as first-turn-reads
-use Rattle.drills.proofs.joined.Reads as joined-reads
 
--- src/lib.rt:82:9
 returns : tie.Need-returns
 returns c = place-empty (c .before .before .args .rules) (c .before .before .args .first) (c .before .before .args .second) (c .before .before .pre) (c .if1 .taken)
 
--- src/lib.rt:86:18
 joined-requires : tie.Need-joined-requires
 joined-requires c κs = search needs
 
--- src/lib.rt:87:28
 cast-start : tie.Need-cast-start
 cast-start c = search needs
 
--- src/lib.rt:87:50
 cast-start-2 : tie.Need-cast-start-2
 cast-start-2 c = search needs
 
--- src/lib.rt:87:9
 start-requires : tie.Need-start-requires
 start-requires c κs = search needs
 
--- src/lib.rt:88:16
 slice-aggregate-first-turn : tie.Need-slice-aggregate-first-turn
 slice-aggregate-first-turn c = search needs
 
--- src/lib.rt:88:5
 first-turn-requires : tie.Need-first-turn-requires
 first-turn-requires c κs = search needs
 
--- src/lib.rt:76:1
 returns-2 : tie.Need-returns-2
 returns-2 c =
     found-place (c .before .before .before .before .before .before .before .before .before .before .args .rules) (c .before .before .before .before .before .before .before .before .before .before .args .first) (c .before .before .before .before .before .before .before .before .before .before .args .second) (c .before .before .before .before .before .before .before .before .before .before .pre) (c .before .before .before .before .before .joined .ensures) _ (c .before .before .start .ensures) (c .first-turn .ensures)

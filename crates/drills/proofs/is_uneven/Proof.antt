@@ -6,8 +6,6 @@ use Rattle.drills.specs.Drills.{uneven}
 use Rattle.drills.proofs.Judging.{Looking, start-look, more-look, end-look}
 use Rattle.drills.proofs.is_uneven.Statement.{statement}
 use Rattle.drills.proofs.is_uneven.Tie as tie
-use Rattle.drills.proofs.is_uneven.Reads as reads
-use Rattle.drills.proofs.is_uneven.Lts as lts
 
 abbrev Inv-loop : tie.InvT-loop
 Inv-loop dimensions columns count found₀ i₀ found i = Looking columns count dimensions found i
@@ -15,35 +13,27 @@ Inv-loop dimensions columns count found₀ i₀ found i = Looking columns count 
 abbrev μ-loop : tie.MeasureT-loop
 μ-loop dimensions columns count found₀ i₀ found i = count - i
 
--- src/lib.rt:35:17
 cast-count : tie.Need-cast-count Inv-loop μ-loop
 cast-count c = search needs
 
--- src/lib.rt:38:5
 loop-holds : tie.Need-loop-holds Inv-loop μ-loop
 loop-holds c = start-look _ _ _ (omega arith)
 
--- src/lib.rt:39:26
 mul-found : tie.Need-mul-found Inv-loop μ-loop
 mul-found c = omega (arith, c .before .loop .inv .room)
 
--- src/lib.rt:39:26
 array-read-found : tie.Need-array-read-found Inv-loop μ-loop
 array-read-found c = omega (arith, c .before .loop .inv .room)
 
--- src/lib.rt:40:9
 add-i : tie.Need-add-i Inv-loop μ-loop
 add-i c = omega (arith, c .before .loop .inv .room)
 
--- src/lib.rt:38:5
 loop-less : tie.Need-loop-less Inv-loop μ-loop
 loop-less c = omega arith
 
--- src/lib.rt:38:5
 loop-again : tie.Need-loop-again Inv-loop μ-loop
 loop-again c = more-look _ _ _ _ _ (c .before .loop .inv) (c .loop-test .taken)
 
--- src/lib.rt:30:1
 returns : tie.Need-returns Inv-loop μ-loop
 unfolding uneven
 returns c = end-look _ _ _ _ _ (c .before .loop .inv) (c .loop-test .left)

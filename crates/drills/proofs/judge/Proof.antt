@@ -3,21 +3,13 @@ use borrow.Author.Needs.{needs}
 use Rattle.drills.proofs.Judging.{by-head, by-settings, by-size, by-columns, by-window, by-none, few-first, few-second}
 use Rattle.drills.proofs.judge.Statement.{statement}
 use Rattle.drills.proofs.judge.Tie as tie
-use Rattle.drills.proofs.judge.Reads as reads
-use Rattle.drills.proofs.judge.Lts as lts
-use Rattle.drills.proofs.is_uneven.Reads as is-uneven-reads
-use Rattle.head.proofs.Head.fresh.Reads as fresh-reads
-use Rattle.head.proofs.Head.settings_hold.Reads as settings-hold-reads
 
--- src/lib.rt:50:9
 fresh-requires : tie.Need-fresh-requires
 fresh-requires c κs = search needs
 
--- src/lib.rt:50:9
 settings-hold-requires : tie.Need-settings-hold-requires
 settings-hold-requires c κs = search needs
 
--- src/lib.rt:51:9
 returns : tie.Need-returns
 returns c =
     let rules = c .before .before .before .args .rules in
@@ -25,7 +17,6 @@ returns c =
     let second = c .before .before .before .args .second in
     by-settings rules first second (by-head rules first second (c .before .before .fresh .ensures) (c .before .settings-hold .ensures)) (c .if1 .taken)
 
--- src/lib.rt:54:9
 returns-2 : tie.Need-returns-2
 returns-2 c =
     let rules = c .before .before .before .before .before .before .before .args .rules in
@@ -33,7 +24,6 @@ returns-2 c =
     let second = c .before .before .before .before .before .before .before .args .second in
     by-size rules first second (by-head rules first second (c .before .before .before .before .before .before .fresh .ensures) (c .before .before .before .before .before .settings-hold .ensures)) (c .before .before .before .before .if1 .left) (c .if2 .taken)
 
--- src/lib.rt:56:8
 is-uneven-requires : tie.Need-is-uneven-requires
 is-uneven-requires c κs =
     let rules = c .before .before .before .before .before .before .before .args .rules in
@@ -41,7 +31,6 @@ is-uneven-requires c κs =
     let second = c .before .before .before .before .before .before .before .args .second in
     few-first rules first second (c .if2 .left)
 
--- src/lib.rt:56:30
 is-uneven-requires-2 : tie.Need-is-uneven-requires-2
 is-uneven-requires-2 c κs =
     let rules = c .before .before .before .before .before .before .before .before .args .rules in
@@ -49,7 +38,6 @@ is-uneven-requires-2 c κs =
     let second = c .before .before .before .before .before .before .before .before .args .second in
     few-second rules first second (c .before .if2 .left)
 
--- src/lib.rt:57:9
 returns-3 : tie.Need-returns-3
 returns-3 c =
     let rules = c .before .before .before .before .before .before .before .before .before .before .args .rules in
@@ -58,7 +46,6 @@ returns-3 c =
     by-columns rules first second (by-head rules first second (c .before .before .before .before .before .before .before .before .before .fresh .ensures) (c .before .before .before .before .before .before .before .before .settings-hold .ensures)) (c .before .before .before .before .before .before .before .if1 .left) (c .before .before .before .if2 .left)
     (c .before .before .is-uneven .ensures) (c .before .is-uneven2 .ensures) (c .if3 .taken)
 
--- src/lib.rt:60:9
 returns-4 : tie.Need-returns-4
 returns-4 c =
     let rules = c .before .before .before .before .before .before .before .before .before .before .before .before .before .args .rules in
@@ -68,7 +55,6 @@ returns-4 c =
     (c .before .before .before .before .before .before .if2 .left) (c .before .before .before .before .before .is-uneven .ensures) (c .before .before .before .before .is-uneven2 .ensures)
     (c .before .before .before .if3 .left) (c .if4 .taken)
 
--- src/lib.rt:46:1
 returns-5 : tie.Need-returns-5
 returns-5 c =
     let rules = c .before .before .before .before .before .before .before .before .before .before .before .before .before .args .rules in

@@ -4,90 +4,69 @@ use Rattle.frames.specs.Frames.{saying}
 use Rattle.hand_files.specs.Files.{columnsIn}
 use Rattle.hand_files.proofs.columns_in.Statement.{statement}
 use Rattle.hand_files.proofs.columns_in.Tie as tie
-use Rattle.hand_files.proofs.columns_in.Reads as reads
-use Rattle.hand_files.proofs.columns_in.Lts as lts
 
--- src/lib.rt:81:24
 enum-known-message : tie.Need-enum-known-message
 enum-known-message c = search needs
 
--- src/lib.rt:81:30
 cast-result : tie.Need-cast-result
 cast-result c = search needs
 
--- src/lib.rt:82:33
 enum-told : tie.Need-enum-told
 enum-told c = search needs
 
--- src/lib.rt:83:37
 enum-told-2 : tie.Need-enum-told-2
 enum-told-2 c = search needs
 
--- src/lib.rt:84:35
 enum-told-3 : tie.Need-enum-told-3
 enum-told-3 c = search needs
 
--- src/lib.rt:85:29
 enum-told-4 : tie.Need-enum-told-4
 enum-told-4 c = search needs
 
--- src/lib.rt:86:36
 enum-told-5 : tie.Need-enum-told-5
 enum-told-5 c = search needs
 
--- src/lib.rt:87:35
 enum-told-6 : tie.Need-enum-told-6
 enum-told-6 c = search needs
 
--- src/lib.rt:88:31
 enum-told-7 : tie.Need-enum-told-7
 enum-told-7 c = search needs
 
--- src/lib.rt:89:32
 enum-told-8 : tie.Need-enum-told-8
 enum-told-8 c = search needs
 
--- src/lib.rt:77:1
 returns : tie.Need-returns
 unfolding columnsIn saying
 returns c = search needs
 
--- src/lib.rt:77:1
 returns-2 : tie.Need-returns-2
 unfolding columnsIn saying
 returns-2 c = search needs
 
--- src/lib.rt:77:1
 returns-3 : tie.Need-returns-3
 unfolding columnsIn saying
 returns-3 c = search needs
 
--- src/lib.rt:77:1
 returns-4 : tie.Need-returns-4
 unfolding columnsIn saying
 returns-4 c = search needs
 
--- src/lib.rt:77:1
 returns-5 : tie.Need-returns-5
 unfolding columnsIn saying
 returns-5 c = search needs
 
--- src/lib.rt:77:1
 returns-6 : tie.Need-returns-6
 unfolding columnsIn saying
 returns-6 c = search needs
 
--- src/lib.rt:77:1
 returns-7 : tie.Need-returns-7
 unfolding columnsIn saying
 returns-7 c = search needs
 
--- src/lib.rt:77:1
 returns-8 : tie.Need-returns-8
 unfolding columnsIn saying
 returns-8 c = search needs
 
--- src/lib.rt:77:1
 returns-9 : tie.Need-returns-9
 unfolding columnsIn saying
 returns-9 c = search needs

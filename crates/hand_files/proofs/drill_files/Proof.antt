@@ -3,35 +3,25 @@ use borrow.Author.Needs.{needs}
 use Rattle.hand_files.proofs.Lines.{first-refused, second-refused, both-taken}
 use Rattle.hand_files.proofs.drill_files.Statement.{statement}
 use Rattle.hand_files.proofs.drill_files.Tie as tie
-use Rattle.hand_files.proofs.drill_files.Reads as reads
-use Rattle.hand_files.proofs.drill_files.Lts as lts
-use Rattle.drills.proofs.drill.Reads as drill-reads
-use Rattle.hand_files.proofs.read_hand.Reads as read-hand-reads
 
--- src/lib.rt:140:9
 read-hand-requires : tie.Need-read-hand-requires
 read-hand-requires c κs = search needs
 
--- src/lib.rt:142:28
 enum-known-answer : tie.Need-enum-known-answer
 enum-known-answer c = search needs
 
--- src/lib.rt:143:9
 returns : tie.Need-returns
 returns c = first-refused _ _ _ (c .before .before .before .read-hand .result) (c .before .before .before .read-hand .ensures) _ (c .before .answer .given .1)
 
 enum-told : tie.Need-enum-told
 enum-told c = search needs
 
--- src/lib.rt:145:9
 read-hand-requires-2 : tie.Need-read-hand-requires-2
 read-hand-requires-2 c κs = search needs
 
--- src/lib.rt:147:28
 enum-known-answer-2 : tie.Need-enum-known-answer-2
 enum-known-answer-2 c = search needs
 
--- src/lib.rt:148:9
 returns-2 : tie.Need-returns-2
 returns-2 c =
     second-refused _ _ _ (c .before .before .before .before .before .before .read-hand .result) (c .before .before .before .before .before .before .read-hand .ensures) (c .before .before .before .before .enum-told .given .1)
@@ -40,11 +30,9 @@ returns-2 c =
 enum-told-2 : tie.Need-enum-told-2
 enum-told-2 c = search needs
 
--- src/lib.rt:152:5
 drill-requires : tie.Need-drill-requires
 drill-requires c κs = search needs
 
--- src/lib.rt:137:1
 returns-3 : tie.Need-returns-3
 returns-3 c =
     both-taken _ _ _ (c .before .before .before .before .before .before .before .before .read-hand .result) (c .before .before .before .before .before .before .before .before .read-hand .ensures)

@@ -4,8 +4,6 @@ use native.Mathlib.Omega.{arith}
 use Rattle.hand_files.proofs.Handing.{Entering, start-enter, more-enter, end-enter}
 use Rattle.hand_files.proofs.entered.Statement.{statement}
 use Rattle.hand_files.proofs.entered.Tie as tie
-use Rattle.hand_files.proofs.entered.Reads as reads
-use Rattle.hand_files.proofs.entered.Lts as lts
 
 abbrev Inv-loop : tie.InvT-loop
 Inv-loop at quote after₀ j₀ after j = Entering after₀ at quote after j
@@ -13,43 +11,33 @@ Inv-loop at quote after₀ j₀ after j = Entering after₀ at quote after j
 abbrev μ-loop : tie.MeasureT-loop
 μ-loop at quote after₀ j₀ after j = 6 - j
 
--- src/lib.rt:42:5
 loop-holds : tie.Need-loop-holds Inv-loop μ-loop
 loop-holds c = start-enter _ _ _
 
--- src/lib.rt:43:25
 mul-after : tie.Need-mul-after Inv-loop μ-loop
 mul-after c = omega arith
 
--- src/lib.rt:43:25
 array-read-after : tie.Need-array-read-after Inv-loop μ-loop
 array-read-after c = omega arith
 
--- src/lib.rt:43:15
 add-after : tie.Need-add-after Inv-loop μ-loop
 add-after c = omega arith
 
--- src/lib.rt:43:9
 mul-after-2 : tie.Need-mul-after-2 Inv-loop μ-loop
 mul-after-2 c = omega arith
 
--- src/lib.rt:43:9
 array-write-after : tie.Need-array-write-after Inv-loop μ-loop
 array-write-after c = omega arith
 
--- src/lib.rt:44:9
 add-j : tie.Need-add-j Inv-loop μ-loop
 add-j c = omega arith
 
--- src/lib.rt:42:5
 loop-less : tie.Need-loop-less Inv-loop μ-loop
 loop-less c = omega arith
 
--- src/lib.rt:42:5
 loop-again : tie.Need-loop-again Inv-loop μ-loop
 loop-again c = more-enter _ _ _ _ _ (c .before .loop .inv) (c .loop-test .taken)
 
--- src/lib.rt:36:1
 returns : tie.Need-returns Inv-loop μ-loop
 returns c = end-enter _ _ _ _ _ (c .before .loop .inv) (c .loop-test .left)
 

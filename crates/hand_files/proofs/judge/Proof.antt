@@ -5,86 +5,66 @@ use Rattle.frames.specs.Frames.{saying}
 use Rattle.hand_files.specs.Files.{numberIn}
 use Rattle.hand_files.proofs.judge.Statement.{statement}
 use Rattle.hand_files.proofs.judge.Tie as tie
-use Rattle.hand_files.proofs.judge.Reads as reads
-use Rattle.hand_files.proofs.judge.Lts as lts
 
--- src/lib.rt:64:30
 enum-told : tie.Need-enum-told
 enum-told c = search needs
 
--- src/lib.rt:65:49
 enum-told-2 : tie.Need-enum-told-2
 enum-told-2 c = search needs
 
--- src/lib.rt:66:53
 enum-told-3 : tie.Need-enum-told-3
 enum-told-3 c = search needs
 
--- src/lib.rt:67:51
 enum-told-4 : tie.Need-enum-told-4
 enum-told-4 c = search needs
 
--- src/lib.rt:68:45
 enum-told-5 : tie.Need-enum-told-5
 enum-told-5 c = search needs
 
--- src/lib.rt:69:52
 enum-told-6 : tie.Need-enum-told-6
 enum-told-6 c = search needs
 
--- src/lib.rt:70:51
 enum-told-7 : tie.Need-enum-told-7
 enum-told-7 c = search needs
 
--- src/lib.rt:71:47
 enum-told-8 : tie.Need-enum-told-8
 enum-told-8 c = search needs
 
--- src/lib.rt:72:26
 enum-known-message : tie.Need-enum-known-message
 enum-known-message c = search needs
 
--- src/lib.rt:60:1
 returns : tie.Need-returns
 unfolding numberIn saying
 returns c = search needs
 
--- src/lib.rt:60:1
 returns-2 : tie.Need-returns-2
 unfolding numberIn saying
 returns-2 c = search needs
 
--- src/lib.rt:60:1
 returns-3 : tie.Need-returns-3
 unfolding numberIn saying
 returns-3 c = search needs
 
--- src/lib.rt:60:1
 returns-4 : tie.Need-returns-4
 unfolding numberIn saying
 returns-4 c = search needs
 
--- src/lib.rt:60:1
 returns-5 : tie.Need-returns-5
 unfolding numberIn saying
 returns-5 c = search needs
 
--- src/lib.rt:60:1
 returns-6 : tie.Need-returns-6
 unfolding numberIn saying
 returns-6 c = search needs
 
--- src/lib.rt:60:1
 returns-7 : tie.Need-returns-7
 unfolding numberIn saying
 returns-7 c = search needs
 
--- src/lib.rt:60:1
 returns-8 : tie.Need-returns-8
 unfolding numberIn saying
 returns-8 c = search needs
 
--- src/lib.rt:60:1
 returns-9 : tie.Need-returns-9
 returns-9 c = refused-in (c .before .message .given .1)
 

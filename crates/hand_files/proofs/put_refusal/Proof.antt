@@ -3,23 +3,16 @@ use borrow.Author.Needs.{needs}
 use Rattle.hand_files.specs.Files.{lineOf}
 use Rattle.hand_files.proofs.put_refusal.Statement.{statement}
 use Rattle.hand_files.proofs.put_refusal.Tie as tie
-use Rattle.hand_files.proofs.put_refusal.Reads as reads
-use Rattle.hand_files.proofs.put_refusal.Lts as lts
-use Rattle.text.proofs.put_line.Reads as put-line-reads
 
--- src/lib.rt:190:24
 slice-aggregate-put-line : tie.Need-slice-aggregate-put-line
 slice-aggregate-put-line c = search needs
 
--- src/lib.rt:190:5
 put-line-requires : tie.Need-put-line-requires
 put-line-requires c κs = search needs
 
--- src/lib.rt:185:1
 same-length : tie.Need-same-length
 same-length c = search needs
 
--- src/lib.rt:185:1
 returns : tie.Need-returns
 unfolding lineOf
 returns c = c .before .before .put-line .ensures

@@ -8,49 +8,37 @@ use Rattle.text.proofs.Lines.{behind-first, of-front, line2-short}
 use Rattle.hand_files.specs.Files.{lineOf}
 use Rattle.hand_files.proofs.put_yes.Statement.{statement}
 use Rattle.hand_files.proofs.put_yes.Tie as tie
-use Rattle.hand_files.proofs.put_yes.Reads as reads
-use Rattle.hand_files.proofs.put_yes.Lts as lts
-use Rattle.text.proofs.put_line2.Reads as put-line2-reads
 
--- src/lib.rt:170:5
 slice-write-text : tie.Need-slice-write-text
 slice-write-text c = search needs
 
--- src/lib.rt:171:42
 slice-aggregate-put-line2 : tie.Need-slice-aggregate-put-line2
 slice-aggregate-put-line2 c = search needs
 
--- src/lib.rt:171:52
 sub-put-line2 : tie.Need-sub-put-line2
 sub-put-line2 c = simp length-set (omega arith)
 
--- src/lib.rt:171:52
 part-put-line2-start : tie.Need-part-put-line2-start
 part-put-line2-start c = simp length-set (omega arith)
 
--- src/lib.rt:171:52
 part-put-line2-end : tie.Need-part-put-line2-end
 part-put-line2-end c = search needs
 
--- src/lib.rt:171:9
 put-line2-requires : tie.Need-put-line2-requires
 put-line2-requires c κs = simp (length-take, length-drop, length-set) (omega arith)
 
--- src/lib.rt:172:5
 add-result : tie.Need-add-result
 add-result c =
     let at-put = c .before .before in
     let a = at-put .before .before .before .before .args in
     omega (arith, at-put .put-line2 .ensures .counted, line2-short 101 115 (a .place ∷ []))
 
--- src/lib.rt:165:1
 same-length : tie.Need-same-length
 same-length c =
     let at-put = c .before .before in
     let a = at-put .before .before .before .before .args in
     behind-first _ _ {before = now (a .text)} (omega (arith, line2-short 101 115 (a .place ∷ []))) (at-put .put-line2 .ensures) .long
 
--- src/lib.rt:165:1
 returns : tie.Need-returns
 unfolding lineOf
 returns c =

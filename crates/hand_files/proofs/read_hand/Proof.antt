@@ -6,13 +6,6 @@ use lib.ListN.{length}
 use Rattle.hand_files.proofs.Handing.{Gathering, start-gather, more-gather, moves-on, out-gather, end-gather}
 use Rattle.hand_files.proofs.read_hand.Statement.{statement}
 use Rattle.hand_files.proofs.read_hand.Tie as tie
-use Rattle.hand_files.proofs.read_hand.Reads as reads
-use Rattle.hand_files.proofs.read_hand.Lts as lts
-use Rattle.frames.proofs.read_at.Reads as read-at-reads
-use Rattle.hand_files.proofs.columns_in.Reads as columns-in-reads
-use Rattle.hand_files.proofs.judge.Reads as judge-reads
-use Rattle.hand_files.proofs.none.Reads as none-reads
-use Rattle.hand_files.proofs.with_quote.Reads as with-quote-reads
 
 abbrev Inv-loop : tie.InvT-loop
 Inv-loop file hand₀ place₀ hand place = Gathering file hand place
@@ -20,27 +13,21 @@ Inv-loop file hand₀ place₀ hand place = Gathering file hand place
 abbrev μ-loop : tie.MeasureT-loop
 μ-loop file hand₀ place₀ hand place = length file - place
 
--- src/lib.rt:97:9
 none-requires : tie.Need-none-requires Inv-loop μ-loop
 none-requires c κs = search needs
 
--- src/lib.rt:99:5
 loop-holds : tie.Need-loop-holds Inv-loop μ-loop
 loop-holds c = start-gather _ (c .none .ensures)
 
--- src/lib.rt:100:13
 read-at-requires : tie.Need-read-at-requires Inv-loop μ-loop
 read-at-requires c κs = search needs
 
--- src/lib.rt:102:13
 judge-requires : tie.Need-judge-requires Inv-loop μ-loop
 judge-requires c κs = search needs
 
--- src/lib.rt:104:29
 enum-known-answer : tie.Need-enum-known-answer Inv-loop μ-loop
 enum-known-answer c = search needs
 
--- src/lib.rt:105:17
 returns : tie.Need-returns Inv-loop μ-loop
 returns c =
     out-gather (c .before .before .before .before .before .before .before .before .before .args .file .now) (c .before .before .before .before .before .before .loop .hand) (c .before .before .before .before .before .before .loop .place) (c .before .before .before .before .before .before .loop .inv) (c .before .before .before .before .read-at .result) (c .before .before .before .before .read-at .ensures) (c .before .before .before .before .before .loop-test .taken) _
@@ -49,30 +36,25 @@ returns c =
 enum-told : tie.Need-enum-told Inv-loop μ-loop
 enum-told c = search needs
 
--- src/lib.rt:113:33
 columns-in-requires : tie.Need-columns-in-requires Inv-loop μ-loop
 columns-in-requires c κs = search needs
 
--- src/lib.rt:113:9
 with-quote-requires : tie.Need-with-quote-requires Inv-loop μ-loop
 with-quote-requires c κs = search needs
 
--- src/lib.rt:99:5
 loop-less : tie.Need-loop-less Inv-loop μ-loop
 loop-less c =
     let on =
-      moves-on (c .before .before .before .before .before .before .before .before .before .before .before .args .file .now) (c .before .before .before .before .before .before .before .before .loop .hand) (c .before .before .before .before .before .before .before .before .loop .place) (c .before .before .before .before .before .before .before .before .loop .inv) (c .before .before .before .before .before .before .read-at .result) (c .before .before .before .before .before .before .read-at .ensures)
-      (c .before .before .before .before .before .before .before .loop-test .taken) (c .before .before .before .before .before .judge .ensures) (c .before .before .before .enum-told .given .1) in
+    moves-on (c .before .before .before .before .before .before .before .before .before .before .before .args .file .now) (c .before .before .before .before .before .before .before .before .loop .hand) (c .before .before .before .before .before .before .before .before .loop .place) (c .before .before .before .before .before .before .before .before .loop .inv) (c .before .before .before .before .before .before .read-at .result) (c .before .before .before .before .before .before .read-at .ensures)
+    (c .before .before .before .before .before .before .before .loop-test .taken) (c .before .before .before .before .before .judge .ensures) (c .before .before .before .enum-told .given .1) in
     omega (arith, on, c .before .before .before .before .before .before .before .loop-test .taken)
 
--- src/lib.rt:99:5
 loop-again : tie.Need-loop-again Inv-loop μ-loop
 loop-again c =
     more-gather (c .before .before .before .before .before .before .before .before .before .before .before .args .file .now) (c .before .before .before .before .before .before .before .before .loop .hand) (c .before .before .before .before .before .before .before .before .loop .place) (c .before .before .before .before .before .before .before .before .loop .inv) (c .before .before .before .before .before .before .read-at .result) (c .before .before .before .before .before .before .read-at .ensures)
     (c .before .before .before .before .before .before .before .loop-test .taken) (c .before .before .before .before .before .judge .ensures) (c .before .before .before .enum-told .given .1) (c .before .columns-in .ensures)
     (c .with-quote .ensures)
 
--- src/lib.rt:94:1
 returns-2 : tie.Need-returns-2 Inv-loop μ-loop
 returns-2 c = end-gather _ _ _ (c .before .loop .inv) (c .loop-test .left)
 

@@ -4,31 +4,22 @@ use borrow.Author.Needs.{needs}
 use Rattle.hand_files.specs.Files.{askedBy}
 use Rattle.hand_files.proofs.rules_in.Statement.{statement}
 use Rattle.hand_files.proofs.rules_in.Tie as tie
-use Rattle.hand_files.proofs.rules_in.Reads as reads
-use Rattle.hand_files.proofs.rules_in.Lts as lts
-use Rattle.line_fields.proofs.fields_from.Reads as fields-from-reads
 
--- src/lib.rt:151:9
 fields-from-requires : tie.Need-fields-from-requires
 fields-from-requires c κs = search needs
 
--- src/lib.rt:156:25
 array-read-t10 : tie.Need-array-read-t10
 array-read-t10 c = search needs
 
--- src/lib.rt:157:23
 array-read-t13 : tie.Need-array-read-t13
 array-read-t13 c = search needs
 
--- src/lib.rt:158:25
 array-read-t16 : tie.Need-array-read-t16
 array-read-t16 c = search needs
 
--- src/lib.rt:159:16
 array-read-t19 : tie.Need-array-read-t19
 array-read-t19 c = search needs
 
--- src/lib.rt:148:1
 returns : tie.Need-returns
 unfolding askedBy
 returns c = ap askedBy (c .before .before .before .before .fields-from .ensures)

@@ -4,18 +4,13 @@ use lib.ListN.{length-take}
 use borrow.Author.Needs.{needs}
 use Rattle.quoting_drill.proofs.front.Statement.{statement}
 use Rattle.quoting_drill.proofs.front.Tie as tie
-use Rattle.quoting_drill.proofs.front.Reads as reads
-use Rattle.quoting_drill.proofs.front.Lts as lts
 
--- src/main.rt:30:9
 slice-aggregate-result : tie.Need-slice-aggregate-result
 slice-aggregate-result c = simp length-take (omega arith)
 
--- src/main.rt:30:9
 returns : tie.Need-returns
 returns c = search needs
 
--- src/main.rt:28:1
 returns-2 : tie.Need-returns-2
 returns-2 c = search needs
 

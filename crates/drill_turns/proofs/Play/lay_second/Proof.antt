@@ -3,39 +3,28 @@ use borrow.Author.Needs.{needs}
 use Rattle.drill_turns.proofs.Playing.{laid-second}
 use Rattle.drill_turns.proofs.Play.lay_second.Statement.{statement}
 use Rattle.drill_turns.proofs.Play.lay_second.Tie as tie
-use Rattle.drill_turns.proofs.Play.lay_second.Reads as reads
-use Rattle.drill_turns.proofs.Play.lay_second.Lts as lts
-use Rattle.drill_turns.proofs.left.Reads as left-reads
 
--- src/lib.rt:88:20
 mul-laid : tie.Need-mul-laid
 mul-laid c = search needs
 
--- src/lib.rt:88:20
 array-read-laid : tie.Need-array-read-laid
 array-read-laid c = search needs
 
--- src/lib.rt:88:9
 mul-laid-2 : tie.Need-mul-laid-2
 mul-laid-2 c = search needs
 
--- src/lib.rt:88:9
 array-write-laid : tie.Need-array-write-laid
 array-write-laid c = search needs
 
--- src/lib.rt:89:13
 left-requires : tie.Need-left-requires
 left-requires c κs = search needs
 
--- src/lib.rt:94:27
 sub-t8 : tie.Need-sub-t8
 sub-t8 c = search needs
 
--- src/lib.rt:96:25
 add-t12 : tie.Need-add-t12
 add-t12 c = search needs
 
--- src/lib.rt:79:5
 returns : tie.Need-returns
 returns c = laid-second _ _ _ (c .before .before .before .before .before .pre .0) (c .before .before .before .before .before .pre .1) (c .before .left .ensures)
 
