@@ -1,11 +1,8 @@
 // The last list of the drill: whether a quote of the first side stands on it, once quotes were laid on a fresh book.
 ghost use mathlib.Core.Path.{_≡_};
-ghost use mathlib.Core.Bool.{true};
-ghost use mathlib.Core.List.{map};
 ghost use Prim.Native.Nat.{_+_, _-_, _*_, _%_, _<_, _≤_};
 ghost use lib.Dec.{ltb};
-ghost use lib.ListN.{length, getD, take};
-ghost use Rattle.lists.specs.Lists.{run, any};
+ghost use lib.ListN.{take};
 ghost use Rattle.drill_lists.specs.Numbers.{Fits, overAt, dominatedAt, wonBy};
 use dominance::compare;
 

@@ -21,4 +21,5 @@ module _ (d N directions n : ℕ) (hold : settingsHold d N directions ≡ true) 
       → lastList d N directions n laid ≡ skylineOf (plays (map (λ q. q .columns) laid) (tapeOpening (freshHead d N directions) .next)) n
   unfolding lastList fedBook opening
   laid-list laid wide room =
-      ap (λ s. skylineOf s n) (sym (ap (plays (map (λ (q : Held). q .columns) laid)) opened ∙ opening-plays d N directions hold (map (λ q. q .columns) laid) wide room))
+      ap (λ s. skylineOf s n) (sym (ap (plays (map (λ (q : Held). q .columns) laid)) opened
+          ∙ opening-plays d N directions hold (map (λ q. q .columns) laid) wide room))

@@ -17,7 +17,8 @@ module _ (rules : Rules) (first second : Hand) where
       drillPlace (rules .dimensions) (rules .capacity) (rules .directions) (rules .n) (quotesOf (rules .dimensions) first)
       (quotesOf (rules .dimensions) second)
 
-  pub refused-says : {a : Answer} {k : Refusal} → numberOf a ≡ firstOf (refusals rules first second) → a ≡ Refused k → refused (number k) ≡ drilled rules first second
+  pub refused-says : {a : Answer} {k : Refusal} → numberOf a ≡ firstOf (refusals rules first second) → a ≡ Refused k
+      → refused (number k) ≡ drilled rules first second
   unfolding drilled
   refused-says {a} {k} e f =
       let m : firstOf (refusals rules first second) ≡ number k = refused-number a k e f in

@@ -59,7 +59,8 @@ refused-in e = rw e
 -- a quote was read: the place behind it is further on
 quote-on : (file : List ℕ) (place : ℕ) → numberIn (readAt file place .says) ≡ 0 → place < readAt file place .next
 unfolding readAt stays numberIn
-quote-on file place = go (ltb (length file) place) (eqb place (length file)) (eqb (bodyLength (getD file place 0)) 255) (ltb (length file) (place + 1 + bodyLength (getD file place 0)))
+quote-on file place = go (ltb (length file) place) (eqb place (length file)) (eqb (bodyLength (getD file place 0)) 255)
+    (ltb (length file) (place + 1 + bodyLength (getD file place 0)))
   where
     whole : Reading
     whole = record {
@@ -69,8 +70,10 @@ quote-on file place = go (ltb (length file) place) (eqb place (length file)) (eq
     }
 
     go : (a b c e : Bool)
-        → numberIn (cond a (stays (Frames.refused 2) place) (cond b (stays Frames.ended place) (cond c (stays (Frames.refused 1) place) (cond e (stays (Frames.refused 2) place) whole))) .says) ≡ 0
-        → place < cond a (stays (Frames.refused 2) place) (cond b (stays Frames.ended place) (cond c (stays (Frames.refused 1) place) (cond e (stays (Frames.refused 2) place) whole))) .next
+        → numberIn (cond a (stays (Frames.refused 2) place)
+            (cond b (stays Frames.ended place) (cond c (stays (Frames.refused 1) place) (cond e (stays (Frames.refused 2) place) whole))) .says) ≡ 0
+        → place < cond a (stays (Frames.refused 2) place)
+            (cond b (stays Frames.ended place) (cond c (stays (Frames.refused 1) place) (cond e (stays (Frames.refused 2) place) whole))) .next
     go true b c e h = absurd (omega arith)
     go false true c e h = absurd (omega arith)
     go false false true e h = absurd (omega arith)
@@ -108,7 +111,8 @@ module _ (file : List ℕ) (hand : Hand) (place : ℕ) (within : place < length 
     same = sym (step most ∙ accept r) ∙ s;
   }
     where
-      accept : refusal ≡ 0 → granted refusal (handFrom most file (readAt file place .next) next) (refusal, hand) ≡ handFrom most file (readAt file place .next) next
+      accept : refusal ≡ 0 → granted refusal (handFrom most file (readAt file place .next) next) (refusal, hand) ≡ handFrom most file
+          (readAt file place .next) next
       accept z = rw z
 
   gathered-out : (most : ℕ) → length file ≤ place + most → handFrom most file place hand ≡ handIn file → (k : Refusal) → refusal ≡ number k
@@ -119,7 +123,8 @@ module _ (file : List ℕ) (hand : Hand) (place : ℕ) (within : place < length 
       refuse : refusal ≡ number k → granted refusal (handFrom most file (readAt file place .next) next) (refusal, hand) ≡ (number k, hand)
       refuse z = rw z (refused-granted k (handFrom most file (readAt file place .next) next) (number k, hand))
 
-module _ (file : List ℕ) (hand : Hand) (place : ℕ) (g : Gathering file hand place) (r : Read) (e : reading r ≡ readAt file place) (within : place < length file) where
+module _ (file : List ℕ) (hand : Hand) (place : ℕ) (g : Gathering file hand place) (r : Read) (e : reading r ≡ readAt file place)
+    (within : place < length file) where
   says : saying (r .message) ≡ readAt file place .says
   unfolding reading
   says = ap Reading.says e

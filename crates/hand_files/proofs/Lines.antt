@@ -32,7 +32,8 @@ module _ (rules : Rules) (first second : List ℕ) (one : Handful) (e : handed o
         let n : handIn second .0 ≡ number k = sym (ap (λ (x : ℕ × Hand). x .0) u) ∙ ap numberOf f in
         rw (taken, n) (sym (refused-granted k _ (Drills.refused (number k))))
 
-    pub both-taken : two .answer ≡ Answer.Accepted → {s : Drills.Saying} → s ≡ Drills.drilled rules (one .hand) (two .hand) → s ≡ filesDrilled rules first second
+    pub both-taken : two .answer ≡ Answer.Accepted → {s : Drills.Saying} → s ≡ Drills.drilled rules (one .hand) (two .hand)
+        → s ≡ filesDrilled rules first second
     unfolding filesDrilled granted
     both-taken b d =
         let n : handIn second .0 ≡ 0 = sym (ap (λ (x : ℕ × Hand). x .0) u) ∙ ap numberOf b in

@@ -19,7 +19,9 @@ loop-holds : tie.Need-loop-holds Inv-loop μ-loop
 loop-holds c = start-seek _ _ _ _ _ (c .window-from .ensures) (omega arith) (omega arith)
 
 is-dominated-requires : tie.Need-is-dominated-requires Inv-loop μ-loop
-is-dominated-requires c κs = (c .before .before .before .before .pre .0, search needs)
+is-dominated-requires c κs =
+    let at-start = c .before .before .before .before in
+    (at-start .pre .0, search needs)
 
 mul-is-first : tie.Need-mul-is-first Inv-loop μ-loop
 mul-is-first c = omega arith
@@ -38,7 +40,9 @@ loop-less c = omega arith
 
 loop-again : tie.Need-loop-again Inv-loop μ-loop
 loop-again c =
-    more-seek _ _ _ _ _ _ _ (c .before .before .before .loop .inv) (c .before .before .loop-test .taken) (c .before .is-dominated .ensures) (c .is-first .ensures)
+    let at-loop-test = c .before .before in
+    let at-loop = at-loop-test .before in
+    more-seek _ _ _ _ _ _ _ (at-loop .loop .inv) (at-loop-test .loop-test .taken) (c .before .is-dominated .ensures) (c .is-first .ensures)
 
 returns : tie.Need-returns Inv-loop μ-loop
 returns c = end-seek _ _ _ _ _ _ _ (c .before .loop .inv) (c .loop-test .left)

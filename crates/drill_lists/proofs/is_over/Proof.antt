@@ -42,8 +42,10 @@ compare-requires c κs = search needs
 
 returns : tie.Need-returns
 returns c =
-    over-found _ _ _ _ _ _ _ (c .before .before .before .before .before .before .start-of .ensures) (c .before .before .before .before .before .start-of2 .ensures)
-    (c .before .before .compare .ensures)
+    let at-compare = c .before .before in
+    let at-start-of2 = at-compare .before .before .before in
+    let at-start-of = at-start-of2 .before in
+    over-found _ _ _ _ _ _ _ (at-start-of .start-of .ensures) (at-start-of2 .start-of2 .ensures) (at-compare .compare .ensures)
 
 pub is-over-spec : {M : Type 1} → statement M
 is-over-spec =

@@ -95,7 +95,10 @@ first-turn-second-turn-requires : (t : ℕ) → first-turn-lts.Need-second-turn-
   first-stands-reads.Learnt,
 ) (first-turn-at t) first-turn.Post first-turn-Inv-loop first-turn-μ-loop
 first-turn-second-turn-requires t c κs =
-    (omega (arith, c .before .before .lay-first .ensures .fewer, c .before .before .lay-first .ensures .same, c .before .before .before .before .before .before .pre .0), (c .before .before .before .before .before .before .pre .1 .0, (c .before .before .lay-first .ensures .fair, c .if1 .taken)))
+    let at-lay-first = c .before .before in
+    let at-start = at-lay-first .before .before .before .before in
+    (omega (arith, at-lay-first .lay-first .ensures .fewer, at-lay-first .lay-first .ensures .same, at-start .pre .0),
+    (at-start .pre .1 .0, (at-lay-first .lay-first .ensures .fair, c .if1 .taken)))
 
 first-turn-returns : (t : ℕ) → first-turn-lts.Need-returns (
   lay-first-reads.Asked,
@@ -108,8 +111,11 @@ first-turn-returns : (t : ℕ) → first-turn-lts.Need-returns (
   first-stands-reads.Learnt,
 ) (first-turn-at t) first-turn.Post first-turn-Inv-loop first-turn-μ-loop
 first-turn-returns t c =
-    found-try _ _ _ _ (c .before .before .before .before .before .before .loop .inv) (c .before .before .before .before .before .loop-test .taken)
-    (keeps-second _ _ _ _ _ (c .before .before .before .before .lay-first .ensures) ∙ sym (c .before .second-turn .ensures) ∙ c .if2 .taken)
+    let at-lay-first = c .before .before .before .before in
+    let at-loop-test = at-lay-first .before in
+    let at-loop = at-loop-test .before in
+    found-try _ _ _ _ (at-loop .loop .inv) (at-loop-test .loop-test .taken)
+    (keeps-second _ _ _ _ _ (at-lay-first .lay-first .ensures) ∙ sym (c .before .second-turn .ensures) ∙ c .if2 .taken)
 
 first-turn-loop-less : (t : ℕ) → first-turn-lts.Need-loop-less (
   lay-first-reads.Asked,
@@ -134,8 +140,11 @@ first-turn-loop-again : (t : ℕ) → first-turn-lts.Need-loop-again (
   first-stands-reads.Learnt,
 ) (first-turn-at t) first-turn.Post first-turn-Inv-loop first-turn-μ-loop
 first-turn-loop-again t c =
-    more-try _ _ _ _ (c .before .before .before .before .before .before .loop .inv) (c .before .before .before .before .before .loop-test .taken)
-    (keeps-second _ _ _ _ _ (c .before .before .before .before .lay-first .ensures) ∙ sym (c .before .second-turn .ensures) ∙ c .if2 .left)
+    let at-lay-first = c .before .before .before .before in
+    let at-loop-test = at-lay-first .before in
+    let at-loop = at-loop-test .before in
+    more-try _ _ _ _ (at-loop .loop .inv) (at-loop-test .loop-test .taken)
+    (keeps-second _ _ _ _ _ (at-lay-first .lay-first .ensures) ∙ sym (c .before .second-turn .ensures) ∙ c .if2 .left)
 
 first-turn-first-turn-requires : (t : ℕ) → first-turn-lts.Need-first-turn-requires (
   lay-first-reads.Asked,
@@ -148,7 +157,10 @@ first-turn-first-turn-requires : (t : ℕ) → first-turn-lts.Need-first-turn-re
   first-stands-reads.Learnt,
 ) (first-turn-at t) first-turn.Post first-turn-Inv-loop first-turn-μ-loop
 first-turn-first-turn-requires t c κs =
-    (omega (arith, c .before .before .before .before .lay-first .ensures .fewer, c .before .before .before .before .lay-first .ensures .same, c .before .before .before .before .before .before .before .before .pre .0), (c .before .before .before .before .before .before .before .before .pre .1 .0, (c .before .before .before .before .lay-first .ensures .fair, c .if3 .taken)))
+    let at-lay-first = c .before .before .before .before in
+    let at-start = at-lay-first .before .before .before .before in
+    (omega (arith, at-lay-first .lay-first .ensures .fewer, at-lay-first .lay-first .ensures .same, at-start .pre .0),
+    (at-start .pre .1 .0, (at-lay-first .lay-first .ensures .fair, c .if3 .taken)))
 
 first-turn-returns-2 : (t : ℕ) → first-turn-lts.Need-returns-2 (
   lay-first-reads.Asked,
@@ -161,8 +173,13 @@ first-turn-returns-2 : (t : ℕ) → first-turn-lts.Need-returns-2 (
   first-stands-reads.Learnt,
 ) (first-turn-at t) first-turn.Post first-turn-Inv-loop first-turn-μ-loop
 first-turn-returns-2 t c =
-    found-try _ _ _ _ (c .before .before .before .before .before .before .before .before .loop .inv) (c .before .before .before .before .before .before .before .loop-test .taken)
-    (keeps-first _ _ _ _ _ (c .before .before .before .before .before .before .lay-first .ensures) (omega (arith, c .before .before .before .before .if1 .left)) (c .before .before .if3 .taken)
+    let at-if3 = c .before .before in
+    let at-if1 = at-if3 .before .before in
+    let at-lay-first = at-if1 .before .before in
+    let at-loop-test = at-lay-first .before in
+    let at-loop = at-loop-test .before in
+    found-try _ _ _ _ (at-loop .loop .inv) (at-loop-test .loop-test .taken)
+    (keeps-first _ _ _ _ _ (at-lay-first .lay-first .ensures) (omega (arith, at-if1 .if1 .left)) (at-if3 .if3 .taken)
     ∙ place-some (c .before .first-turn .ensures) (λ z. omega (arith, c .if4 .taken)))
 
 first-turn-loop-less-2 : (t : ℕ) → first-turn-lts.Need-loop-less-2 (
@@ -188,8 +205,13 @@ first-turn-loop-again-2 : (t : ℕ) → first-turn-lts.Need-loop-again-2 (
   first-stands-reads.Learnt,
 ) (first-turn-at t) first-turn.Post first-turn-Inv-loop first-turn-μ-loop
 first-turn-loop-again-2 t c =
-    more-try _ _ _ _ (c .before .before .before .before .before .before .before .before .loop .inv) (c .before .before .before .before .before .before .before .loop-test .taken)
-    (keeps-first _ _ _ _ _ (c .before .before .before .before .before .before .lay-first .ensures) (omega (arith, c .before .before .before .before .if1 .left)) (c .before .before .if3 .taken)
+    let at-if3 = c .before .before in
+    let at-if1 = at-if3 .before .before in
+    let at-lay-first = at-if1 .before .before in
+    let at-loop-test = at-lay-first .before in
+    let at-loop = at-loop-test .before in
+    more-try _ _ _ _ (at-loop .loop .inv) (at-loop-test .loop-test .taken)
+    (keeps-first _ _ _ _ _ (at-lay-first .lay-first .ensures) (omega (arith, at-if1 .if1 .left)) (at-if3 .if3 .taken)
     ∙ place-none (c .before .first-turn .ensures) (omega (arith, c .if4 .left)))
 
 first-turn-first-stands-requires : (t : ℕ) → first-turn-lts.Need-first-stands-requires (
@@ -203,7 +225,9 @@ first-turn-first-stands-requires : (t : ℕ) → first-turn-lts.Need-first-stand
   first-stands-reads.Learnt,
 ) (first-turn-at t) first-turn.Post first-turn-Inv-loop first-turn-μ-loop
 first-turn-first-stands-requires t c κs =
-    (c .before .before .before .before .before .before .before .before .before .pre .1 .0, omega (arith, c .before .before .before .before .before .lay-first .ensures .fair .all))
+    let at-lay-first = c .before .before .before .before .before in
+    let at-start = at-lay-first .before .before .before .before in
+    (at-start .pre .1 .0, omega (arith, at-lay-first .lay-first .ensures .fair .all))
 
 first-turn-returns-3 : (t : ℕ) → first-turn-lts.Need-returns-3 (
   lay-first-reads.Asked,
@@ -216,8 +240,14 @@ first-turn-returns-3 : (t : ℕ) → first-turn-lts.Need-returns-3 (
   first-stands-reads.Learnt,
 ) (first-turn-at t) first-turn.Post first-turn-Inv-loop first-turn-μ-loop
 first-turn-returns-3 t c =
-    found-try _ _ _ _ (c .before .before .before .before .before .before .before .before .before .loop .inv) (c .before .before .before .before .before .before .before .before .loop-test .taken)
-    (keeps-over _ _ _ _ _ (c .before .before .before .before .before .before .before .lay-first .ensures) (omega (arith, c .before .before .before .before .before .if1 .left)) (omega (arith, c .before .before .before .if3 .left)) ∙ sym (c .before .first-stands .ensures) ∙ c .if5 .taken)
+    let at-if3 = c .before .before .before in
+    let at-if1 = at-if3 .before .before in
+    let at-lay-first = at-if1 .before .before in
+    let at-loop-test = at-lay-first .before in
+    let at-loop = at-loop-test .before in
+    found-try _ _ _ _ (at-loop .loop .inv) (at-loop-test .loop-test .taken)
+    (keeps-over _ _ _ _ _ (at-lay-first .lay-first .ensures) (omega (arith, at-if1 .if1 .left)) (omega (arith, at-if3 .if3 .left))
+    ∙ sym (c .before .first-stands .ensures) ∙ c .if5 .taken)
 
 first-turn-loop-less-3 : (t : ℕ) → first-turn-lts.Need-loop-less-3 (
   lay-first-reads.Asked,
@@ -242,8 +272,14 @@ first-turn-loop-again-3 : (t : ℕ) → first-turn-lts.Need-loop-again-3 (
   first-stands-reads.Learnt,
 ) (first-turn-at t) first-turn.Post first-turn-Inv-loop first-turn-μ-loop
 first-turn-loop-again-3 t c =
-    more-try _ _ _ _ (c .before .before .before .before .before .before .before .before .before .loop .inv) (c .before .before .before .before .before .before .before .before .loop-test .taken)
-    (keeps-over _ _ _ _ _ (c .before .before .before .before .before .before .before .lay-first .ensures) (omega (arith, c .before .before .before .before .before .if1 .left)) (omega (arith, c .before .before .before .if3 .left)) ∙ sym (c .before .first-stands .ensures) ∙ c .if5 .left)
+    let at-if3 = c .before .before .before in
+    let at-if1 = at-if3 .before .before in
+    let at-lay-first = at-if1 .before .before in
+    let at-loop-test = at-lay-first .before in
+    let at-loop = at-loop-test .before in
+    more-try _ _ _ _ (at-loop .loop .inv) (at-loop-test .loop-test .taken)
+    (keeps-over _ _ _ _ _ (at-lay-first .lay-first .ensures) (omega (arith, at-if1 .if1 .left)) (omega (arith, at-if3 .if3 .left))
+    ∙ sym (c .before .first-stands .ensures) ∙ c .if5 .left)
 
 first-turn-returns-4 : (t : ℕ) → first-turn-lts.Need-returns-4 (
   lay-first-reads.Asked,
@@ -312,7 +348,10 @@ second-turn-first-turn-requires : (t : ℕ) → second-turn-lts.Need-first-turn-
   first-stands-reads.Learnt,
 ) (second-turn-at t) second-turn.Post second-turn-Inv-loop second-turn-μ-loop
 second-turn-first-turn-requires t c κs =
-    (omega (arith, c .before .before .lay-second .ensures .fewer, c .before .before .lay-second .ensures .same, c .before .before .before .before .before .before .pre .0), (c .before .before .before .before .before .before .pre .1 .0, (c .before .before .lay-second .ensures .fair, c .if1 .taken)))
+    let at-lay-second = c .before .before in
+    let at-start = at-lay-second .before .before .before .before in
+    (omega (arith, at-lay-second .lay-second .ensures .fewer, at-lay-second .lay-second .ensures .same, at-start .pre .0),
+    (at-start .pre .1 .0, (at-lay-second .lay-second .ensures .fair, c .if1 .taken)))
 
 second-turn-returns : (t : ℕ) → second-turn-lts.Need-returns (
   lay-second-reads.Asked,
@@ -325,8 +364,12 @@ second-turn-returns : (t : ℕ) → second-turn-lts.Need-returns (
   first-stands-reads.Learnt,
 ) (second-turn-at t) second-turn.Post second-turn-Inv-loop second-turn-μ-loop
 second-turn-returns t c =
-    lost-face _ _ _ _ (c .before .before .before .before .before .before .loop .inv) (c .before .before .before .before .before .loop-test .taken)
-    (after-first _ _ _ _ _ (c .before .before .before .before .lay-second .ensures) (c .before .before .if1 .taken) ∙ place-none (c .before .first-turn .ensures) (c .if2 .taken))
+    let at-if1 = c .before .before in
+    let at-lay-second = at-if1 .before .before in
+    let at-loop-test = at-lay-second .before in
+    let at-loop = at-loop-test .before in
+    lost-face _ _ _ _ (at-loop .loop .inv) (at-loop-test .loop-test .taken)
+    (after-first _ _ _ _ _ (at-lay-second .lay-second .ensures) (at-if1 .if1 .taken) ∙ place-none (c .before .first-turn .ensures) (c .if2 .taken))
 
 second-turn-loop-less : (t : ℕ) → second-turn-lts.Need-loop-less (
   lay-second-reads.Asked,
@@ -351,8 +394,12 @@ second-turn-loop-again : (t : ℕ) → second-turn-lts.Need-loop-again (
   first-stands-reads.Learnt,
 ) (second-turn-at t) second-turn.Post second-turn-Inv-loop second-turn-μ-loop
 second-turn-loop-again t c =
-    more-face _ _ _ _ (c .before .before .before .before .before .before .loop .inv) (c .before .before .before .before .before .loop-test .taken)
-    (after-first _ _ _ _ _ (c .before .before .before .before .lay-second .ensures) (c .before .before .if1 .taken) ∙ place-some (c .before .first-turn .ensures) (c .if2 .left))
+    let at-if1 = c .before .before in
+    let at-lay-second = at-if1 .before .before in
+    let at-loop-test = at-lay-second .before in
+    let at-loop = at-loop-test .before in
+    more-face _ _ _ _ (at-loop .loop .inv) (at-loop-test .loop-test .taken)
+    (after-first _ _ _ _ _ (at-lay-second .lay-second .ensures) (at-if1 .if1 .taken) ∙ place-some (c .before .first-turn .ensures) (c .if2 .left))
 
 second-turn-second-turn-requires : (t : ℕ) → second-turn-lts.Need-second-turn-requires (
   lay-second-reads.Asked,
@@ -365,7 +412,10 @@ second-turn-second-turn-requires : (t : ℕ) → second-turn-lts.Need-second-tur
   first-stands-reads.Learnt,
 ) (second-turn-at t) second-turn.Post second-turn-Inv-loop second-turn-μ-loop
 second-turn-second-turn-requires t c κs =
-    (omega (arith, c .before .before .before .before .lay-second .ensures .fewer, c .before .before .before .before .lay-second .ensures .same, c .before .before .before .before .before .before .before .before .pre .0), (c .before .before .before .before .before .before .before .before .pre .1 .0, (c .before .before .before .before .lay-second .ensures .fair, c .if3 .taken)))
+    let at-lay-second = c .before .before .before .before in
+    let at-start = at-lay-second .before .before .before .before in
+    (omega (arith, at-lay-second .lay-second .ensures .fewer, at-lay-second .lay-second .ensures .same, at-start .pre .0),
+    (at-start .pre .1 .0, (at-lay-second .lay-second .ensures .fair, c .if3 .taken)))
 
 second-turn-returns-2 : (t : ℕ) → second-turn-lts.Need-returns-2 (
   lay-second-reads.Asked,
@@ -378,8 +428,13 @@ second-turn-returns-2 : (t : ℕ) → second-turn-lts.Need-returns-2 (
   first-stands-reads.Learnt,
 ) (second-turn-at t) second-turn.Post second-turn-Inv-loop second-turn-μ-loop
 second-turn-returns-2 t c =
-    lost-face _ _ _ _ (c .before .before .before .before .before .before .before .before .loop .inv) (c .before .before .before .before .before .before .before .loop-test .taken)
-    (after-second _ _ _ _ _ (c .before .before .before .before .before .before .lay-second .ensures) (omega (arith, c .before .before .before .before .if1 .left)) ∙ sym (c .before .second-turn .ensures) ∙ not-true _ (c .if4 .taken))
+    let at-if1 = c .before .before .before .before in
+    let at-lay-second = at-if1 .before .before in
+    let at-loop-test = at-lay-second .before in
+    let at-loop = at-loop-test .before in
+    lost-face _ _ _ _ (at-loop .loop .inv) (at-loop-test .loop-test .taken)
+    (after-second _ _ _ _ _ (at-lay-second .lay-second .ensures) (omega (arith, at-if1 .if1 .left))
+    ∙ sym (c .before .second-turn .ensures) ∙ not-true _ (c .if4 .taken))
 
 second-turn-loop-less-2 : (t : ℕ) → second-turn-lts.Need-loop-less-2 (
   lay-second-reads.Asked,
@@ -404,8 +459,13 @@ second-turn-loop-again-2 : (t : ℕ) → second-turn-lts.Need-loop-again-2 (
   first-stands-reads.Learnt,
 ) (second-turn-at t) second-turn.Post second-turn-Inv-loop second-turn-μ-loop
 second-turn-loop-again-2 t c =
-    more-face _ _ _ _ (c .before .before .before .before .before .before .before .before .loop .inv) (c .before .before .before .before .before .before .before .loop-test .taken)
-    (after-second _ _ _ _ _ (c .before .before .before .before .before .before .lay-second .ensures) (omega (arith, c .before .before .before .before .if1 .left)) ∙ sym (c .before .second-turn .ensures) ∙ not-false _ (c .if4 .left))
+    let at-if1 = c .before .before .before .before in
+    let at-lay-second = at-if1 .before .before in
+    let at-loop-test = at-lay-second .before in
+    let at-loop = at-loop-test .before in
+    more-face _ _ _ _ (at-loop .loop .inv) (at-loop-test .loop-test .taken)
+    (after-second _ _ _ _ _ (at-lay-second .lay-second .ensures) (omega (arith, at-if1 .if1 .left))
+    ∙ sym (c .before .second-turn .ensures) ∙ not-false _ (c .if4 .left))
 
 second-turn-first-stands-requires : (t : ℕ) → second-turn-lts.Need-first-stands-requires (
   lay-second-reads.Asked,
@@ -418,7 +478,9 @@ second-turn-first-stands-requires : (t : ℕ) → second-turn-lts.Need-first-sta
   first-stands-reads.Learnt,
 ) (second-turn-at t) second-turn.Post second-turn-Inv-loop second-turn-μ-loop
 second-turn-first-stands-requires t c κs =
-    (c .before .before .before .before .before .before .before .before .before .pre .1 .0, omega (arith, c .before .before .before .before .before .lay-second .ensures .fair .all))
+    let at-lay-second = c .before .before .before .before .before in
+    let at-start = at-lay-second .before .before .before .before in
+    (at-start .pre .1 .0, omega (arith, at-lay-second .lay-second .ensures .fair .all))
 
 second-turn-returns-3 : (t : ℕ) → second-turn-lts.Need-returns-3 (
   lay-second-reads.Asked,
@@ -431,8 +493,14 @@ second-turn-returns-3 : (t : ℕ) → second-turn-lts.Need-returns-3 (
   first-stands-reads.Learnt,
 ) (second-turn-at t) second-turn.Post second-turn-Inv-loop second-turn-μ-loop
 second-turn-returns-3 t c =
-    lost-face _ _ _ _ (c .before .before .before .before .before .before .before .before .before .loop .inv) (c .before .before .before .before .before .before .before .before .loop-test .taken)
-    (after-over _ _ _ _ _ (c .before .before .before .before .before .before .before .lay-second .ensures) (omega (arith, c .before .before .before .before .before .if1 .left)) (omega (arith, c .before .before .before .if3 .left)) ∙ sym (c .before .first-stands .ensures) ∙ not-true _ (c .if5 .taken))
+    let at-if3 = c .before .before .before in
+    let at-if1 = at-if3 .before .before in
+    let at-lay-second = at-if1 .before .before in
+    let at-loop-test = at-lay-second .before in
+    let at-loop = at-loop-test .before in
+    lost-face _ _ _ _ (at-loop .loop .inv) (at-loop-test .loop-test .taken)
+    (after-over _ _ _ _ _ (at-lay-second .lay-second .ensures) (omega (arith, at-if1 .if1 .left)) (omega (arith, at-if3 .if3 .left))
+    ∙ sym (c .before .first-stands .ensures) ∙ not-true _ (c .if5 .taken))
 
 second-turn-loop-less-3 : (t : ℕ) → second-turn-lts.Need-loop-less-3 (
   lay-second-reads.Asked,
@@ -457,8 +525,14 @@ second-turn-loop-again-3 : (t : ℕ) → second-turn-lts.Need-loop-again-3 (
   first-stands-reads.Learnt,
 ) (second-turn-at t) second-turn.Post second-turn-Inv-loop second-turn-μ-loop
 second-turn-loop-again-3 t c =
-    more-face _ _ _ _ (c .before .before .before .before .before .before .before .before .before .loop .inv) (c .before .before .before .before .before .before .before .before .loop-test .taken)
-    (after-over _ _ _ _ _ (c .before .before .before .before .before .before .before .lay-second .ensures) (omega (arith, c .before .before .before .before .before .if1 .left)) (omega (arith, c .before .before .before .if3 .left)) ∙ sym (c .before .first-stands .ensures) ∙ not-false _ (c .if5 .left))
+    let at-if3 = c .before .before .before in
+    let at-if1 = at-if3 .before .before in
+    let at-lay-second = at-if1 .before .before in
+    let at-loop-test = at-lay-second .before in
+    let at-loop = at-loop-test .before in
+    more-face _ _ _ _ (at-loop .loop .inv) (at-loop-test .loop-test .taken)
+    (after-over _ _ _ _ _ (at-lay-second .lay-second .ensures) (omega (arith, at-if1 .if1 .left)) (omega (arith, at-if3 .if3 .left))
+    ∙ sym (c .before .first-stands .ensures) ∙ not-false _ (c .if5 .left))
 
 second-turn-returns-4 : (t : ℕ) → second-turn-lts.Need-returns-4 (
   lay-second-reads.Asked,

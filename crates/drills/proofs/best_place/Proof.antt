@@ -5,7 +5,9 @@ use Rattle.drills.proofs.best_place.Statement.{statement}
 use Rattle.drills.proofs.best_place.Tie as tie
 
 returns : tie.Need-returns
-returns c = place-empty (c .before .before .args .rules) (c .before .before .args .first) (c .before .before .args .second) (c .before .before .pre) (c .if1 .taken)
+returns c =
+    let at-start = c .before .before in
+    place-empty (at-start .args .rules) (at-start .args .first) (at-start .args .second) (at-start .pre) (c .if1 .taken)
 
 joined-requires : tie.Need-joined-requires
 joined-requires c κs = search needs
@@ -27,7 +29,11 @@ first-turn-requires c κs = search needs
 
 returns-2 : tie.Need-returns-2
 returns-2 c =
-    found-place (c .before .before .before .before .before .before .before .before .before .before .args .rules) (c .before .before .before .before .before .before .before .before .before .before .args .first) (c .before .before .before .before .before .before .before .before .before .before .args .second) (c .before .before .before .before .before .before .before .before .before .before .pre) (c .before .before .before .before .before .joined .ensures) _ (c .before .before .start .ensures) (c .first-turn .ensures)
+    let at-start = c .before .before in
+    let at-joined = at-start .before .before .before in
+    let at-entry = at-joined .before .before .before .before .before in
+    found-place (at-entry .args .rules) (at-entry .args .first) (at-entry .args .second) (at-entry .pre) (at-joined .joined .ensures)
+    _ (at-start .start .ensures) (c .first-turn .ensures)
 
 pub best-place-spec : {M : Type 1} → statement M
 best-place-spec =

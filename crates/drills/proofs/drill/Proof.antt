@@ -18,21 +18,44 @@ enum-told : tie.Need-enum-told
 enum-told c = search needs
 
 best-place-requires : tie.Need-best-place-requires
-best-place-requires c κs = accepted-small (c .before .before .before .args .rules) (c .before .before .before .args .first) (c .before .before .before .args .second) (accepted-number _ (c .before .before .judge .ensures) (c .enum-told .given .1))
+best-place-requires c κs =
+    let at-judge = c .before .before in
+    let at-start = at-judge .before in
+    accepted-small (at-start .args .rules) (at-start .args .first) (at-start .args .second)
+    (accepted-number _ (at-judge .judge .ensures) (c .enum-told .given .1))
 
 returns : tie.Need-returns
-returns c = no-says (c .before .before .before .before .before .args .rules) (c .before .before .before .before .before .args .first) (c .before .before .before .before .before .args .second) (c .before .before .before .before .judge .ensures) (c .before .before .enum-told .given .1) (c .before .best-place .ensures) (c .if1 .taken)
+returns c =
+    let at-enum-told = c .before .before in
+    let at-judge = at-enum-told .before .before in
+    let at-start = at-judge .before in
+    no-says (at-start .args .rules) (at-start .args .first) (at-start .args .second) (at-judge .judge .ensures) (at-enum-told .enum-told .given .1)
+    (c .before .best-place .ensures) (c .if1 .taken)
 
 cast-t9 : tie.Need-cast-t9
 cast-t9 c =
-    let small = accepted-small (c .before .before .before .before .before .args .rules) (c .before .before .before .before .before .args .first) (c .before .before .before .before .before .args .second) (accepted-number _ (c .before .before .before .before .judge .ensures) (c .before .before .enum-told .given .1)) in
-    omega (arith, c .before .best-place .ensures, place-most (c .before .before .before .before .before .args .rules) (c .before .before .before .before .before .args .first) (c .before .before .before .before .before .args .second) small, small .firsts)
+    let at-enum-told = c .before .before in
+    let at-judge = at-enum-told .before .before in
+    let at-start = at-judge .before in
+    let small = accepted-small (at-start .args .rules) (at-start .args .first) (at-start .args .second)
+    (accepted-number _ (at-judge .judge .ensures) (at-enum-told .enum-told .given .1))
+    in
+    omega (arith, c .before .best-place .ensures,
+    place-most (at-start .args .rules) (at-start .args .first) (at-start .args .second) small, small .firsts)
 
 returns-2 : tie.Need-returns-2
-returns-2 c = refused-says (c .before .before .before .before .args .rules) (c .before .before .before .before .args .first) (c .before .before .before .before .args .second) (c .before .before .before .judge .ensures) (c .before .answer .given .1)
+returns-2 c =
+    let at-judge = c .before .before .before in
+    let at-start = at-judge .before in
+    refused-says (at-start .args .rules) (at-start .args .first) (at-start .args .second) (at-judge .judge .ensures) (c .before .answer .given .1)
 
 returns-3 : tie.Need-returns-3
-returns-3 c = yes-says (c .before .before .before .before .before .args .rules) (c .before .before .before .before .before .args .first) (c .before .before .before .before .before .args .second) (c .before .before .before .before .judge .ensures) (c .before .before .enum-told .given .1) (c .before .best-place .ensures) (c .if1 .left)
+returns-3 c =
+    let at-enum-told = c .before .before in
+    let at-judge = at-enum-told .before .before in
+    let at-start = at-judge .before in
+    yes-says (at-start .args .rules) (at-start .args .first) (at-start .args .second) (at-judge .judge .ensures) (at-enum-told .enum-told .given .1)
+    (c .before .best-place .ensures) (c .if1 .left)
 
 pub drill-spec : {M : Type 1} → statement M
 drill-spec =

@@ -24,7 +24,10 @@ put-requires-2 : tie.Need-put-requires-2
 put-requires-2 c κs = search needs
 
 returns : tie.Need-returns
-returns c = joined-by (c .before .before .before .before .before .before .before .before .args .t1) (c .before .before .before .before .before .before .before .before .args .t2) (omega arith) (omega arith) (c .before .before .before .before .before .put .ensures) (c .before .put2 .ensures)
+returns c =
+    let at-put = c .before .before .before .before .before in
+    let at-start = at-put .before .before .before in
+    joined-by (at-start .args .t1) (at-start .args .t2) (omega arith) (omega arith) (at-put .put .ensures) (c .before .put2 .ensures)
 
 pub joined-spec : {M : Type 1} → statement M
 joined-spec =

@@ -12,57 +12,71 @@ settings-hold-requires c κs = search needs
 
 returns : tie.Need-returns
 returns c =
-    let rules = c .before .before .before .args .rules in
-    let first = c .before .before .before .args .first in
-    let second = c .before .before .before .args .second in
-    by-settings rules first second (by-head rules first second (c .before .before .fresh .ensures) (c .before .settings-hold .ensures)) (c .if1 .taken)
+    let at-fresh = c .before .before in
+    let at-start = at-fresh .before in
+    by-settings (at-start .args .rules) (at-start .args .first) (at-start .args .second)
+    (by-head (at-start .args .rules) (at-start .args .first) (at-start .args .second) (at-fresh .fresh .ensures) (c .before .settings-hold .ensures))
+    (c .if1 .taken)
 
 returns-2 : tie.Need-returns-2
 returns-2 c =
-    let rules = c .before .before .before .before .before .before .before .args .rules in
-    let first = c .before .before .before .before .before .before .before .args .first in
-    let second = c .before .before .before .before .before .before .before .args .second in
-    by-size rules first second (by-head rules first second (c .before .before .before .before .before .before .fresh .ensures) (c .before .before .before .before .before .settings-hold .ensures)) (c .before .before .before .before .if1 .left) (c .if2 .taken)
+    let at-if1 = c .before .before .before .before in
+    let at-settings-hold = at-if1 .before in
+    let at-fresh = at-settings-hold .before in
+    let at-start = at-fresh .before in
+    by-size (at-start .args .rules) (at-start .args .first) (at-start .args .second)
+    (by-head (at-start .args .rules) (at-start .args .first) (at-start .args .second) (at-fresh .fresh .ensures) (at-settings-hold .settings-hold .ensures))
+    (at-if1 .if1 .left) (c .if2 .taken)
 
 is-uneven-requires : tie.Need-is-uneven-requires
 is-uneven-requires c κs =
-    let rules = c .before .before .before .before .before .before .before .args .rules in
-    let first = c .before .before .before .before .before .before .before .args .first in
-    let second = c .before .before .before .before .before .before .before .args .second in
-    few-first rules first second (c .if2 .left)
+    let at-start = c .before .before .before .before .before .before .before in
+    few-first (at-start .args .rules) (at-start .args .first) (at-start .args .second) (c .if2 .left)
 
 is-uneven-requires-2 : tie.Need-is-uneven-requires-2
 is-uneven-requires-2 c κs =
-    let rules = c .before .before .before .before .before .before .before .before .args .rules in
-    let first = c .before .before .before .before .before .before .before .before .args .first in
-    let second = c .before .before .before .before .before .before .before .before .args .second in
-    few-second rules first second (c .before .if2 .left)
+    let at-start = c .before .before .before .before .before .before .before .before in
+    few-second (at-start .args .rules) (at-start .args .first) (at-start .args .second) (c .before .if2 .left)
 
 returns-3 : tie.Need-returns-3
 returns-3 c =
-    let rules = c .before .before .before .before .before .before .before .before .before .before .args .rules in
-    let first = c .before .before .before .before .before .before .before .before .before .before .args .first in
-    let second = c .before .before .before .before .before .before .before .before .before .before .args .second in
-    by-columns rules first second (by-head rules first second (c .before .before .before .before .before .before .before .before .before .fresh .ensures) (c .before .before .before .before .before .before .before .before .settings-hold .ensures)) (c .before .before .before .before .before .before .before .if1 .left) (c .before .before .before .if2 .left)
-    (c .before .before .is-uneven .ensures) (c .before .is-uneven2 .ensures) (c .if3 .taken)
+    let at-is-uneven = c .before .before in
+    let at-if2 = at-is-uneven .before in
+    let at-if1 = at-if2 .before .before .before .before in
+    let at-settings-hold = at-if1 .before in
+    let at-fresh = at-settings-hold .before in
+    let at-start = at-fresh .before in
+    by-columns (at-start .args .rules) (at-start .args .first) (at-start .args .second)
+    (by-head (at-start .args .rules) (at-start .args .first) (at-start .args .second) (at-fresh .fresh .ensures) (at-settings-hold .settings-hold .ensures))
+    (at-if1 .if1 .left) (at-if2 .if2 .left) (at-is-uneven .is-uneven .ensures) (c .before .is-uneven2 .ensures) (c .if3 .taken)
 
 returns-4 : tie.Need-returns-4
 returns-4 c =
-    let rules = c .before .before .before .before .before .before .before .before .before .before .before .before .before .args .rules in
-    let first = c .before .before .before .before .before .before .before .before .before .before .before .before .before .args .first in
-    let second = c .before .before .before .before .before .before .before .before .before .before .before .before .before .args .second in
-    by-window rules first second (by-head rules first second (c .before .before .before .before .before .before .before .before .before .before .before .before .fresh .ensures) (c .before .before .before .before .before .before .before .before .before .before .before .settings-hold .ensures)) (c .before .before .before .before .before .before .before .before .before .before .if1 .left)
-    (c .before .before .before .before .before .before .if2 .left) (c .before .before .before .before .before .is-uneven .ensures) (c .before .before .before .before .is-uneven2 .ensures)
-    (c .before .before .before .if3 .left) (c .if4 .taken)
+    let at-if3 = c .before .before .before in
+    let at-is-uneven2 = at-if3 .before in
+    let at-is-uneven = at-is-uneven2 .before in
+    let at-if2 = at-is-uneven .before in
+    let at-if1 = at-if2 .before .before .before .before in
+    let at-settings-hold = at-if1 .before in
+    let at-fresh = at-settings-hold .before in
+    let at-start = at-fresh .before in
+    by-window (at-start .args .rules) (at-start .args .first) (at-start .args .second)
+    (by-head (at-start .args .rules) (at-start .args .first) (at-start .args .second) (at-fresh .fresh .ensures) (at-settings-hold .settings-hold .ensures))
+    (at-if1 .if1 .left) (at-if2 .if2 .left) (at-is-uneven .is-uneven .ensures) (at-is-uneven2 .is-uneven2 .ensures) (at-if3 .if3 .left) (c .if4 .taken)
 
 returns-5 : tie.Need-returns-5
 returns-5 c =
-    let rules = c .before .before .before .before .before .before .before .before .before .before .before .before .before .args .rules in
-    let first = c .before .before .before .before .before .before .before .before .before .before .before .before .before .args .first in
-    let second = c .before .before .before .before .before .before .before .before .before .before .before .before .before .args .second in
-    by-none rules first second (by-head rules first second (c .before .before .before .before .before .before .before .before .before .before .before .before .fresh .ensures) (c .before .before .before .before .before .before .before .before .before .before .before .settings-hold .ensures)) (c .before .before .before .before .before .before .before .before .before .before .if1 .left)
-    (c .before .before .before .before .before .before .if2 .left) (c .before .before .before .before .before .is-uneven .ensures) (c .before .before .before .before .is-uneven2 .ensures)
-    (c .before .before .before .if3 .left) (c .if4 .left)
+    let at-if3 = c .before .before .before in
+    let at-is-uneven2 = at-if3 .before in
+    let at-is-uneven = at-is-uneven2 .before in
+    let at-if2 = at-is-uneven .before in
+    let at-if1 = at-if2 .before .before .before .before in
+    let at-settings-hold = at-if1 .before in
+    let at-fresh = at-settings-hold .before in
+    let at-start = at-fresh .before in
+    by-none (at-start .args .rules) (at-start .args .first) (at-start .args .second)
+    (by-head (at-start .args .rules) (at-start .args .first) (at-start .args .second) (at-fresh .fresh .ensures) (at-settings-hold .settings-hold .ensures))
+    (at-if1 .if1 .left) (at-if2 .if2 .left) (at-is-uneven .is-uneven .ensures) (at-is-uneven2 .is-uneven2 .ensures) (at-if3 .if3 .left) (c .if4 .left)
 
 pub judge-spec : {M : Type 1} → statement M
 judge-spec =

@@ -24,8 +24,11 @@ enum-known-answer-2 c = search needs
 
 returns-2 : tie.Need-returns-2
 returns-2 c =
-    second-refused _ _ _ (c .before .before .before .before .before .before .read-hand .result) (c .before .before .before .before .before .before .read-hand .ensures) (c .before .before .before .before .enum-told .given .1)
-    (c .before .before .before .read-hand2 .result) (c .before .before .before .read-hand2 .ensures) _ (c .before .answer2 .given .1)
+    let at-read-hand2 = c .before .before .before in
+    let at-enum-told = at-read-hand2 .before in
+    let at-read-hand = at-enum-told .before .before in
+    second-refused _ _ _ (at-read-hand .read-hand .result) (at-read-hand .read-hand .ensures) (at-enum-told .enum-told .given .1)
+    (at-read-hand2 .read-hand2 .result) (at-read-hand2 .read-hand2 .ensures) _ (c .before .answer2 .given .1)
 
 enum-told-2 : tie.Need-enum-told-2
 enum-told-2 c = search needs
@@ -35,9 +38,13 @@ drill-requires c κs = search needs
 
 returns-3 : tie.Need-returns-3
 returns-3 c =
-    both-taken _ _ _ (c .before .before .before .before .before .before .before .before .read-hand .result) (c .before .before .before .before .before .before .before .before .read-hand .ensures)
-    (c .before .before .before .before .before .before .enum-told .given .1) (c .before .before .before .before .before .read-hand2 .result)
-    (c .before .before .before .before .before .read-hand2 .ensures) (c .before .before .before .enum-told2 .given .1) (c .drill .ensures)
+    let at-enum-told2 = c .before .before .before in
+    let at-read-hand2 = at-enum-told2 .before .before in
+    let at-enum-told = at-read-hand2 .before in
+    let at-read-hand = at-enum-told .before .before in
+    both-taken _ _ _ (at-read-hand .read-hand .result) (at-read-hand .read-hand .ensures) (at-enum-told .enum-told .given .1)
+        (at-read-hand2 .read-hand2 .result)
+    (at-read-hand2 .read-hand2 .ensures) (at-enum-told2 .enum-told2 .given .1) (c .drill .ensures)
 
 pub drill-files-spec : {M : Type 1} → statement M
 drill-files-spec =

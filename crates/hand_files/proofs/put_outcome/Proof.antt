@@ -32,7 +32,10 @@ returns-2 : tie.Need-returns-2
 returns-2 c = rw (says-line (c .before .before .enum-told .given .1)) (c .put-no .ensures)
 
 returns-3 : tie.Need-returns-3
-returns-3 c = rw (refused-line (c .before .before .before .before .outcome2 .given .1) (c .before .before .number .ensures)) (c .put-refusal .ensures)
+returns-3 c =
+    let at-number = c .before .before in
+    let at-outcome2 = at-number .before .before in
+    rw (refused-line (at-outcome2 .outcome2 .given .1) (at-number .number .ensures)) (c .put-refusal .ensures)
 
 pub put-outcome-spec : {M : Type 1} → statement M
 put-outcome-spec =

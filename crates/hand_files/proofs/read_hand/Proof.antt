@@ -30,8 +30,13 @@ enum-known-answer c = search needs
 
 returns : tie.Need-returns Inv-loop μ-loop
 returns c =
-    out-gather (c .before .before .before .before .before .before .before .before .before .args .file .now) (c .before .before .before .before .before .before .loop .hand) (c .before .before .before .before .before .before .loop .place) (c .before .before .before .before .before .before .loop .inv) (c .before .before .before .before .read-at .result) (c .before .before .before .before .read-at .ensures) (c .before .before .before .before .before .loop-test .taken) _
-    (c .before .before .before .judge .ensures) (c .before .answer .given .1)
+    let at-judge = c .before .before .before in
+    let at-read-at = at-judge .before in
+    let at-loop-test = at-read-at .before in
+    let at-loop = at-loop-test .before in
+    let at-start = at-loop .before .before .before in
+    out-gather (at-start .args .file .now) (at-loop .loop .hand) (at-loop .loop .place) (at-loop .loop .inv) (at-read-at .read-at .result)
+    (at-read-at .read-at .ensures) (at-loop-test .loop-test .taken) _ (at-judge .judge .ensures) (c .before .answer .given .1)
 
 enum-told : tie.Need-enum-told Inv-loop μ-loop
 enum-told c = search needs
@@ -44,15 +49,27 @@ with-quote-requires c κs = search needs
 
 loop-less : tie.Need-loop-less Inv-loop μ-loop
 loop-less c =
-    let on =
-    moves-on (c .before .before .before .before .before .before .before .before .before .before .before .args .file .now) (c .before .before .before .before .before .before .before .before .loop .hand) (c .before .before .before .before .before .before .before .before .loop .place) (c .before .before .before .before .before .before .before .before .loop .inv) (c .before .before .before .before .before .before .read-at .result) (c .before .before .before .before .before .before .read-at .ensures)
-    (c .before .before .before .before .before .before .before .loop-test .taken) (c .before .before .before .before .before .judge .ensures) (c .before .before .before .enum-told .given .1) in
-    omega (arith, on, c .before .before .before .before .before .before .before .loop-test .taken)
+    let at-enum-told = c .before .before .before in
+    let at-judge = at-enum-told .before .before in
+    let at-read-at = at-judge .before in
+    let at-loop-test = at-read-at .before in
+    let at-loop = at-loop-test .before in
+    let at-start = at-loop .before .before .before in
+    let on = moves-on (at-start .args .file .now) (at-loop .loop .hand) (at-loop .loop .place) (at-loop .loop .inv) (at-read-at .read-at .result)
+    (at-read-at .read-at .ensures) (at-loop-test .loop-test .taken) (at-judge .judge .ensures) (at-enum-told .enum-told .given .1) in
+    omega (arith, on, at-loop-test .loop-test .taken)
 
 loop-again : tie.Need-loop-again Inv-loop μ-loop
 loop-again c =
-    more-gather (c .before .before .before .before .before .before .before .before .before .before .before .args .file .now) (c .before .before .before .before .before .before .before .before .loop .hand) (c .before .before .before .before .before .before .before .before .loop .place) (c .before .before .before .before .before .before .before .before .loop .inv) (c .before .before .before .before .before .before .read-at .result) (c .before .before .before .before .before .before .read-at .ensures)
-    (c .before .before .before .before .before .before .before .loop-test .taken) (c .before .before .before .before .before .judge .ensures) (c .before .before .before .enum-told .given .1) (c .before .columns-in .ensures)
+    let at-enum-told = c .before .before .before in
+    let at-judge = at-enum-told .before .before in
+    let at-read-at = at-judge .before in
+    let at-loop-test = at-read-at .before in
+    let at-loop = at-loop-test .before in
+    let at-start = at-loop .before .before .before in
+    more-gather (at-start .args .file .now) (at-loop .loop .hand) (at-loop .loop .place) (at-loop .loop .inv) (at-read-at .read-at .result)
+    (at-read-at .read-at .ensures) (at-loop-test .loop-test .taken)
+    (at-judge .judge .ensures) (at-enum-told .enum-told .given .1) (c .before .columns-in .ensures)
     (c .with-quote .ensures)
 
 returns-2 : tie.Need-returns-2 Inv-loop μ-loop

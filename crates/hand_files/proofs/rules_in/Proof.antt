@@ -22,7 +22,9 @@ array-read-t19 c = search needs
 
 returns : tie.Need-returns
 unfolding askedBy
-returns c = ap askedBy (c .before .before .before .before .fields-from .ensures)
+returns c =
+    let at-fields-from = c .before .before .before .before in
+    ap askedBy (at-fields-from .fields-from .ensures)
 
 pub rules-in-spec : {M : Type 1} → statement M
 rules-in-spec =

@@ -26,7 +26,9 @@ add-t12 : tie.Need-add-t12
 add-t12 c = search needs
 
 returns : tie.Need-returns
-returns c = laid-first _ _ _ (c .before .before .before .before .before .pre .0) (c .before .before .before .before .before .pre .1) (c .before .left .ensures)
+returns c =
+    let at-start = c .before .before .before .before .before in
+    laid-first _ _ _ (at-start .pre .0) (at-start .pre .1) (c .before .left .ensures)
 
 pub lay-first-spec : {M : Type 1} → statement M
 lay-first-spec =
