@@ -241,6 +241,29 @@ fn small_games(program: &str, seen: &mut BTreeMap<String, usize>) -> usize {
     games
 }
 
+/// Worked games of one column, lower better: the memory and n, both hands, and the line.
+const WORKED: [(u32, &[u32], &[u32], &str); 7] = [
+    (1, &[5], &[7], "no\n"),
+    (1, &[5, 6], &[7], "yes 1\n"),
+    (2, &[3], &[3], "no\n"),
+    (2, &[9, 1], &[5], "yes 1\n"),
+    (2, &[1, 9], &[5], "yes 2\n"),
+    (1, &[], &[], "no\n"),
+    (1, &[8], &[], "yes 1\n"),
+];
+
+/// The worked games, by the program and by the model.
+fn worked_games(program: &str) {
+    for (memory, first, second, line) in WORKED {
+        let [first, second] = [first, second].map(|hand| hand.iter().map(|&value| vec![value]).collect::<Vec<_>>());
+        let game = Game { d: 1, memory, directions: 0, n: memory, first, second };
+        compare(program, &game, &frames(&game.first), &frames(&game.second), line);
+        if game.line(|place| game.wins_by_way(place)) != line {
+            differ(format!("the model on {:?} {:?}", game.first, game.second));
+        }
+    }
+}
+
 /// A random hand.
 fn hand(random: &mut Random, d: u32, most: u64) -> Vec<Vec<u32>> {
     let values = 2 + random.below(4);
@@ -296,6 +319,7 @@ fn main() {
     let mut seen = BTreeMap::new();
     let program = &arguments[0];
     fs::create_dir_all("build").unwrap();
+    worked_games(program);
     random_games(program, number(1, 1), number(2, 600) as usize, &mut seen);
     let small = small_games(program, &mut seen);
     files().iter().for_each(|file| fs::remove_file(file).unwrap());
