@@ -73,10 +73,10 @@ module _ (d directions : ℕ) (quotes : List (List ℕ)) (j i : ℕ) where
   over-compared : renewed d directions quotes (suc j) (suc i) ≡ not (found .1) && (found .0 || ltb i j)
   over-compared = ⊎-elim
       (λ (h : i < j). renewed-later d directions quotes (suc j) (suc i) (omega arith)
-          ∙ no-worse-by d directions (quoteAt quotes (suc j)) (quoteAt quotes (suc i))
+      ∙ no-worse-by d directions (quoteAt quotes (suc j)) (quoteAt quotes (suc i))
       ∙ rw (lt-ltb i j h) (later (found .1) (found .0)))
       (λ (h : j ≤ i). renewed-earlier d directions quotes (suc j) (suc i) (omega arith)
-          ∙ dominates-by d directions (quoteAt quotes (suc j)) (quoteAt quotes (suc i))
+      ∙ dominates-by d directions (quoteAt quotes (suc j)) (quoteAt quotes (suc i))
       ∙ rw (le-ltb i j h) (earlier (found .1) (found .0)))
       (below-or-not i j)
     where
@@ -139,8 +139,12 @@ module _ (cells : List ℕ) (rules : Rules) (laid : List ℕ) where
     unfolding overAt
     over-at j i u v =
         over-compared d (rules .directions) quotes j i
-        ∙ rw (quote-at j u, quote-at i v, compared-columns d (rules .directions) (drop (6 * (getD laid j 0 % 8)) cells)
-            (drop (6 * (getD laid i 0 % 8)) cells))
+        ∙ rw (
+          quote-at j u,
+          quote-at i v,
+          compared-columns d (rules .directions) (drop (6 * (getD laid j 0 % 8)) cells)
+              (drop (6 * (getD laid i 0 % 8)) cells),
+        )
 
     -- the window of n begins behind this place
     abbrev from : ℕ
@@ -173,7 +177,7 @@ module _ (cells : List ℕ) (rules : Rules) (laid : List ℕ) where
         (between (windowStart (length quotes) (rules .n)) (length quotes))
         ∙ rw window-run
         (any-shifted (λ p. not (dominatedIn D (windowStart (length quotes) (rules .n)) (length quotes) p) && isFirst
-            (getD held (p - 1) noQuote .side)) from (count - from)
+        (getD held (p - 1) noQuote .side)) from (count - from)
         ∙ any-same _ _ from (count - from) (λ i u v.
         let here : suc i - 1 ≡ i = omega arith in
         let h : i < count = omega arith in

@@ -22,4 +22,4 @@ module _ (d N directions n : ℕ) (hold : settingsHold d N directions ≡ true) 
   unfolding lastList fedBook opening
   laid-list laid wide room =
       ap (λ s. skylineOf s n) (sym (ap (plays (map (λ (q : Held). q .columns) laid)) opened
-          ∙ opening-plays d N directions hold (map (λ q. q .columns) laid) wide room))
+      ∙ opening-plays d N directions hold (map (λ q. q .columns) laid) wide room))

@@ -24,9 +24,9 @@ module _ {P Q : Type 0} (f : P → Q) (none : Q) (z : P) (won : List Q → Bool)
       rw (layer-mapped f turn first second, length-mapped f first, length-mapped f second)
       (ap₂ (bySide (layer turn first second))
       (some-same _ _ (length first) (λ i u. rw (left-mapped f i first, laying-mapped f none z i first laid u)
-          (judged-mapped k Second (left i first) second (laying z i first laid))))
+      (judged-mapped k Second (left i first) second (laying z i first laid))))
       (each-same _ _ (length second) (λ i u. rw (left-mapped f i second, laying-mapped f none z i second laid u)
-          (judged-mapped k First first (left i second) (laying z i second laid)))))
+      (judged-mapped k First first (left i second) (laying z i second laid)))))
 
   pub best-mapped : (first second laid : List P)
       → bestPlace none won (map f first) (map f second) (map f laid) ≡ bestPlace z wonMapped first second laid
@@ -44,7 +44,7 @@ module _ {Q : Type 0} (none : Q) (won : List Q → Bool) where
 
   some-place : (x : Q) (first second laid : List Q)
       → someBelow (λ i. judged none won (length first + length second) Second (left i (x ∷ first)) second (laying none i (x ∷ first) laid))
-          (length (x ∷ first))
+      (length (x ∷ first))
       ≡ hasPlace (x ∷ first) second laid
   unfolding bestPlace keeps wins
   some-place x first second laid =

@@ -37,7 +37,7 @@ module _ (hand : List ℕ) (i : ℕ) where
       at = λ m u. ⊎-elim
           (λ (a : m < j). getD-set-other kept j m x 0 (λ z. omega arith) ∙ s .at m a)
           (λ (b : m ≡ j). rw b (getD-set-same kept j x 0 (omega (arith, s .long)) ∙ e
-              ∙ ap (λ (k : ℕ). cond (ltb j i) (getD hand j 0) (getD hand k 0)) (add-one j)))
+          ∙ ap (λ (k : ℕ). cond (ltb j i) (getD hand j 0) (getD hand k 0)) (add-one j)))
           (below-cases m j (omega arith));
     }
 

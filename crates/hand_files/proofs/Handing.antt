@@ -71,9 +71,9 @@ quote-on file place = go (ltb (length file) place) (eqb place (length file)) (eq
 
     go : (a b c e : Bool)
         → numberIn (cond a (stays (Frames.refused 2) place)
-            (cond b (stays Frames.ended place) (cond c (stays (Frames.refused 1) place) (cond e (stays (Frames.refused 2) place) whole))) .says) ≡ 0
+        (cond b (stays Frames.ended place) (cond c (stays (Frames.refused 1) place) (cond e (stays (Frames.refused 2) place) whole))) .says) ≡ 0
         → place < cond a (stays (Frames.refused 2) place)
-            (cond b (stays Frames.ended place) (cond c (stays (Frames.refused 1) place) (cond e (stays (Frames.refused 2) place) whole))) .next
+        (cond b (stays Frames.ended place) (cond c (stays (Frames.refused 1) place) (cond e (stays (Frames.refused 2) place) whole))) .next
     go true b c e h = absurd (omega arith)
     go false true c e h = absurd (omega arith)
     go false false true e h = absurd (omega arith)

@@ -96,9 +96,10 @@ first-turn-second-turn-requires : (t : ℕ) → first-turn-lts.Need-second-turn-
 ) (first-turn-at t) first-turn.Post first-turn-Inv-loop first-turn-μ-loop
 first-turn-second-turn-requires t c κs =
     let at-lay-first = c .before .before in
-    let at-start = at-lay-first .before .before .before .before in
-    (omega (arith, at-lay-first .lay-first .ensures .fewer, at-lay-first .lay-first .ensures .same, at-start .pre .0),
-    (at-start .pre .1 .0, (at-lay-first .lay-first .ensures .fair, c .if1 .taken)))
+    let at-start = at-lay-first .before .before .before .before in (
+      omega (arith, at-lay-first .lay-first .ensures .fewer, at-lay-first .lay-first .ensures .same, at-start .pre .0),
+      (at-start .pre .1 .0, (at-lay-first .lay-first .ensures .fair, c .if1 .taken)),
+    )
 
 first-turn-returns : (t : ℕ) → first-turn-lts.Need-returns (
   lay-first-reads.Asked,
@@ -158,9 +159,10 @@ first-turn-first-turn-requires : (t : ℕ) → first-turn-lts.Need-first-turn-re
 ) (first-turn-at t) first-turn.Post first-turn-Inv-loop first-turn-μ-loop
 first-turn-first-turn-requires t c κs =
     let at-lay-first = c .before .before .before .before in
-    let at-start = at-lay-first .before .before .before .before in
-    (omega (arith, at-lay-first .lay-first .ensures .fewer, at-lay-first .lay-first .ensures .same, at-start .pre .0),
-    (at-start .pre .1 .0, (at-lay-first .lay-first .ensures .fair, c .if3 .taken)))
+    let at-start = at-lay-first .before .before .before .before in (
+      omega (arith, at-lay-first .lay-first .ensures .fewer, at-lay-first .lay-first .ensures .same, at-start .pre .0),
+      (at-start .pre .1 .0, (at-lay-first .lay-first .ensures .fair, c .if3 .taken)),
+    )
 
 first-turn-returns-2 : (t : ℕ) → first-turn-lts.Need-returns-2 (
   lay-first-reads.Asked,
@@ -349,9 +351,10 @@ second-turn-first-turn-requires : (t : ℕ) → second-turn-lts.Need-first-turn-
 ) (second-turn-at t) second-turn.Post second-turn-Inv-loop second-turn-μ-loop
 second-turn-first-turn-requires t c κs =
     let at-lay-second = c .before .before in
-    let at-start = at-lay-second .before .before .before .before in
-    (omega (arith, at-lay-second .lay-second .ensures .fewer, at-lay-second .lay-second .ensures .same, at-start .pre .0),
-    (at-start .pre .1 .0, (at-lay-second .lay-second .ensures .fair, c .if1 .taken)))
+    let at-start = at-lay-second .before .before .before .before in (
+      omega (arith, at-lay-second .lay-second .ensures .fewer, at-lay-second .lay-second .ensures .same, at-start .pre .0),
+      (at-start .pre .1 .0, (at-lay-second .lay-second .ensures .fair, c .if1 .taken)),
+    )
 
 second-turn-returns : (t : ℕ) → second-turn-lts.Need-returns (
   lay-second-reads.Asked,
@@ -413,9 +416,10 @@ second-turn-second-turn-requires : (t : ℕ) → second-turn-lts.Need-second-tur
 ) (second-turn-at t) second-turn.Post second-turn-Inv-loop second-turn-μ-loop
 second-turn-second-turn-requires t c κs =
     let at-lay-second = c .before .before .before .before in
-    let at-start = at-lay-second .before .before .before .before in
-    (omega (arith, at-lay-second .lay-second .ensures .fewer, at-lay-second .lay-second .ensures .same, at-start .pre .0),
-    (at-start .pre .1 .0, (at-lay-second .lay-second .ensures .fair, c .if3 .taken)))
+    let at-start = at-lay-second .before .before .before .before in (
+      omega (arith, at-lay-second .lay-second .ensures .fewer, at-lay-second .lay-second .ensures .same, at-start .pre .0),
+      (at-start .pre .1 .0, (at-lay-second .lay-second .ensures .fair, c .if3 .taken)),
+    )
 
 second-turn-returns-2 : (t : ℕ) → second-turn-lts.Need-returns-2 (
   lay-second-reads.Asked,

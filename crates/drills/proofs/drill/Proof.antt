@@ -40,8 +40,12 @@ cast-t9 c =
     let small = accepted-small (at-start .args .rules) (at-start .args .first) (at-start .args .second)
     (accepted-number _ (at-judge .judge .ensures) (at-enum-told .enum-told .given .1))
     in
-    omega (arith, c .before .best-place .ensures,
-    place-most (at-start .args .rules) (at-start .args .first) (at-start .args .second) small, small .firsts)
+    omega (
+      arith,
+      c .before .best-place .ensures,
+      place-most (at-start .args .rules) (at-start .args .first) (at-start .args .second) small,
+      small .firsts,
+    )
 
 returns-2 : tie.Need-returns-2
 returns-2 c =

@@ -43,7 +43,7 @@ returns-3 c =
     let at-enum-told = at-read-hand2 .before in
     let at-read-hand = at-enum-told .before .before in
     both-taken _ _ _ (at-read-hand .read-hand .result) (at-read-hand .read-hand .ensures) (at-enum-told .enum-told .given .1)
-        (at-read-hand2 .read-hand2 .result)
+    (at-read-hand2 .read-hand2 .result)
     (at-read-hand2 .read-hand2 .ensures) (at-enum-told2 .enum-told2 .given .1) (c .drill .ensures)
 
 pub drill-files-spec : {M : Type 1} → statement M
