@@ -2,7 +2,7 @@
 # What rt prints goes to a log under build/; standard error gets a line for each crate.
 SHELL := /bin/bash
 .SHELLFLAGS := -euo pipefail -c
-.PHONY: test proofs models try run host random random-calls rules plants rule-plants yardstick notation citations tapes test-slow bench late pieces venues spreadsheet days day-plants
+.PHONY: test proofs models try run host random random-calls rules plants rule-plants yardstick notation citations tapes test-slow bench late pieces venues spreadsheet days day-plants drill
 
 PRINTER ?= target/bin/tape_printer
 WRITER ?= target/bin/tape_writer
@@ -10,12 +10,14 @@ PLAYER ?= target/bin/book_player
 JOINER ?= target/bin/venue_joiner
 IMPORTER ?= target/bin/csv_import
 DAY_SHEET ?= target/bin/day_sheet
+DRILL ?= target/bin/quoting_drill
 TAPE ?= tapes/worked.tape
 SEED ?= 1
 TAPES ?= 10000
 LISTS ?= 10000
 PAIRS ?= 1000
 DAYS ?= 1000
+GAMES ?= 600
 RUNS ?= 9
 FILES ?= 300
 PLANTS := equals-stay earlier-stands oldest window kept misprint upper pair-first nine-first pair-end nine-at-eight \
@@ -30,6 +32,7 @@ VENUE_PLANTS := second-on-equal fifteen-before-seven sixteen-before-fifteen midn
   good-tape-goes-on look-behind quote-misplaced ends-with-one other-moved
 SHEET_PLANTS := lf-cuts leading-zero above empty-rest last-misfit fewer-columns
 DAY_PLANTS := equals-stay earlier-stands halves-apart from-zero longest-refused columns-first
+DRILL_PLANTS := some-reply last-place equals-stay four-first pass-ends list-of-memory
 SAMPLES := $(basename $(wildcard tapes/*.txt))
 # of a command, the program that is made here; another's stands already
 made = $(filter target/bin/% build/%,$(firstword $(1)))
@@ -39,7 +42,7 @@ RUSTC := env -u MAKEFLAGS $(IDLE) rustc --edition 2021 -O -D warnings
 
 test: citations
 	@$(MAKE) --no-print-directory -j2 proofs models
-	@$(MAKE) --no-print-directory -j2 host random random-calls late plants pieces notation venues spreadsheet days day-plants
+	@$(MAKE) --no-print-directory -j2 host random random-calls late plants pieces notation venues spreadsheet days day-plants drill
 	@tools/dearest.sh build/ci.txt
 	@tail -n 1 build/ci.txt | grep -Ex '[0-9]+ passed, 0 failed'
 
@@ -48,7 +51,7 @@ proofs:
 	@rt ci 2>&1 | tools/progress.sh build/ci.txt
 
 # beside the first crates, on what they leave idle: the tests built, and the models held against small tapes and themselves
-models: build/plain_model build/random_calls build/late_book build/notation rules rule-plants build/venues build/spreadsheet build/day_sheets
+models: build/plain_model build/random_calls build/late_book build/notation rules rule-plants build/venues build/spreadsheet build/day_sheets build/drill
 
 # the printer on the worked tape before anything is proved, by the toolchain's own trial, with its print
 try:
@@ -79,13 +82,17 @@ random-calls: build/random_calls $(call made,$(PLAYER))
 late: build/late_book $(PRINTER)
 	@build/late_book $(PRINTER) $(SEED) $(PAIRS)
 
+# the drill against a plain model: every way of choosing in small games, and random games
+drill: build/drill $(DRILL)
+	@build/drill $(DRILL) $(SEED) $(GAMES)
+
 # the audit's plain rules, lists and what is due, as that model has them, against every tape of small settings; its
 # previews against its quotes; what a desk sees of a list against what it sees of one that differs in all else
 rules: build/random_calls
 	@$(IDLE) build/random_calls --rules
 
 # a model with a bug planted must not agree with the printer, the player or the tapes
-plants: $(PLANTS:%=plant-in-tapes-%) $(CALL_PLANTS:%=plant-in-calls-%) $(LATE_PLANTS:%=plant-in-late-%) plant-in-pieces $(VENUE_PLANTS:%=plant-in-venues-%) $(SHEET_PLANTS:%=plant-in-sheets-%)
+plants: $(PLANTS:%=plant-in-tapes-%) $(CALL_PLANTS:%=plant-in-calls-%) $(LATE_PLANTS:%=plant-in-late-%) plant-in-pieces $(VENUE_PLANTS:%=plant-in-venues-%) $(SHEET_PLANTS:%=plant-in-sheets-%) $(DRILL_PLANTS:%=plant-in-drill-%)
 
 rule-plants: $(RULE_PLANTS:%=plant-in-rules-%)
 
@@ -103,6 +110,9 @@ plant-in-pieces: build/pieces $(PRINTER) $(WRITER)
 
 plant-in-venues-%: build/venues $(JOINER)
 	@tests/planted.sh venues-$* 'the joined tapes differ' build/venues --plant $* $(JOINER) $(SEED)
+
+plant-in-drill-%: build/drill $(DRILL)
+	@tests/planted.sh drill-$* 'the answers differ' build/drill --plant $* $(DRILL) $(SEED) $(GAMES)
 
 plant-in-rules-%: build/random_calls
 	@$(IDLE) tests/planted.sh rules-$* 'the rules differ' build/random_calls --plant $* --rules
@@ -153,11 +163,12 @@ tapes: $(WRITER)
 test-slow: build/full_tape $(PRINTER)
 	@build/full_tape $(PRINTER) $(SEED)
 
-bench: build/bench build/yardstick build/plain_model build/make_tape build/join build/plain_join $(PRINTER) $(JOINER) build/imports build/csv_yardstick $(IMPORTER) build/day_bench build/day_yardstick $(DAY_SHEET)
+bench: build/bench build/yardstick build/plain_model build/make_tape build/join build/plain_join $(PRINTER) $(JOINER) build/imports build/csv_yardstick $(IMPORTER) build/day_bench build/day_yardstick $(DAY_SHEET) build/drill_time $(DRILL)
 	@build/bench $(PRINTER) $(RUNS)
 	@build/join $(JOINER) $(RUNS)
 	@build/imports $(IMPORTER) $(RUNS)
 	@build/day_bench $(DAY_SHEET) $(RUNS)
+	@build/drill_time $(DRILL)
 
 target/bin/%: crates.txt $(shell find crates -name '*.rt' -o -name '*.antt')
 	@rt check $* 2>&1 | tools/progress.sh build/$*.txt $*

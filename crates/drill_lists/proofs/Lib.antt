@@ -1,0 +1,3 @@
+-- The proofs of the crate.
+pub mod Laid
+pub mod Scans

@@ -1,0 +1,3 @@
+-- The proofs of the crate.
+pub mod Handing
+pub mod Lines
