@@ -5,12 +5,11 @@ ghost use lib.ListN.{length, take};
 ghost use Rattle.tape_streams.specs.Streams.{Flushed, Refilled};
 use tape_playback::Playback;
 
-// The lines that are gathered.
-fn gathered(playback: Playback, text: &[u8]) -> &[u8]
-    requires { ⌜ playback .used ≤ length (now text) ⌝ }
-    ensures { λ r. ⌜ now r ≡ take (playback .used) (now (text .entry)) ⌝ }
+// The lines that are gathered, so many bytes.
+fn gathered(used: usize, text: &[u8]) -> &[u8]
+    requires { ⌜ used ≤ length (now text) ⌝ }
+    ensures { λ r. ⌜ now r ≡ take used (now (text .entry)) ⌝ }
 {
-    let used = playback.used;
     &text[..used]
 }
 
@@ -19,9 +18,10 @@ pub fn flush(playback: Playback, text: &[u8]) -> Playback
     requires { ⌜ playback .used ≤ length (now text) ⌝ }
     ensures { λ r. ⌜ Flushed playback r ⌝ }
 {
+    let used = playback.used;
     let mut now = playback;
     now.used = 0;
-    if !streams::put_out(gathered(playback, text), b"tape_printer: standard output") {
+    if !streams::put_out(gathered(used, text), b"tape_printer: standard output") {
         now.over = true;
     }
     now

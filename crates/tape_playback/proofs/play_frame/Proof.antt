@@ -78,8 +78,8 @@ slid-requires c κs =
     let at-start = at-play-sliding .before .before .before .before .before .before .before .before .before .before .before .before .before .before .before .before in
     (at-start .pre .1 .1 .0, left-bounded (at-play-sliding .play-sliding .ensures))
 
-add-next-used : tie.Need-add-next-used
-add-next-used c =
+add-now : tie.Need-add-now
+add-now c =
     let at-play-sliding = c .before .before .before .before .before .before .before .before .before .before .before .before .before .before .before in
     let at-play-sliding-arg6 = at-play-sliding .before in
     let at-start = at-play-sliding-arg6 .before .before .before .before .before .before .before .before .before .before .before .before .before .before .before in
@@ -136,7 +136,7 @@ play-frame-spec =
     part-play-sliding-end-5
     play-sliding-requires
     slid-requires
-    add-next-used
+    add-now
     same-length
     same-length-2
     same-length-3
