@@ -31,6 +31,7 @@ pub fn flush(playback: Playback, text: &[u8]) -> Playback
 // ended or the tape is over.
 pub fn refill(playback: Playback, tape: &mut [u8]) -> Playback
     requires { ⌜ (playback .place ≤ playback .end) × (playback .end ≤ length (now tape)) ⌝ }
+    requires { ⌜ 25 ≤ length (now tape) ⌝ }
     ensures { λ r. ⌜ Refilled playback (now (tape .entry)) r (now (tape .exit)) ⌝ }
 {
     let mut now = playback;
