@@ -1,13 +1,19 @@
--- Moving bytes to the front of a buffer, one after the other.
+-- Moving bytes to the front of a buffer, one after the other; and whether a read gave some.
 use mathlib.Core.Path.{_≡_, refl, sym, ap, _∙_}
-use Prim.Native.Nat.{ℕ, suc, _+_, _-_, _≤_, _<_}
+use Prim.Native.Nat.{ℕ, suc, _+_, _-_, _≤_, _<_, min}
 use native.Mathlib.Nat.{le-antisymm}
 use native.Mathlib.Omega.{arith}
 use native.Mathlib.Numerals.{add-one}
 use mathlib.Core.List.{List, [], _∷_, _++_}
+use lib.Dec.{ltb}
+use lib.IntN.{ℤ, pos, negsuc}
+use lib.Signed.{ltZ}
+use borrow.Author.Tests.{ltb-true, lt-ltb}
 use lib.ListN.{length, getD, set, take, drop, length-set, length-drop}
 use lib.Seq.{take-suc, length-take-le, getD-drop, drop-at}
+use Rattle.io.specs.Counts.{clamped}
 use Rattle.lists.specs.Lists.{laid}
+use Rattle.lists.proofs.Booleans.{agree}
 use Rattle.lists.proofs.Growing.{laid-more}
 use Rattle.lists.proofs.Storing.{getD-beyond}
 
@@ -57,3 +63,8 @@ module _ {entry : List ℕ} {place end : ℕ} {buffer : List ℕ} {i : ℕ} (m :
 
   pub finish : end - place ≤ i → buffer ≡ laid (take (end - place) (drop place entry)) entry
   finish h = let e : i ≡ end - place = le-antisymm (m .turns) h in m .cells ∙ ap (λ (k : ℕ). laid (take k (drop place entry)) entry) e
+
+-- a read into some room gave a byte exactly if its answer is above 0
+pub some-came : (got : ℤ) (room : ℕ) → 0 < room → ltZ (pos 0) got ≡ ltb 0 (clamped got room)
+some-came (pos k) room h = agree (ltb 0 k) (ltb 0 (min k room)) (λ t. lt-ltb 0 (min k room) (omega (arith, ltb-true 0 k t))) (λ t. lt-ltb 0 k (omega (arith, ltb-true 0 (min k room) t)))
+some-came (negsuc k) room h = refl

@@ -1,6 +1,6 @@
 // Standard input and output in large pieces: the unread rest of a buffer, and the bytes gathered for the output.
 ghost use mathlib.Core.Path.{_≡_};
-ghost use Prim.Native.Nat.{_-_, _≤_};
+ghost use Prim.Native.Nat.{_-_, _≤_, _<_};
 ghost use lib.Dec.{ltb};
 ghost use lib.ListN.{length, take, drop};
 ghost use Rattle.lists.specs.Lists.{laid};
@@ -39,15 +39,14 @@ pub fn put_out(gathered: &[u8], program: &[u8]) -> bool {
 // Reads from standard input into the buffer. A read that fails is the end of the input, said on standard error.
 pub fn read_in(buffer: &mut [u8], program: &[u8]) -> Chunk
     ensures { λ r. ⌜ Counts (r .count) (now (buffer .exit)) ⌝ }
-    ensures { λ r. ⌜ r .more ≡ ltb 0 (r .count) ⌝ }
+    ensures { λ r. ⌜ (0 < length (now (buffer .exit)) → r .more ≡ ltb 0 (r .count)) ⌝ }
 {
     let got = libc::read(STDIN_FILENO, buffer);
     if got < 0 {
         os::fail(program);
     }
-    let count = io::count(got, buffer);
     Chunk {
-        count,
-        more: 0 < count,
+        count: io::count(got, buffer),
+        more: 0 < got,
     }
 }

@@ -312,7 +312,6 @@ module _ {S : Type 0} (begun : S → Bool) (make : Call → S → Answered × S)
   -- a tape that is read in pieces prints what the whole tape prints
   pub printed-in-pieces : (tape : List ℕ) (s : S) {text : List ℕ} → Streams begun make [] 0 s tape text → text ≡ print begun make tape s
   printed-in-pieces tape s t = streams-lines t ∙ sym (print-lines tape s)
-  -- ---- and every tape can be printed so
 
 -- what the book prints of a tape that is read in pieces is the print by the reference model
 pub streamed-agrees : (tape : List ℕ) (l : Lent) (o : Outputs) {text : List ℕ}

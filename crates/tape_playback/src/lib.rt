@@ -70,13 +70,12 @@ pub fn play_frame(
     let next_head = step.head;
     let next_watches = step.watches;
     let next_start = slid(start, played.by, next_head);
-    let next_used = used + step.count;
     let mut now = playback;
     now.head = next_head;
     now.watches = next_watches;
     now.start = next_start;
     now.place = step.next;
-    now.used = next_used;
+    now.used = used + step.count;
     now.over = step.over;
     now
 }

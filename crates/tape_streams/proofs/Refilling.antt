@@ -60,18 +60,19 @@ module _ (s : Playback) (tape : List ℕ) (h : (s .place ≤ s .end) × (s .end 
   }
 
   -- what is not played is moved to the front, and these bytes are read behind it
-  pub refill-read : (last : List ℕ) {test : Bool} {front : List ℕ} {count : ℕ} {more : Bool} → test ≡ ready (take (s .end) tape) (s .place) → (s .over || s .ended) || test ≡ false → front ≡ laid (take rest (drop (s .place) tape)) tape
-      → count ≤ length last → length last ≡ length (midOf rest (length front - rest) front) → more ≡ ltb 0 count
+  pub refill-read : 25 ≤ length tape → (last : List ℕ) {test : Bool} {front : List ℕ} {count : ℕ} {more : Bool} → test ≡ ready (take (s .end) tape) (s .place) → (s .over || s .ended) || test ≡ false → front ≡ laid (take rest (drop (s .place) tape)) tape
+      → count ≤ length last → length last ≡ length (midOf rest (length front - rest) front) → (0 < length last → more ≡ ltb 0 count)
       → Refilled s tape
       (record { head = s .head; watches = s .watches; start = s .start; place = 0; end = rest + count; used = s .used; ended = not more; over = s .over })
       (putMid rest (length front - rest) front last)
   unfolding laid
-  refill-read last {front = front} {count = count} r e f c l m =
+  refill-read k last {front = front} {count = count} r e f c l m =
       let kept : List ℕ = take rest (drop (s .place) tape) in
       let long : length kept ≡ rest = sym (ap length pending-is) ∙ pending-long in
       let whole : length front ≡ length tape = ap length f ∙ length-laid kept tape (omega (arith, long)) in
       let stands : take rest front ≡ kept = ap (take rest) f ∙ take-at kept (drop (length kept) tape) rest long in
       let came : length (take count last) ≡ count = length-take-le count last c in
+      let room : 0 < length last = omega (arith, whole, k, pending-long, reads-short (tested r e), simp (length-take, length-drop) at l) in
       let post : List ℕ = drop (length front - rest) (drop rest front) in
       let read : take (rest + count) (kept ++ (last ++ post)) ≡ kept ++ take count last =
       ap (λ (n : ℕ). take (n + count) (kept ++ (last ++ post))) (sym long) ∙ take-append-add kept (last ++ post) count ∙ ap (λ (xs : List ℕ). kept ++ xs) (take-append-le count last post c) in
@@ -79,7 +80,7 @@ module _ (s : Playback) (tape : List ℕ) (h : (s .place ≤ s .end) × (s .end 
         came = take count last;
         kept = ap (λ (xs : List ℕ). take (rest + count) (xs ++ (last ++ post))) stands ∙ read ∙ ap (λ (xs : List ℕ). xs ++ take count last) (sym pending-is);
         quiet = λ t. absurd (clash (supplied s tape) t (tested r e));
-        read = λ _. rw came (ap not m);
+        read = λ _. rw came (ap not (m room));
         inside = omega arith;
         within = omega (arith, whole, c, simp (length-take, length-drop) at l);
         long = same-len-mid rest (length front - rest) front last l ∙ whole;

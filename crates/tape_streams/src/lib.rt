@@ -1,27 +1,18 @@
 // A printer's input and output: the lines that are gathered are written out, and the tape is read on behind what has come of it.
-ghost use mathlib.Core.Path.{_≡_};
 ghost use Prim.Native.Nat.{_≤_};
-ghost use lib.ListN.{length, take};
+ghost use lib.ListN.{length};
 ghost use Rattle.tape_streams.specs.Streams.{Flushed, Refilled};
 use tape_playback::Playback;
-
-// The lines that are gathered.
-fn gathered(playback: Playback, text: &[u8]) -> &[u8]
-    requires { ⌜ playback .used ≤ length (now text) ⌝ }
-    ensures { λ r. ⌜ now r ≡ take (playback .used) (now (text .entry)) ⌝ }
-{
-    let used = playback.used;
-    &text[..used]
-}
 
 // Writes out the gathered lines; where that fails the tape is over.
 pub fn flush(playback: Playback, text: &[u8]) -> Playback
     requires { ⌜ playback .used ≤ length (now text) ⌝ }
     ensures { λ r. ⌜ Flushed playback r ⌝ }
 {
+    let used = playback.used;
     let mut now = playback;
     now.used = 0;
-    if !streams::put_out(gathered(playback, text), b"tape_printer: standard output") {
+    if !streams::put_out(&text[..used], b"tape_printer: standard output") {
         now.over = true;
     }
     now
@@ -31,6 +22,7 @@ pub fn flush(playback: Playback, text: &[u8]) -> Playback
 // ended or the tape is over.
 pub fn refill(playback: Playback, tape: &mut [u8]) -> Playback
     requires { ⌜ (playback .place ≤ playback .end) × (playback .end ≤ length (now tape)) ⌝ }
+    requires { ⌜ 25 ≤ length (now tape) ⌝ }
     ensures { λ r. ⌜ Refilled playback (now (tape .entry)) r (now (tape .exit)) ⌝ }
 {
     let mut now = playback;

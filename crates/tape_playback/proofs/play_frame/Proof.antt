@@ -78,8 +78,8 @@ slid-requires c κs =
     let at-start = at-play-known .before .before .before .before .before .before .before .before .before .before .before .before .before .before .before .before in
     (at-start .pre .1 .1 .0, left-bounded (at-play-known .play-known .ensures))
 
-add-next-used : tie.Need-add-next-used
-add-next-used c =
+add-now : tie.Need-add-now
+add-now c =
     let at-play-known = c .before .before .before .before .before .before .before .before .before .before .before .before .before .before .before in
     let at-play-known-arg6 = at-play-known .before in
     let at-start = at-play-known-arg6 .before .before .before .before .before .before .before .before .before .before .before .before .before .before .before in
@@ -136,7 +136,7 @@ play-frame-spec =
     part-play-known-end-5
     play-known-requires
     slid-requires
-    add-next-used
+    add-now
     same-length
     same-length-2
     same-length-3

@@ -58,7 +58,7 @@ slice-aggregate-refill c =
 refill-requires : tie.Need-refill-requires Inv-loop μ-loop
 refill-requires c κs =
     let at-loop = c .before .before .before .before .before .before in
-    let i = at-loop .loop .inv in let f = c .before .flush .ensures in (omega (arith, f .place, f .same .end, i .inside), omega (arith, f .same .end, i .come))
+    let i = at-loop .loop .inv in let f = c .before .flush .ensures in ((omega (arith, f .place, f .same .end, i .inside), omega (arith, f .same .end, i .come)), omega (arith, i .tape-long))
 
 array-share-prefix-tape : tie.Need-array-share-prefix-tape Inv-loop μ-loop
 array-share-prefix-tape c = omega (arith, c .before .refill .ensures .within, c .before .refill .kept .1 .0)

@@ -24,7 +24,7 @@ returns : tie.Need-returns
 returns c =
     let at-ready = c .before in
     let at-start = at-ready .before .before .before .before in
-    refill-quiet _ _ (at-start .pre) (at-ready .ready .ensures) (c .if1 .taken)
+    refill-quiet _ _ (at-start .pre .0) (at-ready .ready .ensures) (c .if1 .taken)
 
 sub-rest : tie.Need-sub-rest
 sub-rest c = search needs
@@ -61,7 +61,7 @@ returns-2 c =
     let at-ready = at-if1 .before in
     let at-start = at-ready .before .before .before .before in
     let came = at-read-in .read-in in
-    refill-read _ _ (at-start .pre) (came .last .0) (at-ready .ready .ensures) (at-if1 .if1 .left) (at-to-front .to-front .ensures) (came .ensures .0 .0) (came .kept .0) (came .ensures .1)
+    refill-read _ _ (at-start .pre .0) (at-start .pre .1) (came .last .0) (at-ready .ready .ensures) (at-if1 .if1 .left) (at-to-front .to-front .ensures) (came .ensures .0 .0) (came .kept .0) (came .ensures .1)
 
 pub refill-spec : {M : Type 1} → statement M
 refill-spec =
