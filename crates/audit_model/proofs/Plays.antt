@@ -15,7 +15,7 @@ use Rattle.head.specs.Heads.{settingsHold, lastPosition}
 use Rattle.head.proofs.Settings.{settings-within}
 use Rattle.refusals.proofs.Numbers.{zero-passed}
 use Rattle.model.specs.Changes.{changeRoom}
-use Rattle.model.specs.Reference.{Reference, Quote, ample, opening, isOpen, withQuote, tooShort, tells, referenceStep}
+use Rattle.model.specs.Reference.{Reference, Quote, ample, newest, opening, isOpen, withQuote, withQuotes, tooShort, tells, referenceStep}
 use Rattle.audit_model.specs.Audit.{tapeOpening, plays}
 
 -- the reference model that holds these quotes, with no watch standing
@@ -110,6 +110,10 @@ module _ (s : Reference) (hold : isOpen s ≡ true) where
           wide w zero h = eqb-true (length x) d u
           wide w (suc k) h = w k (omega arith)
       go false u b v e f r = absurd (omega arith)
+
+  -- an opened model takes quotes of d columns while the tape has space for them
+  pub plays-on : (more : List (List ℕ)) → WideAll d more → newest s + length more ≤ lastPosition → plays more s ≡ withQuotes s more
+  plays-on more wide room = plays-all more (s .quotes) wide room
 
 module _ (d N directions : ℕ) (hold : settingsHold d N directions ≡ true) where
   fresh-opened : isOpen (holding d N directions []) ≡ true
