@@ -36,7 +36,7 @@ fn lay_arguments(words: &mut [u8]) -> usize
 fn arguments() -> Fields {
     let mut words = [32u8; 64];
     let end = lay_arguments(&mut words);
-    fields_from(&words[..end], 0)
+    fields_from(&words[..end], 0, b' ')
 }
 
 fn main() {

@@ -160,9 +160,9 @@ pub struct Asked {
 
 // The rules that a line of four numbers says, a space before each: d, N, directions and n.
 pub fn rules_in(line: &[u8]) -> Asked
-    ensures { λ r. ⌜ r ≡ askedBy (fieldsFrom noField (now (line .entry))) ⌝ }
+    ensures { λ r. ⌜ r ≡ askedBy (fieldsFrom 32 noField (now (line .entry))) ⌝ }
 {
-    let fields = line_fields::fields_from(line, 0);
+    let fields = line_fields::fields_from(line, 0, b' ');
     let numbers = fields.numbers;
     Asked {
         valid: fields.valid & !fields.empty & (fields.count == 4),
