@@ -154,8 +154,6 @@ static void own_refusals(void) {
     refused(BQB_WINDOW_SIZE, END, 6, 1, 0), refused(BQB_NOT_WATCHED, END, 2, 2, 0), refused(BQB_NOT_WATCHED, END, 3, 1, 0), refused(BQB_NOT_WATCHED, UNPAIR, 0, 0, 0);
     begin();
     for (uint32_t n = 1; n <= 5; n++) if (n != 2) accepted(WATCH, n, 1, 0);
-    accepted(OPEN, 2, 5, 0);
-    for (uint32_t n = 1; n <= 5; n++) accepted(WATCH, n, 1, 0);
     for (uint32_t n = 1; n <= 3; n++) accepted(WATCH, n, 2, 0);
     lent.out = 0, refused(BQB_ALREADY_WATCHED, WATCH, 3, 2, 0), refused(BQB_NO_FREE_RECORD, WATCH, 4, 2, 0);
     begin(), accepted(PAIR, 2, 3, 0), lent.out = 0, refused(BQB_NO_FREE_RECORD, PAIR, 2, 3, 0);

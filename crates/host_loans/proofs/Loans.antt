@@ -114,6 +114,13 @@ lent-eight held cells same enough = same ∙ eight-lent cells enough
 
 -- ---- what the host is told
 
+-- a promise of a desk, by another name for it
+pub watch-desk : {h : Head} {desk own : Desk} {m : ℕ} {t : Tables} {ws before left after : List ℕ} {r : Reply} → desk ≡ own → Watched h desk m t ws before r left after → Watched h own m t ws before r left after
+watch-desk {h} {desk} {own} {m} {t} {ws} {before} {left} {after} {r} e p = subst (λ (d : Desk). Watched h d m t ws before r left after) e p
+
+pub end-desk : {h : Head} {desk own : Desk} {m : ℕ} {t : Tables} {ws left : List ℕ} {r : Reply} → desk ≡ own → Ended h desk m t ws r left → Ended h own m t ws r left
+end-desk {h} {desk} {own} {m} {t} {ws} {left} {r} e p = subst (λ (d : Desk). Ended h d m t ws r left) e p
+
 -- cells that a refused call left
 pub untouched : {n : ℕ} {cells : List ℕ} → OnlyEight n cells cells
 unfolding granted
@@ -183,8 +190,10 @@ module _ {h at : Head} {t : Tables} (e : h ≡ at) where
     quote-short-told {x} {before} = record { reply = shortReply at at; answer = short-answered h at e a; promised = (quote-lacking ws lacking at x t before, refl, refl) }
 
     pub preview-short-told : {x before : List ℕ}
-        → Answered n (λ reply. Previewed at x t (recordsIn ws) before (record { reply = reply; live = at .live; held = at .held }) before × (0 ≡ reply .count))
-    preview-short-told {x} {before} = record { reply = shortReply at at; answer = short-answered h at e a; promised = (preview-lacking ws lacking at x t before, refl) }
+        → Answered n (λ reply. Previewed at x t (recordsIn ws) before (record { reply = reply; live = h .live; held = h .held }) before × (0 ≡ reply .count))
+    preview-short-told {x} {before} =
+        let counts = subst (λ (g : Head). Previewed at x t (recordsIn ws) before (record { reply = shortReply at at; live = g .live; held = g .held }) before) (sym e) (preview-lacking ws lacking at x t before) in
+        record { reply = shortReply at at; answer = short-answered h at e a; promised = (counts, refl) }
 
     pub pair-short-told : {n1 n2 : ℕ} {before : List ℕ} → Answered n (λ reply. Paired at n1 n2 t (recordsIn ws) before reply before × (at ≡ reply .head) × (0 ≡ reply .count))
     pair-short-told {n1} {n2} {before} = record { reply = shortReply at at; answer = short-answered h at e a; promised = (pair-lacking ws lacking at n1 n2 t before, refl, refl) }

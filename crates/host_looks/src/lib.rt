@@ -6,11 +6,11 @@ ghost use Rattle.model.specs.Promises.{tables, Looked, PastLooked, DueLooked};
 ghost use Rattle.host_cells.specs.Cells.{headIn, Answered, Counts};
 ghost use Rattle.host_looks.specs.Verdicts.{findingNumber, findingVerdict};
 use audits::audit;
-use book::due;
-use book::look;
-use book::past;
+use due::due;
 use host_cells::head_of;
 use host_cells::number_of;
+use looking::look;
+use looking::past;
 use replies::Verdict;
 
 // Writes the positions of the list of n into lent cells, and hands back how many.
@@ -29,17 +29,9 @@ pub extern "C" fn bqb_look(
         (tables (now (columns .entry)) (now (positions .entry)) (now («lower_ends» .entry)) (now («upper_ends» .entry)))
         (now (cells .entry)) reply (now (cells .exit)) × Counts reply (now (count .exit))) ⌝ }
 {
-    let reply = look(
-        head_of(head),
-        n,
-        columns,
-        positions,
-        lower_ends,
-        upper_ends,
-        cells,
-    );
-    *count = reply.count;
-    let answer = reply.answer;
+    let listed = look(head_of(head), n, columns, positions, lower_ends, upper_ends, cells);
+    *count = listed.count;
+    let answer = listed.answer;
     number_of(answer)
 }
 
@@ -60,18 +52,9 @@ pub extern "C" fn bqb_past(
         (tables (now (columns .entry)) (now (positions .entry)) (now («lower_ends» .entry)) (now («upper_ends» .entry)))
         (now (cells .entry)) reply (now (cells .exit)) × Counts reply (now (count .exit))) ⌝ }
 {
-    let reply = past(
-        head_of(head),
-        n1,
-        n2,
-        columns,
-        positions,
-        lower_ends,
-        upper_ends,
-        cells,
-    );
-    *count = reply.count;
-    let answer = reply.answer;
+    let past_list = past(head_of(head), n1, n2, columns, positions, lower_ends, upper_ends, cells);
+    *count = past_list.count;
+    let answer = past_list.answer;
     number_of(answer)
 }
 
@@ -90,16 +73,9 @@ pub extern "C" fn bqb_due(
         (tables (now (columns .entry)) (now (positions .entry)) (now («lower_ends» .entry)) (now («upper_ends» .entry)))
         (now (cells .entry)) reply (now (cells .exit)) × Counts reply (now (count .exit))) ⌝ }
 {
-    let reply = due(
-        head_of(head),
-        columns,
-        positions,
-        lower_ends,
-        upper_ends,
-        cells,
-    );
-    *count = reply.count;
-    let answer = reply.answer;
+    let rows = due(head_of(head), columns, positions, lower_ends, upper_ends, cells);
+    *count = rows.count;
+    let answer = rows.answer;
     number_of(answer)
 }
 

@@ -83,7 +83,7 @@ pub extern "C" fn bqb_quote(
         *count = 0;
         return short_answer(before);
     }
-    let reply = by_value::quote(
+    let taken = by_value::quote(
         before,
         quote,
         columns,
@@ -93,10 +93,10 @@ pub extern "C" fn bqb_quote(
         records_of(watches),
         out,
     );
-    let next = reply.head;
-    let answer = reply.answer;
+    let next = taken.head;
+    let answer = taken.answer;
     store_head(next, head);
-    *count = reply.count;
+    *count = taken.count;
     number_of(answer)
 }
 

@@ -35,9 +35,10 @@ pub extern "C" fn bqb_set_watch(
         *count = 0;
         return short_answer(before);
     }
+    let whose = desk_of(desk);
     let made = changed_by_value::watch(
         before,
-        desk_of(desk),
+        whose,
         n,
         columns,
         positions,
@@ -46,9 +47,9 @@ pub extern "C" fn bqb_set_watch(
         records_of(watches),
         out,
     );
-    let reply = made.reply;
-    let answer = reply.answer;
-    *count = reply.count;
+    let joined = made.reply;
+    let answer = joined.answer;
+    *count = joined.count;
     let number = number_of(answer);
     if 0 < number {
         return number;
@@ -79,9 +80,10 @@ pub extern "C" fn bqb_end_watch(
     if watches.len() < 16 {
         return short_answer(before);
     }
+    let owner = desk_of(desk);
     let made = changed_by_value::end(
         before,
-        desk_of(desk),
+        owner,
         n,
         columns,
         positions,
@@ -91,13 +93,13 @@ pub extern "C" fn bqb_end_watch(
     );
     let reply = made.reply;
     let answer = reply.answer;
-    let number = number_of(answer);
-    if 0 < number {
-        return number;
+    let refusal = number_of(answer);
+    if 0 < refusal {
+        return refusal;
     }
     let records = made.records;
     store_records(records, watches);
-    number
+    refusal
 }
 
 // Sets the watch of the pair n1 and n2 and writes a join for each position of its past list; hands back the head with the pair and how many bytes.
@@ -135,9 +137,9 @@ pub extern "C" fn bqb_set_pair(
         records_of(watches),
         out,
     );
-    let next = reply.head;
+    let paired = reply.head;
     let answer = reply.answer;
-    store_head(next, head);
+    store_head(paired, head);
     *count = reply.count;
     number_of(answer)
 }
@@ -160,16 +162,10 @@ pub extern "C" fn bqb_end_pair(
     if watches.len() < 16 {
         return short_answer(before);
     }
-    let reply = by_value::unpair(
-        before,
-        columns,
-        positions,
-        lower_ends,
-        upper_ends,
-        records_of(watches),
-    );
-    let next = reply.head;
-    let answer = reply.answer;
-    store_head(next, head);
+    let records = records_of(watches);
+    let left = by_value::unpair(before, columns, positions, lower_ends, upper_ends, records);
+    let unpaired = left.head;
+    let answer = left.answer;
+    store_head(unpaired, head);
     number_of(answer)
 }
