@@ -164,7 +164,7 @@ static int read_more(struct tape *tape) {
     fflush(stdout);
     memmove(tape->bytes, tape->bytes + tape->place, tape->length - tape->place);
     tape->length -= tape->place;
-    tape->place = 0;
+    tape->start = tape->place = 0;
     ssize_t got = read(STDIN_FILENO, tape->bytes + tape->length, sizeof tape->bytes - tape->length);
     if (got < 0) perror("panel: standard input");
     tape->length += got > 0 ? (size_t)got : 0;
