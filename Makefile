@@ -2,7 +2,7 @@
 # What rt prints goes to a log under build/; standard error gets a line for each crate.
 SHELL := /bin/bash
 .SHELLFLAGS := -euo pipefail -c
-.PHONY: test proofs models run host panel random random-calls random-panel rules plants rule-plants yardstick notation citations tapes test-slow bench install
+.PHONY: test proofs models run host panel random random-calls random-panel rules plants rule-plants yardstick notation citations tapes test-slow test-memory bench install
 
 PRINTER ?= target/bin/tape_printer
 WRITER ?= target/bin/tape_writer
@@ -53,7 +53,7 @@ host: build/worked_host build/refused_calls panel
 	@tail -n 1 build/worked_host.txt
 	@build/refused_calls
 
-# the panel prints each sample tape as the printer does, by the calls and by the library's player
+# the panel prints each sample tape as the printer does, by the calls and by the library's player, with gcc's sanitizers too
 panel: build/panel build/panel_sanitized build/refused_calls_sanitized $(PRINTER)
 	@for sample in $(SAMPLES); do \
 	    for panel in build/panel 'build/panel --play' build/panel_sanitized 'build/panel_sanitized --play'; do \
@@ -93,11 +93,18 @@ install: target/staticlib/libhost.a $(BOOK_LIBRARY)
 random: build/plain_model $(PRINTER)
 	@build/plain_model $(PRINTER) $(SEED) $(TAPES)
 
-# the panel in C against the plain model, on fewer tapes: by the calls, by the library's player, and with gcc's sanitizers
-random-panel: build/plain_model build/panel build/panel_sanitized
+# the panel in C against the plain model, on fewer tapes: by the calls, and by the library's player
+random-panel: build/plain_model build/panel
 	@build/plain_model build/panel $(SEED) $(PANEL_TAPES)
 	@build/plain_model 'build/panel --play' $(SEED) $(PANEL_TAPES)
+
+# the same with gcc's sanitizers, and the samples under valgrind: a minute, and no part of make test
+test-memory: build/plain_model build/panel build/panel_sanitized build/refused_calls
 	@build/plain_model build/panel_sanitized $(SEED) 500
+	@for sample in $(SAMPLES); do \
+	    for panel in build/panel 'build/panel --play'; do valgrind -q --error-exitcode=1 $$panel < $$sample.tape > /dev/null; done; \
+	done
+	@valgrind -q --error-exitcode=1 build/refused_calls
 
 # the book player against the plain model of the calls, on random lists of calls and any tables
 random-calls: build/random_calls $(PLAYER)

@@ -147,11 +147,15 @@ static void own_refusals(void) {
     }
     begin(), lent.cells = 0;
     refused(BQB_WINDOW_SIZE, LOOK, 0, 0, 0), refused(BQB_WINDOW_SIZE, LOOK, 6, 0, 0), refused(BQB_SHORT_OUTPUT, LOOK, 5, 0, 0);
-    refused(BQB_WINDOW_SIZE, PAST, 0, 2, 0), refused(BQB_WINDOW_SIZE, PAST, 7, 6, 0), refused(BQB_WINDOW_ORDER, PAST, 3, 2, 0), refused(BQB_SHORT_OUTPUT, PAST, 1, 2, 0);
+    refused(BQB_WINDOW_SIZE, PAST, 0, 2, 0), refused(BQB_WINDOW_SIZE, PAST, 7, 6, 0);
+    refused(BQB_WINDOW_ORDER, PAST, 3, 2, 0), refused(BQB_SHORT_OUTPUT, PAST, 1, 2, 0);
     begin(), lent.out = 0;
-    refused(BQB_WINDOW_SIZE, WATCH, 0, 1, 0), refused(BQB_WINDOW_SIZE, WATCH, 6, 2, 0), refused(BQB_ALREADY_WATCHED, WATCH, 2, 1, 0), refused(BQB_SHORT_OUTPUT, WATCH, 2, 2, 0);
-    refused(BQB_WINDOW_SIZE, PAIR, 1, 2, 0), refused(BQB_WINDOW_SIZE, PAIR, 7, 6, 0), refused(BQB_WINDOW_ORDER, PAIR, 4, 3, 0), refused(BQB_SHORT_OUTPUT, PAIR, 2, 3, 0);
-    refused(BQB_WINDOW_SIZE, END, 6, 1, 0), refused(BQB_NOT_WATCHED, END, 2, 2, 0), refused(BQB_NOT_WATCHED, END, 3, 1, 0), refused(BQB_NOT_WATCHED, UNPAIR, 0, 0, 0);
+    refused(BQB_WINDOW_SIZE, WATCH, 0, 1, 0), refused(BQB_WINDOW_SIZE, WATCH, 6, 2, 0);
+    refused(BQB_ALREADY_WATCHED, WATCH, 2, 1, 0), refused(BQB_SHORT_OUTPUT, WATCH, 2, 2, 0);
+    refused(BQB_WINDOW_SIZE, PAIR, 1, 2, 0), refused(BQB_WINDOW_SIZE, PAIR, 7, 6, 0);
+    refused(BQB_WINDOW_ORDER, PAIR, 4, 3, 0), refused(BQB_SHORT_OUTPUT, PAIR, 2, 3, 0);
+    refused(BQB_WINDOW_SIZE, END, 6, 1, 0), refused(BQB_NOT_WATCHED, END, 2, 2, 0);
+    refused(BQB_NOT_WATCHED, END, 3, 1, 0), refused(BQB_NOT_WATCHED, UNPAIR, 0, 0, 0);
     begin();
     for (uint32_t n = 1; n <= 5; n++) if (n != 2) accepted(WATCH, n, 1, 0);
     for (uint32_t n = 1; n <= 3; n++) accepted(WATCH, n, 2, 0);
@@ -198,9 +202,12 @@ static void played(uint32_t want, size_t place, const uint8_t *tape, size_t leng
 
 static void tapes(void) {
     begin();
-    PLAYED(BQB_CUT, 2, 22), PLAYED(BQB_UNKNOWN_KIND, 0, 7), PLAYED(BQB_CUT, 0, 16, 5), PLAYED(BQB_OUT_OF_PLACE, 0, 48, 2, 5, 0, 0), PLAYED(BQB_OUT_OF_PLACE, 0, 40, 0, 0, 0, 0);
-    PLAYED(BQB_COLUMN_COUNT, 0, 1, 9, 0, 0, 0), PLAYED(BQB_WINDOW_SIZE, 0, 16, 6, 0), PLAYED(BQB_WINDOW_ORDER, 0, 23, 3, 0, 2, 0), PLAYED(BQB_ALREADY_WATCHED, 0, 17, 2, 0);
-    PLAYED(BQB_NOT_WATCHED, 0, 20, 2, 0), accepted(PAIR, 2, 3, 0), PLAYED(BQB_NO_FREE_RECORD, 0, 21, 2, 0, 3, 0), now.positions[1] = 1, PLAYED(BQB_TORN, 0, 16, 2, 0);
+    PLAYED(BQB_CUT, 2, 22), PLAYED(BQB_UNKNOWN_KIND, 0, 7), PLAYED(BQB_CUT, 0, 16, 5);
+    PLAYED(BQB_OUT_OF_PLACE, 0, 48, 2, 5, 0, 0), PLAYED(BQB_OUT_OF_PLACE, 0, 40, 0, 0, 0, 0);
+    PLAYED(BQB_COLUMN_COUNT, 0, 1, 9, 0, 0, 0), PLAYED(BQB_WINDOW_SIZE, 0, 16, 6, 0);
+    PLAYED(BQB_WINDOW_ORDER, 0, 23, 3, 0, 2, 0), PLAYED(BQB_ALREADY_WATCHED, 0, 17, 2, 0);
+    PLAYED(BQB_NOT_WATCHED, 0, 20, 2, 0), accepted(PAIR, 2, 3, 0);
+    PLAYED(BQB_NO_FREE_RECORD, 0, 21, 2, 0, 3, 0), now.positions[1] = 1, PLAYED(BQB_TORN, 0, 16, 2, 0);
     begin(), lent.columns = 9, PLAYED(BQB_SHORT_LOAN, 0, 16, 2, 0), accepted(OPEN, 1, 1, 0);
     now.head.newest = now.positions[0] = 16777215, now.head.live = now.head.held = 1, PLAYED(BQB_TAPE_FULL, 0, 1, 9, 0, 0, 0);
     memset(&now.head, 0, sizeof now.head);

@@ -68,14 +68,38 @@ pub fn records_of(cells: &[u32]) -> [Watch; 8]
     ensures { λ r. ⌜ watched r ≡ eightRecords (now (cells .entry)) ⌝ }
 {
     [
-        Watch { n: cells[0], desk: cells[1] },
-        Watch { n: cells[2], desk: cells[3] },
-        Watch { n: cells[4], desk: cells[5] },
-        Watch { n: cells[6], desk: cells[7] },
-        Watch { n: cells[8], desk: cells[9] },
-        Watch { n: cells[10], desk: cells[11] },
-        Watch { n: cells[12], desk: cells[13] },
-        Watch { n: cells[14], desk: cells[15] },
+        Watch {
+            n: cells[0],
+            desk: cells[1],
+        },
+        Watch {
+            n: cells[2],
+            desk: cells[3],
+        },
+        Watch {
+            n: cells[4],
+            desk: cells[5],
+        },
+        Watch {
+            n: cells[6],
+            desk: cells[7],
+        },
+        Watch {
+            n: cells[8],
+            desk: cells[9],
+        },
+        Watch {
+            n: cells[10],
+            desk: cells[11],
+        },
+        Watch {
+            n: cells[12],
+            desk: cells[13],
+        },
+        Watch {
+            n: cells[14],
+            desk: cells[15],
+        },
     ]
 }
 

@@ -121,5 +121,5 @@ pub write-told : {cells columns before after : List ℕ} {message : Message} {w 
     → Wrote message columns before w after → n ≡ numberOf (w .answer) → CellsWritten cells before n (w .count) after
 write-told {cells} {before = before} {after = after} {message = message} {w = w} e f p a =
     let q : Wrote (messageIn cells) (columnsIn cells) before w after =
-        subst (λ (m : Message). Wrote m (columnsIn cells) before w after) e (subst (λ (cs : List ℕ). Wrote message cs before w after) f p) in
+    subst (λ (m : Message). Wrote m (columnsIn cells) before w after) e (subst (λ (cs : List ℕ). Wrote message cs before w after) f p) in
     record { answer = a ∙ q .answer; counts = q .count; bytes = q .bytes }

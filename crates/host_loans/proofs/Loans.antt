@@ -170,7 +170,7 @@ module _ {h at : Head} {t : Tables} (e : h ≡ at) where
       watch-refused {before} {after} p a above k =
           let q = subst (λ (l : List ℕ). Watched h desk m t l before r left after) lent p in
           let kept : ws ≡ watchWatches h desk m t ws (length before) =
-              sym (granted-refused _ (subst (λ (i : ℕ). 0 < i) (a ∙ ap Outcome.number (q .reply)) above) _ ws) in
+          sym (granted-refused _ (subst (λ (i : ℕ). 0 < i) (a ∙ ap Outcome.number (q .reply)) above) _ ws) in
           record { reply = r; answer = a; promised = (subst (λ (g : Head). Watched g desk m t ws before r ws after) e (record { reply = q .reply; watches = kept; out = q .out }), k) }
 
       pub end-refused : Ended h desk m t held r left → n ≡ numberOf (r .answer) → 0 < n → Answered n (λ reply. Ended at desk m t ws reply ws)

@@ -29,7 +29,8 @@ pub extern "C" fn bqb_look(
         (tables (now (columns .entry)) (now (positions .entry)) (now («lower_ends» .entry)) (now («upper_ends» .entry)))
         (now (cells .entry)) reply (now (cells .exit)) × Counts reply (now (count .exit))) ⌝ }
 {
-    let listed = look(head_of(head), n, columns, positions, lower_ends, upper_ends, cells);
+    let held = head_of(head);
+    let listed = look(held, n, columns, positions, lower_ends, upper_ends, cells);
     *count = listed.count;
     let answer = listed.answer;
     number_of(answer)
@@ -52,7 +53,16 @@ pub extern "C" fn bqb_past(
         (tables (now (columns .entry)) (now (positions .entry)) (now («lower_ends» .entry)) (now («upper_ends» .entry)))
         (now (cells .entry)) reply (now (cells .exit)) × Counts reply (now (count .exit))) ⌝ }
 {
-    let past_list = past(head_of(head), n1, n2, columns, positions, lower_ends, upper_ends, cells);
+    let past_list = past(
+        head_of(head),
+        n1,
+        n2,
+        columns,
+        positions,
+        lower_ends,
+        upper_ends,
+        cells,
+    );
     *count = past_list.count;
     let answer = past_list.answer;
     number_of(answer)
@@ -73,7 +83,8 @@ pub extern "C" fn bqb_due(
         (tables (now (columns .entry)) (now (positions .entry)) (now («lower_ends» .entry)) (now («upper_ends» .entry)))
         (now (cells .entry)) reply (now (cells .exit)) × Counts reply (now (count .exit))) ⌝ }
 {
-    let rows = due(head_of(head), columns, positions, lower_ends, upper_ends, cells);
+    let held = head_of(head);
+    let rows = due(held, columns, positions, lower_ends, upper_ends, cells);
     *count = rows.count;
     let answer = rows.answer;
     number_of(answer)

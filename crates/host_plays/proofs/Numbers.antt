@@ -27,7 +27,7 @@ cellsOf w rest = sizeIn w ∷ deskIn w ∷ rest
 
 pub stored-numbers : (l : List ℕ) → length l ≡ 8
     → eightRecords (cellsOf (getD l 0 0) (cellsOf (getD l 1 0) (cellsOf (getD l 2 0) (cellsOf (getD l 3 0)
-      (cellsOf (getD l 4 0) (cellsOf (getD l 5 0) (cellsOf (getD l 6 0) (cellsOf (getD l 7 0) [])))))))) ≡ l
+    (cellsOf (getD l 4 0) (cellsOf (getD l 5 0) (cellsOf (getD l 6 0) (cellsOf (getD l 7 0) [])))))))) ≡ l
 unfolding eightRecords run
 stored-numbers l e =
     rw (parts (getD l 0 0), parts (getD l 1 0), parts (getD l 2 0), parts (getD l 3 0), parts (getD l 4 0), parts (getD l 5 0), parts (getD l 6 0), parts (getD l 7 0))

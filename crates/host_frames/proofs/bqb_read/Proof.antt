@@ -14,7 +14,7 @@ reading-number-requires : tie.Need-reading-number-requires
 reading-number-requires c κs = search needs
 
 returns : tie.Need-returns
-returns c = 
+returns c =
     let at-read = c .before .before .before .before .before .before in
     let moved = at-read .read .ensures in
     let before = at-read .before .before .before .args .frame .now in

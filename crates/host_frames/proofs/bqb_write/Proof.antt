@@ -20,7 +20,7 @@ same-length : tie.Need-same-length
 same-length c = search needs
 
 returns : tie.Need-returns
-returns c = 
+returns c =
     let at-write = c .before .before .before in
     write-told (at-write .before .before .before .message-of .ensures) (at-write .before .before .columns-of .ensures) (at-write .write .ensures) (c .number-of .ensures)
 

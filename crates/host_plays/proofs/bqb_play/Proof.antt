@@ -41,15 +41,20 @@ same-length-4 : tie.Need-same-length-4
 same-length-4 c = search needs
 
 returns : tie.Need-returns
-returns c = 
-    let at-play = c .before .before .before .before .before .before .before .before .before .before .before .before .before .before .before .before .before in
+returns c =
+    let at-flag-of = c .before .before in
+    let at-store-numbers = at-flag-of .before in
+    let at-store-head = at-store-numbers .before .before in
+    let at-play = at-store-head .before .before .before .before .before .before .before .before .before .before .before .before in
+    let at-numbers-of = at-play .before .before .before in
+    let at-head-of = at-numbers-of .before .before .before .before .before .before in
     record {
       step = at-play .play .result;
       answer = c .number-of .ensures;
-      turned = turned-is (c .before .before .flag-of .ensures);
-      hands = c .before .before .before .before .before .store-head .ensures;
-      records = c .before .before .before .store-numbers .ensures;
-      stepped = step-at (c .before .before .before .before .before .before .before .before .before .before .before .before .before .before .before .before .before .before .before .before .before .before .before .before .before .before .head-of .ensures) (c .before .before .before .before .before .before .before .before .before .before .before .before .before .before .before .before .before .before .before .before .numbers-of .ensures) (at-play .play .ensures);
+      turned = turned-is (at-flag-of .flag-of .ensures);
+      hands = at-store-head .store-head .ensures;
+      records = at-store-numbers .store-numbers .ensures;
+      stepped = step-at (at-head-of .head-of .ensures) (at-numbers-of .numbers-of .ensures) (at-play .play .ensures);
     }
 
 pub bqb-play-spec : {M : Type 1} → statement M

@@ -77,8 +77,23 @@ record-of-requires-8 : tie.Need-record-of-requires-8
 record-of-requires-8 c κs = search needs
 
 returns : tie.Need-returns
-returns c = 
-    numbers-are _ (c .before .before .before .before .before .before .before .before .before .before .before .before .before .before .before .before .before .before .before .before .before .record-of .ensures) (c .before .before .before .before .before .before .before .before .before .before .before .before .before .before .before .before .before .before .record-of2 .ensures) (c .before .before .before .before .before .before .before .before .before .before .before .before .before .before .before .record-of3 .ensures) (c .before .before .before .before .before .before .before .before .before .before .before .before .record-of4 .ensures) (c .before .before .before .before .before .before .before .before .before .record-of5 .ensures) (c .before .before .before .before .before .before .record-of6 .ensures) (c .before .before .before .record-of7 .ensures) (c .record-of8 .ensures)
+returns c =
+    let at-record-of7 = c .before .before .before in
+    let at-record-of6 = at-record-of7 .before .before .before in
+    let at-record-of5 = at-record-of6 .before .before .before in
+    let at-record-of4 = at-record-of5 .before .before .before in
+    let at-record-of3 = at-record-of4 .before .before .before in
+    let at-record-of2 = at-record-of3 .before .before .before in
+    let at-record-of = at-record-of2 .before .before .before in
+    numbers-are _
+    (at-record-of .record-of .ensures)
+    (at-record-of2 .record-of2 .ensures)
+    (at-record-of3 .record-of3 .ensures)
+    (at-record-of4 .record-of4 .ensures)
+    (at-record-of5 .record-of5 .ensures)
+    (at-record-of6 .record-of6 .ensures)
+    (at-record-of7 .record-of7 .ensures)
+    (c .record-of8 .ensures)
 
 pub numbers-of-spec : {M : Type 1} → statement M
 numbers-of-spec =

@@ -101,9 +101,33 @@ desk-of-requires-8 : tie.Need-desk-of-requires-8
 desk-of-requires-8 c κs = search needs
 
 returns : tie.Need-returns
-returns c = 
-    let s = c .before .before .before .before .before .before .before .before .before .before .before .before .before .before .before .before .before in
-    stored-are (s .args .t1) (s .good .0 .1 .0 .1) (c .before .before .before .before .before .before .before .before .before .before .before .before .before .before .before .before .size-of .ensures) (c .before .before .before .before .before .before .before .before .before .before .before .before .before .before .before .desk-of .ensures) (c .before .before .before .before .before .before .before .before .before .before .before .before .before .before .size-of2 .ensures) (c .before .before .before .before .before .before .before .before .before .before .before .before .before .desk-of2 .ensures) (c .before .before .before .before .before .before .before .before .before .before .before .before .size-of3 .ensures) (c .before .before .before .before .before .before .before .before .before .before .before .desk-of3 .ensures) (c .before .before .before .before .before .before .before .before .before .before .size-of4 .ensures) (c .before .before .before .before .before .before .before .before .before .desk-of4 .ensures) (c .before .before .before .before .before .before .before .before .size-of5 .ensures) (c .before .before .before .before .before .before .before .desk-of5 .ensures) (c .before .before .before .before .before .before .size-of6 .ensures) (c .before .before .before .before .before .desk-of6 .ensures) (c .before .before .before .before .size-of7 .ensures) (c .before .before .before .desk-of7 .ensures) (c .before .before .size-of8 .ensures) (c .before .desk-of8 .ensures)
+returns c =
+    let at-desk-of8 = c .before in
+    let at-size-of8 = at-desk-of8 .before in
+    let at-desk-of7 = at-size-of8 .before in
+    let at-size-of7 = at-desk-of7 .before in
+    let at-desk-of6 = at-size-of7 .before in
+    let at-size-of6 = at-desk-of6 .before in
+    let at-desk-of5 = at-size-of6 .before in
+    let at-size-of5 = at-desk-of5 .before in
+    let at-desk-of4 = at-size-of5 .before in
+    let at-size-of4 = at-desk-of4 .before in
+    let at-desk-of3 = at-size-of4 .before in
+    let at-size-of3 = at-desk-of3 .before in
+    let at-desk-of2 = at-size-of3 .before in
+    let at-size-of2 = at-desk-of2 .before in
+    let at-desk-of = at-size-of2 .before in
+    let at-size-of = at-desk-of .before in
+    let start = at-size-of .before in
+    stored-are (start .args .t1) (start .good .0 .1 .0 .1)
+    (at-size-of .size-of .ensures) (at-desk-of .desk-of .ensures)
+    (at-size-of2 .size-of2 .ensures) (at-desk-of2 .desk-of2 .ensures)
+    (at-size-of3 .size-of3 .ensures) (at-desk-of3 .desk-of3 .ensures)
+    (at-size-of4 .size-of4 .ensures) (at-desk-of4 .desk-of4 .ensures)
+    (at-size-of5 .size-of5 .ensures) (at-desk-of5 .desk-of5 .ensures)
+    (at-size-of6 .size-of6 .ensures) (at-desk-of6 .desk-of6 .ensures)
+    (at-size-of7 .size-of7 .ensures) (at-desk-of7 .desk-of7 .ensures)
+    (at-size-of8 .size-of8 .ensures) (at-desk-of8 .desk-of8 .ensures)
 
 pub store-numbers-spec : {M : Type 1} → statement M
 store-numbers-spec =

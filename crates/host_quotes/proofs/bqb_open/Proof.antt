@@ -14,7 +14,7 @@ short-answer-requires : tie.Need-short-answer-requires
 short-answer-requires c κs = search needs
 
 returns : tie.Need-returns
-returns c = 
+returns c =
     let at-fresh = c .before in
     let at-if1 = at-fresh .before in
     let start = at-if1 .before .before .before .before .before .before in
@@ -45,7 +45,7 @@ same-length-5 : tie.Need-same-length-5
 same-length-5 c = search needs
 
 returns-2 : tie.Need-returns-2
-returns-2 c = 
+returns-2 c =
     let at-number-of = c .before in
     let at-open = at-number-of .before .before .before .before .before .before .before .before .before .before in
     let at-records-of = at-open .before in
@@ -77,7 +77,7 @@ same-length-10 : tie.Need-same-length-10
 same-length-10 c = search needs
 
 returns-3 : tie.Need-returns-3
-returns-3 c = 
+returns-3 c =
     let at-store-records = c .before .before in
     let at-store-head = at-store-records .before .before in
     let at-if2 = at-store-head .before .before .before .before in
@@ -91,8 +91,7 @@ returns-3 c =
     let stored = at-store-records .store-records in
     let kept = lent-eight _ (stored .last .1 .0) (sym (stored .ensures .0)) (omega (arith, stored .kept .1 .0, enough)) in
     let zero : at-number-of .number-of .result ≡ 0 = omega (arith, at-if2 .if2 .left) in
-    let head = headIn (start .args .head .now) in
-    (
+    let head = headIn (start .args .head .now) in (
       open-told lent (at-open .«open» .ensures) (at-number-of .number-of .ensures) head zero (at-store-head .store-head .ensures) kept,
       changed zero (stored .ensures .1),
     )

@@ -12,7 +12,7 @@ short-answer-requires : tie.Need-short-answer-requires
 short-answer-requires c κs = search needs
 
 returns : tie.Need-returns
-returns c = 
+returns c =
     let at-if1 = c .before in
     let at-head-of = at-if1 .before in
     let start = at-head-of .before .before .before .before .before .before .before .before .before in
@@ -46,7 +46,7 @@ same-length-5 : tie.Need-same-length-5
 same-length-5 c = search needs
 
 returns-2 : tie.Need-returns-2
-returns-2 c = 
+returns-2 c =
     let at-store-head = c .before in
     let at-quote = at-store-head .before .before .before .before .before .before .before .before .before .before .before .before .before in
     let at-records-of = at-quote .before .before in

@@ -11,7 +11,7 @@ short-answer-requires : tie.Need-short-answer-requires
 short-answer-requires c κs = search needs
 
 returns : tie.Need-returns
-returns c = 
+returns c =
     let at-if1 = c .before in
     let at-head-of = at-if1 .before in
     let start = at-head-of .before .before .before .before .before .before .before in
@@ -30,7 +30,7 @@ number-of-requires : tie.Need-number-of-requires
 number-of-requires c κs = search needs
 
 returns-2 : tie.Need-returns-2
-returns-2 c = 
+returns-2 c =
     let at-store-head = c .before in
     let at-unpair = at-store-head .before .before .before in
     let at-records-of = at-unpair .before in

@@ -13,7 +13,7 @@ short-answer-requires : tie.Need-short-answer-requires
 short-answer-requires c κs = search needs
 
 returns : tie.Need-returns
-returns c = 
+returns c =
     let at-if1 = c .before in
     let at-head-of = at-if1 .before in
     let start = at-head-of .before .before .before .before .before .before in
@@ -35,7 +35,7 @@ same-length : tie.Need-same-length
 same-length c = search needs
 
 returns-2 : tie.Need-returns-2
-returns-2 c = 
+returns-2 c =
     let at-number-of = c .before in
     let at-end = at-number-of .before .before in
     let at-records-of = at-end .before in
@@ -55,7 +55,7 @@ same-length-2 : tie.Need-same-length-2
 same-length-2 c = search needs
 
 returns-3 : tie.Need-returns-3
-returns-3 c = 
+returns-3 c =
     let at-store-records = c .before .before in
     let at-if2 = at-store-records .before .before .before in
     let at-number-of = at-if2 .before in

@@ -12,7 +12,7 @@ short-answer-requires : tie.Need-short-answer-requires
 short-answer-requires c κs = search needs
 
 returns : tie.Need-returns
-returns c = 
+returns c =
     let at-if1 = c .before in
     let at-head-of = at-if1 .before in
     let start = at-head-of .before .before .before .before .before .before .before .before in
@@ -34,7 +34,7 @@ same-length : tie.Need-same-length
 same-length c = search needs
 
 returns-2 : tie.Need-returns-2
-returns-2 c = 
+returns-2 c =
     let at-store-head = c .before in
     let at-pair = at-store-head .before .before .before .before .before in
     let at-records-of = at-pair .before .before in
