@@ -66,11 +66,12 @@ static void judge(const char *what, uint32_t got, uint32_t want) {
     }
 }
 
-/* Makes a call that is refused. A preview hands back the head's own counts, an audit no verdict. */
+/* Makes a call that is refused: where it hands back a count that is 0, a preview the head's own rows, an audit no verdict. */
 static void refused(uint32_t want, enum function f, uint32_t a, uint32_t b, uint32_t c) {
-    count = 0;
-    now.live = now.head.live, now.held = now.head.held, now.passes = 0;
+    count = f == OPEN || f == END || f == UNPAIR || f == AUDIT ? 0 : 9;
     before = now;
+    if (f == PREVIEW) before.live = now.head.live, before.held = now.head.held;
+    if (f == AUDIT) before.passes = 0;
     judge(names[f], call(f, a, b, c), want);
 }
 
