@@ -2,7 +2,7 @@
 # What rt prints goes to a log under build/; standard error gets a line for each crate.
 SHELL := /bin/bash
 .SHELLFLAGS := -euo pipefail -c
-.PHONY: test proofs models try run host random random-calls rules plants rule-plants yardstick notation citations tapes test-slow bench late pieces venues spreadsheet days day-plants drill
+.PHONY: test proofs models try run host random random-calls rules plants rule-plants yardstick notation citations tapes test-slow bench late pieces venues spreadsheet days day-plants drill panel random-panel test-memory install
 
 PRINTER ?= target/bin/tape_printer
 WRITER ?= target/bin/tape_writer
@@ -18,6 +18,8 @@ LISTS ?= 10000
 PAIRS ?= 1000
 DAYS ?= 1000
 GAMES ?= 600
+PANEL_TAPES ?= 2000
+PREFIX ?= /usr/local
 RUNS ?= 9
 FILES ?= 300
 PLANTS := equals-stay earlier-stands oldest window kept misprint upper pair-first nine-first pair-end nine-at-eight \
@@ -33,6 +35,11 @@ VENUE_PLANTS := second-on-equal fifteen-before-seven sixteen-before-fifteen midn
 SHEET_PLANTS := lf-cuts leading-zero above empty-rest last-misfit fewer-columns
 DAY_PLANTS := equals-stay earlier-stands halves-apart from-zero longest-refused columns-first
 DRILL_PLANTS := some-reply last-place equals-stay four-first pass-ends list-of-memory
+# the crates whose exported functions are the book's library for C
+BOOK_CRATES := host_frames host_looks host_quotes host_watches host_plays
+BOOK_LIBRARY := build/libbest_quote_book.a
+CC := gcc -std=c11 -O2 -Wall -Wextra -Werror -Ihost
+SANITIZED := -g -fsanitize=address,undefined -fno-sanitize-recover=all
 SAMPLES := $(basename $(wildcard tapes/*.txt))
 # of a command, the program that is made here; another's stands already
 made = $(filter target/bin/% build/%,$(firstword $(1)))
@@ -42,7 +49,7 @@ RUSTC := env -u MAKEFLAGS $(IDLE) rustc --edition 2021 -O -D warnings
 
 test: citations
 	@$(MAKE) --no-print-directory -j2 proofs models
-	@$(MAKE) --no-print-directory -j2 host random random-calls late plants pieces notation venues spreadsheet days day-plants drill
+	@$(MAKE) --no-print-directory -j2 host random random-calls late plants pieces notation venues spreadsheet days day-plants drill random-panel
 	@tools/dearest.sh build/ci.txt
 	@tail -n 1 build/ci.txt | grep -Ex '[0-9]+ passed, 0 failed'
 
@@ -63,12 +70,47 @@ try:
 run: $(PRINTER)
 	@$(PRINTER) < $(TAPE)
 
-# the library for C, and the worked host over it; what the host prints is kept
-host:
-	@rt staticlib host 2>&1 | tools/progress.sh build/staticlib.txt host
-	@gcc -std=c11 -Wall -Wextra -Werror -Ihost -o build/worked_host host/worked_host.c target/staticlib/libhost.a
+# both libraries for C, the worked host, the refused calls and the panel over them; what the worked host prints is kept
+host: build/worked_host build/refused_calls panel
 	@build/worked_host > build/worked_host.txt
 	@tail -n 1 build/worked_host.txt
+	@build/refused_calls
+
+# the panel prints each sample tape as the printer does, by the calls and by the library's player, with gcc's sanitizers too
+panel: build/panel build/panel_sanitized build/refused_calls_sanitized $(PRINTER)
+	@for sample in $(SAMPLES); do \
+	    for panel in build/panel 'build/panel --play' build/panel_sanitized 'build/panel_sanitized --play'; do \
+	        $$panel < $$sample.tape | cmp - <($(PRINTER) < $$sample.tape); \
+	    done; \
+	done
+	@build/refused_calls_sanitized > /dev/null
+
+target/staticlib/lib%.a: crates.txt $(shell find crates -name '*.rt' -o -name '*.antt')
+	@rt staticlib $* 2>&1 | tools/progress.sh build/staticlib_$*.txt $*
+
+# one library of the functions that several crates export: each archive has one object, whose other names are its own
+$(BOOK_LIBRARY): $(BOOK_CRATES:%=target/staticlib/lib%.a)
+	@mkdir -p build
+	@rm -f $@
+	@{ echo 'create $@'; printf 'addlib %s\n' $^; echo save; echo end; } | ar -M
+
+build/worked_host: host/worked_host.c host/best_quote.h target/staticlib/libhost.a
+	@mkdir -p build
+	@$(CC) -o $@ $< target/staticlib/libhost.a
+
+build/%: host/%.c host/best_quote_book.h $(BOOK_LIBRARY)
+	@$(CC) -o $@ $< $(BOOK_LIBRARY)
+
+build/%_sanitized: host/%.c host/best_quote_book.h $(BOOK_LIBRARY)
+	@$(CC) $(SANITIZED) -o $@ $< $(BOOK_LIBRARY)
+
+# both libraries and their manuals, and what pkg-config says of them
+install: target/staticlib/libhost.a $(BOOK_LIBRARY)
+	@install -d $(PREFIX)/lib/pkgconfig $(PREFIX)/include
+	@install -m 644 target/staticlib/libhost.a $(PREFIX)/lib/libbest_quote.a
+	@install -m 644 $(BOOK_LIBRARY) $(PREFIX)/lib/
+	@install -m 644 host/best_quote.h host/best_quote_book.h $(PREFIX)/include/
+	@sed 's,@PREFIX@,$(abspath $(PREFIX)),' host/best_quote_book.pc.in > $(PREFIX)/lib/pkgconfig/best_quote_book.pc
 
 # the printer, a command with its arguments, against the plain model on random and damaged tapes
 random: build/plain_model $(call made,$(PRINTER))
@@ -85,6 +127,21 @@ late: build/late_book $(PRINTER)
 # the drill against a plain model: every way of choosing in small games, and random games
 drill: build/drill $(DRILL)
 	@build/drill $(DRILL) $(SEED) $(GAMES)
+
+# the panel in C against the plain model, on fewer tapes: by the calls, and by the library's player
+random-panel: build/plain_model build/panel
+	@build/plain_model build/panel $(SEED) $(PANEL_TAPES)
+	@build/plain_model 'build/panel --play' $(SEED) $(PANEL_TAPES)
+# the same with gcc's sanitizers, and the samples under valgrind: a minute, and no part of make test
+test-memory: build/plain_model build/panel build/panel_sanitized build/refused_calls
+	@build/plain_model build/panel_sanitized $(SEED) 500
+	@for sample in $(SAMPLES); do \
+	    for panel in build/panel 'build/panel --play'; do valgrind -q --error-exitcode=1 $$panel < $$sample.tape > /dev/null; done; \
+	done
+	@valgrind -q --error-exitcode=1 build/refused_calls
+# the book player against the plain model of the calls, on random lists of calls and any tables
+random-calls: build/random_calls $(PLAYER)
+	@build/random_calls $(PLAYER) $(SEED) $(LISTS)
 
 # the audit's plain rules, lists and what is due, as that model has them, against every tape of small settings; its
 # previews against its quotes; what a desk sees of a list against what it sees of one that differs in all else
@@ -163,7 +220,7 @@ tapes: $(WRITER)
 test-slow: build/full_tape $(PRINTER)
 	@build/full_tape $(PRINTER) $(SEED)
 
-bench: build/bench build/yardstick build/plain_model build/make_tape build/join build/plain_join $(PRINTER) $(JOINER) build/imports build/csv_yardstick $(IMPORTER) build/day_bench build/day_yardstick $(DAY_SHEET) build/drill_time $(DRILL)
+bench: build/bench build/yardstick build/plain_model build/make_tape build/join build/plain_join $(PRINTER) $(JOINER) build/imports build/csv_yardstick $(IMPORTER) build/day_bench build/day_yardstick $(DAY_SHEET) build/drill_time $(DRILL) build/panel
 	@build/bench $(PRINTER) $(RUNS)
 	@build/join $(JOINER) $(RUNS)
 	@build/imports $(IMPORTER) $(RUNS)

@@ -10,6 +10,7 @@ use std::io::BufRead;
 use std::process::{Command, Stdio};
 use std::time::Instant;
 
+const PANEL: &[&str] = &["build/panel"];
 const YARDSTICK: &[&str] = &["build/yardstick"];
 const JUDGED: &[&str] = &["build/yardstick", "--judged"];
 const PLAIN: &[&str] = &["build/plain_model", "--print"];
@@ -101,16 +102,17 @@ fn median(mut times: Vec<f64>) -> f64 {
     times[times.len() / 2]
 }
 
-/// What is timed on each tape, in this order: ours, the yardstick, the yardstick with the judgement and, where the memory is the longest,
-/// the plain model and emoa.
-const CONTENDERS: usize = 5;
+/// What is timed on each tape, in this order: ours, the panel in C over our library, the yardstick, the yardstick with the judgement and,
+/// where the memory is the longest, the plain model and emoa.
+const CONTENDERS: usize = 6;
 
 /// The nanoseconds a quote of each contender on each tape: medians of runs that go round all of them in turn.
 fn times(ours: &str, tapes: &[Tape], runs: usize) -> Vec<[Option<f64>; CONTENDERS]> {
     let mut all = vec![[const { Vec::new() }; CONTENDERS]; tapes.len()];
     for _ in 0..runs {
-        for (&tape, [our, yardstick, judged, plain, emoa]) in tapes.iter().zip(&mut all) {
+        for (&tape, [our, panel, yardstick, judged, plain, emoa]) in tapes.iter().zip(&mut all) {
             our.push(a_quote(&[ours], tape));
+            panel.push(a_quote(PANEL, tape));
             yardstick.push(a_quote(YARDSTICK, tape));
             judged.push(a_quote(JUDGED, tape));
             if tape.memory == MEMORIES[0] {
@@ -127,11 +129,11 @@ fn a_quote(command: &[&str], tape: Tape) -> f64 {
     seconds(command, tape) * 1e9 / tape.quotes as f64
 }
 
-/// Panics where the prints of a tape differ: the yardstick's, with the judgement or without, and, on a tape's first quotes where the
-/// memory is the longest, the plain model's.
+/// Panics where the prints of a tape differ: the panel's, the yardstick's, with the judgement or without, and, on a tape's first quotes
+/// where the memory is the longest, the plain model's.
 fn compare_prints(ours: &str, tape: Tape) {
-    for yardstick in [YARDSTICK, JUDGED] {
-        assert!(print_of(&[ours], tape) == print_of(yardstick, tape), "ours and the yardstick differ on {}", tape.path());
+    for other in [PANEL, YARDSTICK, JUDGED] {
+        assert!(print_of(&[ours], tape) == print_of(other, tape), "ours and {} differ on {}", other[0], tape.path());
     }
     if tape.memory == MEMORIES[0] {
         let tape = tape.with(SHORT);
@@ -239,17 +241,17 @@ fn machine() -> String {
     format!("{}, {} cores, load {load}", name.trim_start_matches([' ', '\t', ':']), cpu.matches("model name").count())
 }
 
-/// One row of the table: nanoseconds of each contender, and instructions a quote of ours and the two yardsticks, on one tape.
+/// One row of the table: nanoseconds of each contender, and instructions a quote of ours, the panel and the two yardsticks, on one tape.
 struct Row {
     tape: Tape,
     times: [Option<f64>; CONTENDERS],
-    instructions: [Option<f64>; 3],
+    instructions: [Option<f64>; 4],
 }
 
 impl Row {
     /// The times, and the instructions, counted here.
     fn new(ours: &str, tape: Tape, times: [Option<f64>; CONTENDERS]) -> Row {
-        let instructions = [&[ours], YARDSTICK, JUDGED].map(|printer| instructions_a_quote(printer, tape));
+        let instructions = [&[ours], PANEL, YARDSTICK, JUDGED].map(|printer| instructions_a_quote(printer, tape));
         Row { tape, times, instructions }
     }
 
@@ -301,11 +303,12 @@ fn print_moves(runs: usize) {
 fn notes(rows: &[Row], runs: usize) {
     println!();
     println!("ns: nanoseconds a quote; x: times ours; instr: instructions a quote by callgrind.");
-    println!("Ours and the yardstick, without the judgement of 11 and 12 at every call and with it (judged): median of {runs} runs over");
+    println!("Panel: host/panel.c, which makes the public calls from C on tables that may hold anything.");
+    println!("Ours, the panel and the yardstick, without the judgement of 11 and 12 at every call and with it (judged): median of {runs} runs over");
     println!("{QUOTES} quotes and eight watches, four of each desk, in turn; their prints are equal.");
     println!("Plain model: median of {runs} runs over the first {SHORT} quotes, in turn with them, when longer windows are not full yet;");
     println!("its print is equal to ours.");
-    if rows[0].times[4].is_some() {
+    if rows[0].times[5].is_some() {
         println!("emoa: median of {runs} runs over {EMOA} quotes after {FILL}, in turn with them; its lists, of equal points the last, are ours.");
     } else {
         println!("emoa is skipped: Rscript or its package emoa (Debian's r-cran-emoa) is not installed.");
@@ -330,9 +333,9 @@ fn main() {
     }
     println!("{}, {}", date(), machine());
     println!();
-    let clocked = "ours ns | yardstick ns | x | judged ns | x | plain ns | x | emoa ns | x";
-    println!("| tape | N | {clocked} | ours instr | yardstick instr | x | judged instr | x |");
-    println!("|{}", "---|".repeat(16));
+    let clocked = "ours ns | panel ns | x | yardstick ns | x | judged ns | x | plain ns | x | emoa ns | x";
+    println!("| tape | N | {clocked} | ours instr | panel instr | x | yardstick instr | x | judged instr | x |");
+    println!("|{}", "---|".repeat(20));
     let times = times(&ours, &tapes, runs);
     let mut rows = Vec::new();
     for (&tape, &times) in tapes.iter().zip(&times) {

@@ -1,11 +1,6 @@
 // The calls of a book that change no record, for callers that hold plain values: the eight records go in by value.
-ghost use mathlib.Core.Path.{_≡_};
-ghost use Rattle.lists.specs.Lists.{contains};
-ghost use Rattle.head.specs.Desks.{watchOf};
-ghost use Rattle.model.specs.Book.{standing};
 ghost use Rattle.model.specs.Promises.{tables, Quoted, Previewed, Paired, Unpaired};
 ghost use Rattle.watch_records.specs.Records.{watched};
-use head::Desk;
 use head::Head;
 use head::Watch;
 use replies::Effect;
@@ -67,14 +62,6 @@ pub fn preview(
         &held,
         out,
     )
-}
-
-// Whether a desk watches n.
-pub fn find_record(records: [Watch; 8], desk: Desk, n: u32) -> bool
-    ensures { λ r. ⌜ r ≡ contains (watchOf desk n) (standing (watched records)) ⌝ }
-{
-    let held = records;
-    watch_records::find_record(&held, desk, n)
 }
 
 // Sets the watch of a pair.

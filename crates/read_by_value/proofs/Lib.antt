@@ -1,2 +1,0 @@
--- The steps of the walk over a place in a local.
-pub mod LocalPlace
