@@ -213,7 +213,7 @@ accepts d directions count columns before {r} s e =
       counted = counts;
       fits = ltb-false (length before) (length (sheetOf d directions count columns)) (four .0);
       written = rw (counts, leaves) (take-at (sheetOf d directions count columns) (drop (length (sheetOf d directions count columns)) before)
-        (length (sheetOf d directions count columns)) refl);
+          (length (sheetOf d directions count columns)) refl);
     }
 
 -- what was laid, by another name

@@ -38,8 +38,11 @@ module _ (dom : ℕ → ℕ → Bool) (p : ℕ) (others : List ℕ) where
   pub seeking-more : {i : ℕ} {b : Bool} → Seeking i → i < length others → b ≡ dom (getD others i 0) p → b ≡ false → Seeking (i + 1)
   unfolding dominatedBy
   seeking-more {i} s h e f =
-      record { within = omega arith; none = rw (add-one, any-more (λ q. dom q p) others i 0 h)
-        (neither (dominatedBy dom (take i others) p) (dom (getD others i 0) p) (s .none) (sym e ∙ f)) }
+      record {
+        within = omega arith;
+        none = rw (add-one, any-more (λ q. dom q p) others i 0 h)
+            (neither (dominatedBy dom (take i others) p) (dom (getD others i 0) p) (s .none) (sym e ∙ f));
+      }
 
   pub seeking-found : {i : ℕ} {b : Bool} → i < length others → b ≡ dom (getD others i 0) p → b ≡ true → true ≡ dominatedBy dom others p
   unfolding dominatedBy

@@ -168,7 +168,7 @@ find-merge-requires t c κs =
     let at-start = at-find .before .before .before .before .before in (
       at-start .pre .1 .0,
       halved (at-start .args .cells .now) (at-find .find .last .1 .1 .1 .0) (at-find .find .kept .1 .1 .1 .0)
-      (at-find2 .find2 .last .1 .1 .1 .0) (at-find2 .find2 .kept .1 .1 .1 .0) _ _ _ (at-start .pre .1 .1) (at-find .find .ensures) (at-find2 .find2 .ensures),
+          (at-find2 .find2 .last .1 .1 .1 .0) (at-find2 .find2 .kept .1 .1 .1 .0) _ _ _ (at-start .pre .1 .1) (at-find .find .ensures) (at-find2 .find2 .ensures),
     )
 
 find-same-length-2 : (t : ℕ) → find-lts.Need-same-length-2 (
