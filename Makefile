@@ -2,7 +2,8 @@
 # What rt prints goes to a log under build/; standard error gets a line for each crate.
 SHELL := /bin/bash
 .SHELLFLAGS := -euo pipefail -c
-.PHONY: test proofs models try run host random random-calls rules plants rule-plants yardstick notation citations tapes test-slow bench late pieces venues spreadsheet days day-plants drill panel random-panel test-memory install
+.PHONY: test proofs models try run host random random-calls rules plants rule-plants yardstick notation citations tapes \
+  test-slow bench late pieces venues spreadsheet days day-plants drill panel random-panel test-memory install
 
 PRINTER ?= target/bin/tape_printer
 WRITER ?= target/bin/tape_writer
@@ -45,7 +46,7 @@ SAMPLES := $(basename $(wildcard tapes/*.txt))
 made = $(filter target/bin/% build/%,$(firstword $(1)))
 # a test leaves its core to a check that wants it
 IDLE := nice -n 19
-RUSTC := env -u MAKEFLAGS $(IDLE) rustc --edition 2021 -O -D warnings
+RUSTC := env -u MAKEFLAGS -u MFLAGS $(IDLE) rustc --edition 2021 -O -D warnings
 
 test: citations
 	@$(MAKE) --no-print-directory -j2 proofs models
@@ -58,7 +59,8 @@ proofs:
 	@rt ci 2>&1 | tools/progress.sh build/ci.txt
 
 # beside the first crates, on what they leave idle: the tests built, and the models held against small tapes and themselves
-models: build/plain_model build/random_calls build/late_book build/notation rules rule-plants build/venues build/spreadsheet build/day_sheets build/drill
+models: build/plain_model build/random_calls build/late_book build/notation rules rule-plants build/venues build/spreadsheet \
+  build/day_sheets build/drill
 
 # the printer on the worked tape before anything is proved, by the toolchain's own trial, with its print
 try:
@@ -132,6 +134,7 @@ drill: build/drill $(DRILL)
 random-panel: build/plain_model build/panel
 	@build/plain_model build/panel $(SEED) $(PANEL_TAPES)
 	@build/plain_model 'build/panel --play' $(SEED) $(PANEL_TAPES)
+
 # the same with gcc's sanitizers, and the samples under valgrind: a minute, and no part of make test
 test-memory: build/plain_model build/panel build/panel_sanitized build/refused_calls
 	@build/plain_model build/panel_sanitized $(SEED) 500
@@ -139,9 +142,6 @@ test-memory: build/plain_model build/panel build/panel_sanitized build/refused_c
 	    for panel in build/panel 'build/panel --play'; do valgrind -q --error-exitcode=1 $$panel < $$sample.tape > /dev/null; done; \
 	done
 	@valgrind -q --error-exitcode=1 build/refused_calls
-# the book player against the plain model of the calls, on random lists of calls and any tables
-random-calls: build/random_calls $(PLAYER)
-	@build/random_calls $(PLAYER) $(SEED) $(LISTS)
 
 # the audit's plain rules, lists and what is due, as that model has them, against every tape of small settings; its
 # previews against its quotes; what a desk sees of a list against what it sees of one that differs in all else
@@ -149,7 +149,8 @@ rules: build/random_calls
 	@$(IDLE) build/random_calls --rules
 
 # a model with a bug planted must not agree with the printer, the player or the tapes
-plants: $(PLANTS:%=plant-in-tapes-%) $(CALL_PLANTS:%=plant-in-calls-%) $(LATE_PLANTS:%=plant-in-late-%) plant-in-pieces $(VENUE_PLANTS:%=plant-in-venues-%) $(SHEET_PLANTS:%=plant-in-sheets-%) $(DRILL_PLANTS:%=plant-in-drill-%)
+plants: $(PLANTS:%=plant-in-tapes-%) $(CALL_PLANTS:%=plant-in-calls-%) $(LATE_PLANTS:%=plant-in-late-%) plant-in-pieces \
+  $(VENUE_PLANTS:%=plant-in-venues-%) $(SHEET_PLANTS:%=plant-in-sheets-%) $(DRILL_PLANTS:%=plant-in-drill-%)
 
 rule-plants: $(RULE_PLANTS:%=plant-in-rules-%)
 
@@ -220,7 +221,9 @@ tapes: $(WRITER)
 test-slow: build/full_tape $(PRINTER)
 	@build/full_tape $(PRINTER) $(SEED)
 
-bench: build/bench build/yardstick build/plain_model build/make_tape build/join build/plain_join $(PRINTER) $(JOINER) build/imports build/csv_yardstick $(IMPORTER) build/day_bench build/day_yardstick $(DAY_SHEET) build/drill_time $(DRILL) build/panel
+bench: build/bench build/yardstick build/plain_model build/make_tape build/join build/plain_join $(PRINTER) $(JOINER) \
+  build/imports build/csv_yardstick $(IMPORTER) build/day_bench build/day_yardstick $(DAY_SHEET) build/drill_time $(DRILL) \
+  build/panel
 	@build/bench $(PRINTER) $(RUNS)
 	@build/join $(JOINER) $(RUNS)
 	@build/imports $(IMPORTER) $(RUNS)
