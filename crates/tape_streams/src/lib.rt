@@ -1,8 +1,17 @@
 // A printer's input and output: the lines that are gathered are written out, and the tape is read on behind what has come of it.
+ghost use mathlib.Core.Path.{_≡_};
 ghost use Prim.Native.Nat.{_≤_};
-ghost use lib.ListN.{length};
+ghost use lib.ListN.{length, take};
 ghost use Rattle.tape_streams.specs.Streams.{Flushed, Refilled};
 use tape_playback::Playback;
+
+// The lines that are gathered, so many bytes.
+fn gathered(used: usize, text: &[u8]) -> &[u8]
+    requires { ⌜ used ≤ length (now text) ⌝ }
+    ensures { λ r. ⌜ now r ≡ take used (now (text .entry)) ⌝ }
+{
+    &text[..used]
+}
 
 // Writes out the gathered lines; where that fails the tape is over.
 pub fn flush(playback: Playback, text: &[u8]) -> Playback
@@ -12,7 +21,7 @@ pub fn flush(playback: Playback, text: &[u8]) -> Playback
     let used = playback.used;
     let mut now = playback;
     now.used = 0;
-    if !streams::put_out(&text[..used], b"tape_printer: standard output") {
+    if !streams::put_out(gathered(used, text), b"tape_printer: standard output") {
         now.over = true;
     }
     now
