@@ -21,7 +21,7 @@ returns : tie.Need-returns
 returns c =
     let at-audit = c .before .before in
     let head = at-audit .before .head-of .ensures in
-    let found = at-audit .audit .ensures in
+    let found = at-audit .audit .ensures .found in
     (audit-told findingNumber _ head found (c .refusal-of .ensures), audit-told findingVerdict _ head found (c .before .verdict-of .ensures))
 
 pub bqb-audit-spec : {M : Type 1} → statement M
