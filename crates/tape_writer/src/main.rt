@@ -1,26 +1,19 @@
 // The tape writer: turns lines of the notation on standard input into a tape on standard output. A line that says no message is named on
 // standard error with its number, and nothing is written for it.
 ghost use mathlib.Core.Path.{_≡_};
+ghost use mathlib.Core.Bool.{true};
 ghost use Prim.Native.Nat.{_+_, _≤_};
 ghost use lib.ListN.{length};
+ghost use Rattle.tape_lines.specs.Written.{stopAt, comes};
 use libc::STDERR_FILENO;
 use line_fields::line_end;
-use refusals::Answer;
+use tape_lines::Writer;
+use tape_lines::flush;
+use tape_lines::refill;
+use tape_lines::take_line;
 
 // How many bytes the longest frame has.
 const LONGEST_FRAME: usize = 25;
-
-// A part of a line that is longer than any that says a message.
-const TOO_LONG: usize = 68;
-
-// Where the writer stands: how many lines it has seen, how many bytes of a begun line stand at the front of the text, how many bytes of
-// the tape are gathered, and whether it is over.
-struct Cursor {
-    lines: u64,
-    rest: usize,
-    used: usize,
-    over: bool,
-}
 
 // Names a line that says no message.
 fn name_line(number: u64) {
@@ -29,101 +22,50 @@ fn name_line(number: u64) {
     io::write_all(STDERR_FILENO, b" says no message\n");
 }
 
-// Writes out what is gathered; where that fails it is over.
-fn flush(cursor: Cursor, out: &[u8]) -> Cursor
-    requires { ⌜ cursor .used ≤ length (now out) ⌝ }
-    ensures { λ r. ⌜ (r .used ≡ 0) × (r .rest ≡ cursor .rest) ⌝ }
-{
-    let used = cursor.used;
-    let mut now = cursor;
-    now.used = 0;
-    if !streams::put_out(&out[..used], b"tape_writer: standard output") {
-        now.over = true;
-    }
-    now
-}
-
 // Writes out what is gathered if there is no room behind it for the longest frame.
-fn with_room(cursor: Cursor, out: &[u8]) -> Cursor
-    requires { ⌜ cursor .used ≤ length (now out) ⌝ }
-    ensures { λ r. ⌜ (r .used ≤ length (now (out .entry))) × (r .rest ≡ cursor .rest) ⌝ }
+fn with_room(writer: Writer, out: &[u8]) -> Writer
+    requires { ⌜ (writer .used ≤ length (now out)) × (25 ≤ length (now out)) ⌝ }
+    ensures { λ r. ⌜ r .used + 25 ≤ length (now (out .entry)) ⌝ }
+    ensures { λ r. ⌜ (r .place ≡ writer .place) × (r .end ≡ writer .end) × (r .ended ≡ writer .ended) ⌝ }
 {
-    if LONGEST_FRAME <= out.len() - cursor.used {
-        return cursor;
+    if LONGEST_FRAME <= out.len() - writer.used {
+        return writer;
     }
-    flush(cursor, out)
+    flush(writer, out)
 }
 
-// Lays the frame of a line behind what is gathered, or names the line.
-fn frame_line(cursor: Cursor, line: &[u8], out: &mut [u8]) -> Cursor
-    requires { ⌜ cursor .used ≤ length (now out) ⌝ }
-    ensures { λ r. ⌜ (r .used ≤ length (now (out .entry))) × (r .rest ≡ cursor .rest) ⌝ }
+// Takes the line at which the writer stands, which ends there, and names it if it says no message.
+fn write_on(writer: Writer, stop: usize, text: &[u8], out: &mut [u8]) -> Writer
+    requires { ⌜ (writer .used ≤ length (now out)) × (25 ≤ length (now out)) × (writer .place ≤ length (now text)) ⌝ }
+    requires { ⌜ (stop ≡ stopAt (now text) (writer .place)) × (comes (now text) writer ≡ true) ⌝ }
+    ensures { λ r. ⌜ (r .used ≤ length (now (out .entry))) × (r .place ≤ length (now (text .entry))) ⌝ }
+    ensures { λ r. ⌜ r .end ≡ writer .end ⌝ }
 {
-    let mut now = with_room(cursor, out);
-    let used = now.used;
-    now.lines = std::num::wrapping_add_u64(now.lines, 1);
-    let written = notation::write_line(line, &mut out[used..]);
-    now.used = used + written.count;
-    let answer = written.answer;
-    if let Answer::Refused(_) = answer {
+    let now = take_line(with_room(writer, out), stop, text, out);
+    if now.unsaid {
         name_line(now.lines);
     }
     now
 }
 
-// Takes the whole lines of the text, and tells in rest how many bytes stand behind them.
-fn frame_lines(cursor: Cursor, text: &[u8], out: &mut [u8]) -> Cursor
-    requires { ⌜ cursor .used ≤ length (now out) ⌝ }
-    ensures { λ r. ⌜ (r .used ≤ length (now (out .entry))) × (r .rest ≤ length (now (text .entry))) ⌝ }
+// Takes the next line if it has come whole or is the last; else writes out what is gathered, and reads on, or ends with the input.
+fn turn(writer: Writer, text: &mut [u8], out: &mut [u8]) -> Writer
+    requires { ⌜ (writer .place ≤ writer .end) × (writer .end ≤ length (now text)) × (69 ≤ length (now text)) ⌝ }
+    requires { ⌜ (writer .used ≤ length (now out)) × (25 ≤ length (now out)) ⌝ }
+    ensures { λ r. ⌜ (r .place ≤ r .end) × (r .end ≤ length (now (text .entry))) ⌝ }
+    ensures { λ r. ⌜ r .used ≤ length (now (out .entry)) ⌝ }
 {
-    let mut now = cursor;
-    let mut place = 0;
-    let mut stop = line_end(text, 0);
-    while stop < text.len() {
-        now = frame_line(now, &text[place..stop], out);
-        place = stop + 1;
-        stop = line_end(text, place);
+    let end = writer.end;
+    let stop = line_end(&text[..end], writer.place);
+    if (stop < end) | (writer.ended & (writer.place < end)) {
+        return write_on(writer, stop, &text[..end], out);
     }
-    now.rest = text.len() - place;
-    now
-}
-
-// The end of what is kept of a begun line: enough to show that it is too long.
-fn kept_end(place: usize, end: usize) -> usize
-    requires { ⌜ place ≤ end ⌝ }
-    ensures { λ r. ⌜ (place ≤ r) × (r ≤ end) × (r ≤ place + 68) ⌝ }
-{
-    if TOO_LONG < end - place {
-        return place + TOO_LONG;
-    }
-    end
-}
-
-// Writes out what is gathered, reads on behind the begun line, and takes the lines that came; at the input's end, the begun line.
-fn read_on(cursor: Cursor, text: &mut [u8], out: &mut [u8]) -> Cursor
-    requires { ⌜ (cursor .used ≤ length (now out)) × (cursor .rest ≤ 68) × (68 ≤ length (now text)) ⌝ }
-    ensures { λ r. ⌜ (r .used ≤ length (now (out .entry))) × (r .rest ≤ 68) ⌝ }
-{
-    let mut now = flush(cursor, out);
-    if now.over {
+    let mut now = flush(writer, out);
+    if now.ended | now.over {
+        now.over = true;
         return now;
     }
-    let begun = now.rest;
-    let came = streams::read_in(&mut text[begun..], b"tape_writer: standard input");
-    let end = begun + came.count;
-    if came.more {
-        now = frame_lines(now, &text[..end], out);
-        let place = end - now.rest;
-        let stop = kept_end(place, end);
-        streams::to_front(text, place, stop);
-        now.rest = stop - place;
-        return now;
-    }
-    if 0 < end {
-        now = frame_line(now, &text[..end], out);
-    }
-    now.over = true;
-    now
+    refill(now, text)
 }
 
 // How many bytes of lines are kept at a time, and how many of a tape are gathered before they are written out.
@@ -132,16 +74,19 @@ const PIECE: usize = 65536;
 fn main() {
     let mut text = [0u8; PIECE];
     let mut out = [0u8; PIECE];
-    let mut cursor = Cursor {
+    let mut writer = Writer {
         lines: 0,
-        rest: 0,
+        place: 0,
+        end: 0,
         used: 0,
+        unsaid: false,
+        ended: false,
         over: false,
     };
     let mut turns = u64::MAX;
-    while 0 < turns && !cursor.over {
+    while 0 < turns && !writer.over {
         turns -= 1;
-        cursor = read_on(cursor, &mut text, &mut out);
+        writer = turn(writer, &mut text, &mut out);
     }
-    flush(cursor, &out);
+    flush(writer, &out);
 }

@@ -2,8 +2,8 @@
 use native.Mathlib.Omega.{arith}
 use lib.ListN.{length-take}
 use borrow.Author.Needs.{needs}
-use Rattle.tape_writer.proofs.flush.Statement.{statement}
-use Rattle.tape_writer.proofs.flush.Tie as tie
+use Rattle.tape_lines.proofs.flush.Statement.{statement}
+use Rattle.tape_lines.proofs.flush.Tie as tie
 
 slice-aggregate-put-out : tie.Need-slice-aggregate-put-out
 slice-aggregate-put-out c = simp length-take (omega arith)
