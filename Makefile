@@ -25,11 +25,12 @@ RUNS ?= 9
 FILES ?= 300
 PLANTS := equals-stay earlier-stands oldest window kept misprint upper pair-first nine-first pair-end nine-at-eight \
   desk-two-first watch2-by-one
+BOTH_PLANTS := five-before-thirteen both-leaves-quote both-cells-on-refusal look-before both-counts
 CALL_PLANTS := renamed torn-first past-memory early live-lower overwritten retired-lower fourteen-first live-zeros upper-free \
   pair-first nine-first pair-end due-equal due-cells blind-look audit-pair preview-settles preview-held preview-head \
-  equals-stay earlier-stands nine-at-eight shares-free thirteen-fits desk-two-first watch2-by-one desk-left
+  equals-stay earlier-stands nine-at-eight shares-free thirteen-fits desk-two-first watch2-by-one desk-left $(BOTH_PLANTS)
 RULE_PLANTS := upper-free pair-end due-equal preview-settles preview-held preview-head equals-stay earlier-stands \
-  watch2-by-one
+  watch2-by-one $(BOTH_PLANTS)
 LATE_PLANTS := unshifted list-early past-early changes-early pair-early rows-early other-directions
 VENUE_PLANTS := second-on-equal fifteen-before-seven sixteen-before-fifteen midnight equal-refused second-refuses-first \
   good-tape-goes-on look-behind quote-misplaced ends-with-one other-moved
@@ -37,13 +38,16 @@ SHEET_PLANTS := lf-cuts leading-zero above empty-rest last-misfit fewer-columns
 DAY_PLANTS := equals-stay earlier-stands halves-apart from-zero longest-refused columns-first
 DRILL_PLANTS := some-reply last-place equals-stay four-first pass-ends list-of-memory
 # the crates whose exported functions are the book's library for C
-BOOK_CRATES := host_frames host_looks host_quotes host_watches host_plays
+BOOK_CRATES := host_frames host_looks host_quotes host_both host_watches host_plays
 BOOK_LIBRARY := build/libbest_quote_book.a
+LIBRARIES := $(patsubst %,target/staticlib/lib%.a,host $(BOOK_CRATES))
 CC := gcc -std=c11 -O2 -Wall -Wextra -Werror -Ihost
 SANITIZED := -g -fsanitize=address,undefined -fno-sanitize-recover=all
 SAMPLES := $(basename $(wildcard tapes/*.txt))
 # of a command, the program that is made here; another's stands already
 made = $(filter target/bin/% build/%,$(firstword $(1)))
+# one run of rt at a time: two in one target/ read each other's marks
+RT := flock build/rt.lock rt
 # a test leaves its core to a check that wants it
 IDLE := nice -n 19
 RUSTC := env -u MAKEFLAGS -u MFLAGS $(IDLE) rustc --edition 2021 -O -D warnings
@@ -55,17 +59,16 @@ test: citations
 	@tail -n 1 build/ci.txt | grep -Ex '[0-9]+ passed, 0 failed'
 
 # every crate from nothing, every must-fail edit, every program
-proofs:
-	@rt ci 2>&1 | tools/progress.sh build/ci.txt
+proofs: | build
+	@$(RT) ci 2>&1 | tools/progress.sh build/ci.txt
 
 # beside the first crates, on what they leave idle: the tests built, and the models held against small tapes and themselves
 models: build/plain_model build/random_calls build/late_book build/notation rules rule-plants build/venues build/spreadsheet \
   build/day_sheets build/drill
 
 # the printer on the worked tape before anything is proved, by the toolchain's own trial, with its print
-try:
-	@mkdir -p build
-	@rt try tape_printer > build/try.txt 2>&1 || { cat build/try.txt; exit 1; }
+try: | build
+	@$(RT) try tape_printer > build/try.txt 2>&1 || { cat build/try.txt; exit 1; }
 	@cat crates/tape_printer/stdout
 	@tail -n 1 build/try.txt
 
@@ -87,17 +90,17 @@ panel: build/panel build/panel_sanitized build/refused_calls_sanitized $(PRINTER
 	done
 	@build/refused_calls_sanitized > /dev/null
 
-target/staticlib/lib%.a: crates.txt $(shell find crates -name '*.rt' -o -name '*.antt')
-	@rt staticlib $* 2>&1 | tools/progress.sh build/staticlib_$*.txt $*
+$(LIBRARIES) &: crates.txt $(shell find crates -name '*.rt' -o -name '*.antt') | build
+	@for crate in host $(BOOK_CRATES); do \
+	    $(RT) staticlib $$crate 2>&1 | tools/progress.sh build/staticlib_$$crate.txt $$crate; \
+	done
 
 # one library of the functions that several crates export: each archive has one object, whose other names are its own
-$(BOOK_LIBRARY): $(BOOK_CRATES:%=target/staticlib/lib%.a)
-	@mkdir -p build
+$(BOOK_LIBRARY): $(BOOK_CRATES:%=target/staticlib/lib%.a) | build
 	@rm -f $@
 	@{ echo 'create $@'; printf 'addlib %s\n' $^; echo save; echo end; } | ar -M
 
-build/worked_host: host/worked_host.c host/best_quote.h target/staticlib/libhost.a
-	@mkdir -p build
+build/worked_host: host/worked_host.c host/best_quote.h target/staticlib/libhost.a | build
 	@$(CC) -o $@ $< target/staticlib/libhost.a
 
 build/%: host/%.c host/best_quote_book.h $(BOOK_LIBRARY)
@@ -144,7 +147,8 @@ test-memory: build/plain_model build/panel build/panel_sanitized build/refused_c
 	@valgrind -q --error-exitcode=1 build/refused_calls
 
 # the audit's plain rules, lists and what is due, as that model has them, against every tape of small settings; its
-# previews against its quotes; what a desk sees of a list against what it sees of one that differs in all else
+# previews against its quotes, a quote and look in one against the two; what a desk sees of a list against what it sees of
+# one that differs in all else
 rules: build/random_calls
 	@$(IDLE) build/random_calls --rules
 
@@ -187,17 +191,18 @@ day-plants: $(DAY_PLANTS:%=plant-in-days-%)
 plant-in-days-%: build/day_sheets $(DAY_SHEET) $(PRINTER)
 	@tests/planted.sh days-$* 'the lines differ' build/day_sheets --plant $* $(DAY_SHEET) $(PRINTER) $(SEED) 200
 
-# the yardstick of make bench against the plain model, without the judgement and with it
-yardstick: build/plain_model build/yardstick
-	build/plain_model build/yardstick $(SEED) $(TAPES)
-	build/plain_model 'build/yardstick --judged' $(SEED) $(TAPES)
+# the yardstick of make bench against the plain model, in each of its ways, and its quote on any tables against that of the calls
+yardstick: build/plain_model build/yardstick build/any_tables
+	@for way in '' ' --judged' ' --slides' ' --any'; do build/plain_model "build/yardstick$$way" $(SEED) $(TAPES); done
+	@build/any_tables $(SEED)
 
 # the tape writer against a plain reading of the notation, and on the notation of each sample tape
 notation: build/notation $(WRITER)
 	@build/notation $(WRITER) $(SEED)
 	@for sample in $(SAMPLES); do $(WRITER) < $$sample.txt | cmp - $$sample.tape; done
 
-# the printer and the writer on each sample in pieces of every size from 1 to 64 bytes, and about as long as their buffers
+# the printer on each sample, cut at every byte, and the writer, in pieces of every size from 1 to 64 bytes, and about as long
+# as their buffers
 pieces: build/pieces $(PRINTER) $(WRITER)
 	@build/pieces $(PRINTER) $(WRITER) $(SAMPLES:%=%.tape) $(SAMPLES:%=%.txt)
 
@@ -230,13 +235,14 @@ bench: build/bench build/yardstick build/plain_model build/make_tape build/join 
 	@build/day_bench $(DAY_SHEET) $(RUNS)
 	@build/drill_time $(DRILL)
 
-target/bin/%: crates.txt $(shell find crates -name '*.rt' -o -name '*.antt')
-	@rt check $* 2>&1 | tools/progress.sh build/$*.txt $*
+target/bin/%: crates.txt $(shell find crates -name '*.rt' -o -name '*.antt') | build
+	@$(RT) check $* 2>&1 | tools/progress.sh build/$*.txt $*
 
-build/%: tests/%.rs $(wildcard tests/*.rs)
-	@mkdir -p build
+build/%: tests/%.rs $(wildcard tests/*.rs) | build
 	@$(RUSTC) -o $@ $<
 
-build/%: bench/%.rs $(wildcard bench/*.rs tests/*.rs)
-	@mkdir -p build
+build/%: bench/%.rs $(wildcard bench/*.rs tests/*.rs) | build
 	@$(RUSTC) -o $@ $<
+
+build:
+	@mkdir -p build

@@ -1,6 +1,7 @@
-//! Measures printers of tapes, and what a user would pick instead, on the same tapes in one run, and prints one table; then what a watched
-//! pair adds, what eight watches of two desks take beside five of one, and what it costs to move the rows of full tables down at each
-//! quote, and nothing else, in three others.
+//! Measures printers of tapes, and what a user would pick instead, on the same tapes in one run, and prints one table; then ours beside the
+//! yardstick whose rows slide, and the public quote beside the one that takes any tables; what a watched pair adds, what eight watches of
+//! two desks take beside five of one, what a look behind every quote adds, and what it costs to move the rows of full tables down at each
+//! quote, and nothing else, each in a table of its own.
 //!
 //! usage: bench PRINTER [RUNS]     PRINTER is ours; the other programs stand in build/, and so do the tapes made here
 
@@ -13,6 +14,9 @@ use std::time::Instant;
 const PANEL: &[&str] = &["build/panel"];
 const YARDSTICK: &[&str] = &["build/yardstick"];
 const JUDGED: &[&str] = &["build/yardstick", "--judged"];
+const SLIDES: &[&str] = &["build/yardstick", "--slides"];
+const ANY: &[&str] = &["build/yardstick", "--any"];
+const PUBLIC: &[&str] = &["build/panel", "--play"];
 const PLAIN: &[&str] = &["build/plain_model", "--print"];
 const MAKER: &str = "build/make_tape";
 const FOLDER: &str = "build/bench_tapes";
@@ -31,7 +35,8 @@ const SHORT: usize = 512;
 /// The quotes that moves alone are timed on.
 const MOVES: usize = 200_000;
 
-/// A tape's shape, memory and number of quotes, whether two desks watch or one, and whether a pair is watched.
+/// A tape's shape, memory and number of quotes, whether two desks watch or one, whether a pair is watched, and what look stands behind
+/// every quote, by the option that it is made with.
 #[derive(Clone, Copy)]
 struct Tape {
     shape: &'static str,
@@ -39,12 +44,13 @@ struct Tape {
     quotes: usize,
     desks: bool,
     paired: bool,
+    behind: Option<&'static str>,
 }
 
 impl Tape {
     /// The tape that is measured if nothing else is said: eight watches, which take two desks, and no pair.
     fn new(shape: &'static str, memory: usize) -> Tape {
-        Tape { shape, memory, quotes: QUOTES, desks: true, paired: false }
+        Tape { shape, memory, quotes: QUOTES, desks: true, paired: false, behind: None }
     }
 
     /// The same tape with another number of quotes.
@@ -54,7 +60,7 @@ impl Tape {
 
     /// The options that it is made with.
     fn options(self) -> Vec<&'static str> {
-        self.desks.then_some("--desks").into_iter().chain(self.paired.then_some("--pair")).collect()
+        self.desks.then_some("--desks").into_iter().chain(self.paired.then_some("--pair")).chain(self.behind).collect()
     }
 
     /// The file that holds it.
@@ -129,11 +135,11 @@ fn a_quote(command: &[&str], tape: Tape) -> f64 {
     seconds(command, tape) * 1e9 / tape.quotes as f64
 }
 
-/// Panics where the prints of a tape differ: the panel's, the yardstick's, with the judgement or without, and, on a tape's first quotes
-/// where the memory is the longest, the plain model's.
+/// Panics where the prints of a tape differ: the panel's, the yardstick's in each way, and, on a tape's first quotes where the memory is
+/// the longest, the plain model's.
 fn compare_prints(ours: &str, tape: Tape) {
-    for other in [PANEL, YARDSTICK, JUDGED] {
-        assert!(print_of(&[ours], tape) == print_of(other, tape), "ours and {} differ on {}", other[0], tape.path());
+    for other in [PANEL, PUBLIC, YARDSTICK, JUDGED, SLIDES, ANY] {
+        assert!(print_of(&[ours], tape) == print_of(other, tape), "ours and {} differ on {}", other.join(" "), tape.path());
     }
     if tape.memory == MEMORIES[0] {
         let tape = tape.with(SHORT);
@@ -267,19 +273,65 @@ impl Row {
     }
 }
 
+/// The table of tapes with a pair and eight watches: ours beside the yardstick whose rows slide as ours do, and the public quote, which the
+/// library's player makes, beside the yardstick that judges and takes any tables as it does.
+fn print_goals(ours: &str, runs: usize) {
+    println!();
+    let columns = "ours | slides | x | public | any | x";
+    println!("| pair and eight watches, instr, then ns | {columns} | {columns} |");
+    println!("|{}", "---|".repeat(13));
+    for shape in SHAPES {
+        let tape = Tape { paired: true, ..Tape::new(shape, MEMORIES[0]) };
+        compare_prints(ours, tape);
+        let contenders = [&[ours][..], SLIDES, PUBLIC, ANY];
+        let counts = contenders.map(|printer| instructions_a_quote(printer, tape));
+        let mut times = [const { Vec::new() }; 4];
+        for _ in 0..runs {
+            times.iter_mut().zip(contenders).for_each(|(times, printer)| times.push(a_quote(printer, tape)));
+        }
+        let fields = |[ours, slides, public, any]: [Option<f64>; 4]| {
+            let first = |value: Option<f64>| value.map_or("-".to_string(), number);
+            let pair = |value: Option<f64>, other| format!("{} | {}", first(value), beside(other, value.unwrap_or(f64::NAN)));
+            format!("{} | {}", pair(ours, slides), pair(public, any))
+        };
+        println!("| {shape} | {} | {} |", fields(counts), fields(times.map(|times| Some(median(times)))));
+    }
+}
+
 /// A table of a quote's instructions on tapes without something and on tapes with it, of each shape.
 fn print_added(ours: &str, name: &str, tapes: [Tape; 2]) {
     println!();
-    println!("| {name}, instr | ours without | with | x | yardstick without | with | x |");
+    println!("| {name}, instr | ours without | with | x | yardstick, slides, without | with | x |");
     println!("|{}", "---|".repeat(7));
     for shape in SHAPES {
         let tapes = tapes.map(|tape| Tape { shape, ..tape });
         for tape in tapes {
             compare_prints(ours, tape);
         }
-        let counts = [&[ours][..], YARDSTICK].map(|printer| {
+        let counts = [&[ours][..], SLIDES].map(|printer| {
             let [without, with] = tapes.map(|tape| instructions_a_quote(printer, tape));
             format!("{} | {}", without.map_or("-".to_string(), number), beside(with, without.unwrap_or(f64::NAN)))
+        });
+        println!("| {shape} | {} |", counts.join(" | "));
+    }
+}
+
+/// The table of a quote's instructions with nothing behind it, with a look at the list of half the memory directly behind it, which is
+/// played with it in one, and with the same list by a past look, which is played singly.
+fn print_looks(ours: &str) {
+    println!();
+    let columns = "quotes alone | with looks | a look | with past looks | a past look";
+    println!("| looks behind quotes, instr | ours, {columns} | yardstick, slides, {columns} |");
+    println!("|{}", "---|".repeat(11));
+    for shape in SHAPES {
+        let tapes = [None, Some("--look"), Some("--past")].map(|behind| Tape { behind, ..Tape::new(shape, MEMORIES[0]) });
+        for tape in tapes {
+            compare_prints(ours, tape.with(FILL + COUNTED));
+        }
+        let counts = [&[ours][..], SLIDES].map(|printer| {
+            let [alone, look, past] = tapes.map(|tape| instructions_a_quote(printer, tape));
+            let added = |with: Option<f64>| with.zip(alone).map(|(with, alone)| with - alone);
+            [alone, look, added(look), past, added(past)].map(|count| count.map_or("-".to_string(), number)).join(" | ")
         });
         println!("| {shape} | {} |", counts.join(" | "));
     }
@@ -303,7 +355,9 @@ fn print_moves(runs: usize) {
 fn notes(rows: &[Row], runs: usize) {
     println!();
     println!("ns: nanoseconds a quote; x: times ours; instr: instructions a quote by callgrind.");
-    println!("Panel: host/panel.c, which makes the public calls from C on tables that may hold anything.");
+    println!("Panel: host/panel.c, which makes the public calls from C on tables that may hold anything; public: the same by the library's player.");
+    println!("Slides: the yardstick whose rows slide through tables of twice the places, as ours do; any: the one that judges 11 and 12 at every");
+    println!("call and takes a quote on any tables.");
     println!("Ours, the panel and the yardstick, without the judgement of 11 and 12 at every call and with it (judged): median of {runs} runs over");
     println!("{QUOTES} quotes and eight watches, four of each desk, in turn; their prints are equal.");
     println!("Plain model: median of {runs} runs over the first {SHORT} quotes, in turn with them, when longer windows are not full yet;");
@@ -344,8 +398,10 @@ fn main() {
         rows.push(row);
     }
     let tape = Tape::new(SHAPES[0], MEMORIES[0]);
+    print_goals(&ours, runs);
     print_added(&ours, "a watched pair", [tape, Tape { paired: true, ..tape }]);
     print_added(&ours, "eight watches of two desks for five of one", [Tape { desks: false, ..tape }, tape]);
+    print_looks(&ours);
     print_moves(runs);
     notes(&rows, runs);
 }

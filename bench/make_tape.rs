@@ -1,7 +1,8 @@
 //! Makes a tape to measure with: an opening, the five watches that one desk may have, or with --desks eight, four of them desk two's,
-//! with --pair a watched pair, then quotes of one shape.
+//! with --pair a watched pair, then quotes of one shape; with --look a look at the list of half the memory behind every quote, with
+//! --past the same list by a past look.
 //!
-//! usage: make_tape [--desks] [--pair] uniform|frontier|drift|duplicates QUOTES [MEMORY [SEED]] > TAPE
+//! usage: make_tape [--desks] [--pair] [--look|--past] uniform|frontier|drift|duplicates QUOTES [MEMORY [SEED]] > TAPE
 
 #[path = "../tests/frames.rs"]
 mod frames;
@@ -15,9 +16,11 @@ use std::io::Write;
 const WATCHED: [u32; 8] = [1_024, 900, 700, 500, 300, 100, 50, 10];
 /// How many of them one desk may have.
 const ONE_DESK: usize = 5;
-/// The kinds of the frames that set a watch of desk two, and the pair.
+/// The kinds of the frames that look, set a watch of desk two, set the pair, and look at a past list.
+const LOOKS: u8 = 16;
 const WATCHES_TWO: u8 = 19;
 const SETS_PAIR: u8 = 21;
+const LOOKS_PAST: u8 = 23;
 /// The pair, likewise.
 const PAIR: [u32; 2] = [100, 900];
 /// So many quotes after each other drift up, then as many down.
@@ -111,8 +114,30 @@ impl Watches {
     }
 }
 
+/// What stands behind every quote of a tape.
+#[derive(Clone, Copy)]
+enum Behind {
+    Nothing,
+    /// A look.
+    Look,
+    /// A past look whose list is that of the look.
+    Past,
+}
+
+impl Behind {
+    /// Its frame, for a memory.
+    fn write(self, tape: &mut Vec<u8>, memory: u16) {
+        let n = (memory / 2).max(1).to_le_bytes();
+        match self {
+            Behind::Nothing => {}
+            Behind::Look => tape.extend([LOOKS, n[0], n[1]]),
+            Behind::Past => tape.extend([LOOKS_PAST, 1, 0, n[0], n[1]]),
+        }
+    }
+}
+
 /// The whole tape.
-fn tape_of(shape: Shape, watches: &Watches, quotes: u32, memory: u16, seed: u64) -> Vec<u8> {
+fn tape_of(shape: Shape, watches: &Watches, behind: Behind, quotes: u32, memory: u16, seed: u64) -> Vec<u8> {
     let mut r = Random::new(seed, 0);
     let mut tape = Vec::new();
     let (d, directions) = shape.settings();
@@ -120,23 +145,28 @@ fn tape_of(shape: Shape, watches: &Watches, quotes: u32, memory: u16, seed: u64)
     watches.write(&mut tape, memory);
     for step in 0..quotes {
         frames::quote(&mut tape, &shape.quote(&mut r, step));
+        behind.write(&mut tape, memory);
     }
     tape
 }
 
 fn main() {
     let mut arguments = std::env::args().skip(1).peekable();
-    let mut watches = Watches { desks: false, pair: false };
+    let (mut watches, mut behind) = (Watches { desks: false, pair: false }, Behind::Nothing);
     while let Some(option) = arguments.next_if(|word| word.starts_with("--")) {
         match option.as_str() {
             "--desks" => watches.desks = true,
             "--pair" => watches.pair = true,
+            "--look" => behind = Behind::Look,
+            "--past" => behind = Behind::Past,
             _ => panic!("no option has the name {option}"),
         }
     }
-    let shape = Shape::named(&arguments.next().expect("usage: make_tape [--desks] [--pair] SHAPE QUOTES [MEMORY [SEED]]"));
+    let usage = "usage: make_tape [--desks] [--pair] [--look|--past] SHAPE QUOTES [MEMORY [SEED]]";
+    let shape = Shape::named(&arguments.next().expect(usage));
     let quotes = arguments.next().expect("the number of quotes").parse().expect("a number of quotes");
     let memory = arguments.next().map_or(1_024, |s| s.parse().expect("a memory"));
     let seed = arguments.next().map_or(1, |s| s.parse().expect("a seed"));
-    std::io::stdout().write_all(&tape_of(shape, &watches, quotes, memory, seed)).expect("the tape is written");
+    let tape = tape_of(shape, &watches, behind, quotes, memory, seed);
+    std::io::stdout().write_all(&tape).expect("the tape is written");
 }

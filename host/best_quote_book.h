@@ -168,6 +168,17 @@ uint32_t bqb_quote(bqb_head *head, const uint32_t *quote, size_t quote_len, uint
                    size_t upper_ends_len, const bqb_watch *watches, size_t watch_cells,
                    uint8_t *out, size_t out_len, size_t *count);
 
+/* Takes a quote as bqb_quote does and, on the book after it, writes the list of n into cells, *listed
+   positions, as bqb_look does: both, or neither where either is refused, and then *count and *listed
+   are 0. BQB_LIST_CELLS cells suffice, and so do n. Refusals: those of the quote, then BQB_WINDOW_SIZE,
+   and BQB_SHORT_OUTPUT where the list is longer than the cells. */
+uint32_t bqb_quote_look(bqb_head *head, const uint32_t *quote, size_t quote_len, uint32_t n,
+                        uint32_t *columns, size_t columns_len, uint32_t *positions,
+                        size_t positions_len, uint32_t *lower_ends, size_t lower_ends_len,
+                        uint32_t *upper_ends, size_t upper_ends_len, const bqb_watch *watches,
+                        size_t watch_cells, uint8_t *out, size_t out_len, size_t *count,
+                        uint32_t *cells, size_t cells_len, size_t *listed);
+
 /* Previews a quote: answers and writes what the quote would, and changes nothing else. *live and *held
    are the rows that it would leave live and held, those of *head where it is refused. Refusals: those
    of the quote. */

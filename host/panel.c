@@ -23,10 +23,10 @@ struct book {
     uint32_t upper_ends[BQB_PLACES];
     bqb_watch watches[BQB_WATCHES];
     int opened;
-    /* what the last call wrote: frames of changes, or positions; and how many bytes or cells */
+    /* what the last call wrote: frames of changes, and positions; and how many bytes and cells */
     uint8_t changes[BQB_CHANGE_BYTES];
     uint32_t list[BQB_LIST_CELLS];
-    size_t count;
+    size_t count, listed;
 };
 
 /* The tables of a book, and its records, as the calls take them: each buffer and its length in cells. */
@@ -35,7 +35,7 @@ struct book {
         (b)->upper_ends, BQB_PLACES
 #define WATCHES(b) (b)->watches, BQB_WATCH_CELLS
 #define CHANGES(b) (b)->changes, BQB_CHANGE_BYTES, &(b)->count
-#define LIST(b) (b)->list, BQB_LIST_CELLS, &(b)->count
+#define LIST(b) (b)->list, BQB_LIST_CELLS, &(b)->listed
 
 /* What has come of the tape, where the last frame begins, and where the next one does. */
 struct tape {
@@ -68,13 +68,16 @@ static void print_changes(const struct book *book) {
     }
 }
 
-/* Takes the quote of so many columns, and prints its position, the live rows and the changes. */
+/* Prints the lines of an accepted quote: its position, the live rows and the changes. */
+static void print_quote(const struct book *book) {
+    print_line("Q", (const uint32_t[]){book->head.newest, book->head.live}, 2);
+    print_changes(book);
+}
+
+/* Takes the quote of so many columns, and prints its lines. */
 static uint32_t take_quote(struct book *book, const uint32_t *columns, size_t count) {
     uint32_t number = bqb_quote(&book->head, columns, count, TABLES(book), WATCHES(book), CHANGES(book));
-    if (number == BQB_ACCEPTED) {
-        print_line("Q", (const uint32_t[]){book->head.newest, book->head.live}, 2);
-        print_changes(book);
-    }
+    if (number == BQB_ACCEPTED) print_quote(book);
     return number;
 }
 
@@ -82,7 +85,7 @@ static uint32_t take_quote(struct book *book, const uint32_t *columns, size_t co
 static void print_list(const struct book *book, const char *sign, const uint32_t *asked, size_t count) {
     fputs(sign, stdout);
     for (size_t i = 0; i < count; i++) printf(" %" PRIu32, asked[i]);
-    print_line("", book->list, book->count);
+    print_line("", book->list, book->listed);
 }
 
 /* Looks at the list of n, or at the past list of n1 and n2. */
@@ -96,6 +99,17 @@ static uint32_t look(struct book *book, const bqb_frame *frame) {
     uint32_t number = bqb_past(&book->head, n[0], n[1], TABLES(book), LIST(book));
     if (number == BQB_ACCEPTED) print_list(book, "P", n, 2);
     return number;
+}
+
+/* Takes a quote and the look at n that stands behind it by one call, and prints the lines of both; 0 where either is refused, and then nothing has
+   happened. */
+static int quote_and_look(struct book *book, const bqb_frame *quote, const bqb_frame *look) {
+    const uint32_t *n = look->values;
+    uint32_t number = bqb_quote_look(&book->head, quote->values, quote->kind, n[0], TABLES(book), WATCHES(book), CHANGES(book), LIST(book));
+    if (number != BQB_ACCEPTED) return 0;
+    print_quote(book);
+    print_list(book, "L", n, 1);
+    return 1;
 }
 
 /* Sets a desk's watch of n, and prints its list as joins. */
@@ -181,11 +195,23 @@ static uint32_t next_frame(struct tape *tape, bqb_frame *frame) {
     }
 }
 
+/* Whether a quote and the look directly behind it, where one has come, were taken by one call; the tape goes on behind the look then. */
+static int in_one(struct book *book, struct tape *tape, const bqb_frame *frame) {
+    bqb_frame next;
+    size_t place = tape->place;
+    if (!book->opened || frame->kind > 6) return 0;
+    if (bqb_read(tape->bytes, tape->length, &place, &next) != BQB_ACCEPTED || next.kind != BQB_LOOK) return 0;
+    if (!quote_and_look(book, frame, &next)) return 0;
+    tape->place = place;
+    return 1;
+}
+
 /* Plays a tape call by call: after 1 or 2 nothing more can be read, after any other refusal it goes on. */
 static void print_tape(struct book *book, struct tape *tape) {
     bqb_frame frame;
     uint32_t number = next_frame(tape, &frame);
     for (; number == BQB_ACCEPTED && frame.kind != 0; number = next_frame(tape, &frame)) {
+        if (in_one(book, tape, &frame)) continue;
         uint32_t refusal = make_call(book, &frame);
         if (refusal != BQB_ACCEPTED) print_line("R", &refusal, 1);
     }

@@ -25,7 +25,7 @@ struct lengths {
 static struct lent now, before;
 static const struct lengths whole = {10, 5, 5, 5, BQB_WATCH_CELLS, BQB_CHANGE_BYTES, BQB_DUE_CELLS};
 static struct lengths lent;
-static size_t count;
+static size_t count, listed;
 static unsigned calls, wrong;
 static const uint32_t quote[3] = {4, 4, 4};
 
@@ -35,15 +35,17 @@ static const uint32_t quote[3] = {4, 4, 4};
 #define WATCHES now.watches, lent.watches
 #define OUT now.out, lent.out, &count
 #define CELLS now.cells, lent.cells, &count
+#define LIST now.cells, lent.cells, &listed
 
 /* The calls on a book that stands, each with arguments that can be refused. */
-enum function { OPEN, QUOTE, PREVIEW, LOOK, PAST, WATCH, END, PAIR, UNPAIR, DUE, AUDIT, FUNCTIONS };
-static const char *const names[FUNCTIONS] = {"open", "quote", "preview", "look", "past", "set_watch", "end_watch", "set_pair", "end_pair", "due", "audit"};
+enum function { OPEN, QUOTE, BOTH, PREVIEW, LOOK, PAST, WATCH, END, PAIR, UNPAIR, DUE, AUDIT, FUNCTIONS };
+static const char *const names[FUNCTIONS] = {"open", "quote", "quote_look", "preview", "look", "past", "set_watch", "end_watch", "set_pair", "end_pair", "due", "audit"};
 
 static uint32_t call(enum function f, uint32_t a, uint32_t b, uint32_t c) {
     switch (f) {
     case OPEN: return bqb_open(a, b, c, &now.head, TABLES, WATCHES);
     case QUOTE: return bqb_quote(&now.head, quote, a, TABLES, WATCHES, OUT);
+    case BOTH: return bqb_quote_look(&now.head, quote, a, b, TABLES, WATCHES, OUT, LIST);
     case PREVIEW: return bqb_preview(&now.head, quote, a, TABLES, WATCHES, OUT, &now.live, &now.held);
     case LOOK: return bqb_look(&now.head, a, TABLES, CELLS);
     case PAST: return bqb_past(&now.head, a, b, TABLES, CELLS);
@@ -59,9 +61,9 @@ static uint32_t call(enum function f, uint32_t a, uint32_t b, uint32_t c) {
 /* Judges the answer of a call, and complains of a wrong one, of a count that is not 0, and of a byte that has changed. */
 static void judge(const char *what, uint32_t got, uint32_t want) {
     calls++;
-    if (got != want || count != 0 || memcmp(&now, &before, sizeof now) != 0) {
+    if (got != want || count != 0 || listed != 0 || memcmp(&now, &before, sizeof now) != 0) {
         wrong++;
-        fprintf(stderr, "refused_calls: %s: %" PRIu32 ", not %" PRIu32 "; count %zu; %s\n", what, got, want, count,
+        fprintf(stderr, "refused_calls: %s: %" PRIu32 ", not %" PRIu32 "; counts %zu, %zu; %s\n", what, got, want, count, listed,
                 memcmp(&now, &before, sizeof now) ? "what was lent has changed" : "nothing has changed");
     }
 }
@@ -69,6 +71,7 @@ static void judge(const char *what, uint32_t got, uint32_t want) {
 /* Makes a call that is refused: where it hands back a count that is 0, a preview the head's own rows, an audit no verdict. */
 static void refused(uint32_t want, enum function f, uint32_t a, uint32_t b, uint32_t c) {
     count = f == OPEN || f == END || f == UNPAIR || f == AUDIT ? 0 : 9;
+    listed = f == BOTH ? 9 : 0;
     before = now;
     if (f == PREVIEW) before.live = now.head.live, before.held = now.head.held;
     if (f == AUDIT) before.passes = 0;
@@ -94,7 +97,7 @@ static void begin(void) {
 
 /* A call that is good but for what is broken: with these arguments it would be accepted. */
 static void broken(uint32_t want, enum function f) {
-    static const uint32_t good[FUNCTIONS][3] = {{2, 5, 0}, {2}, {2}, {2}, {1, 2}, {3, 1}, {2, 1}, {2, 3}, {0}, {0}, {0}};
+    static const uint32_t good[FUNCTIONS][3] = {{2, 5, 0}, {2}, {2, 2}, {2}, {2}, {1, 2}, {3, 1}, {2, 1}, {2, 3}, {0}, {0}, {0}};
     refused(want, f, good[f][0], good[f][1], good[f][2]);
 }
 
@@ -147,6 +150,7 @@ static void own_refusals(void) {
         lent.out = 0, refused(BQB_TAPE_FULL, f, 1, 0, 0);
     }
     begin(), lent.cells = 0;
+    refused(BQB_WINDOW_SIZE, BOTH, 2, 0, 0), refused(BQB_WINDOW_SIZE, BOTH, 2, 6, 0), refused(BQB_SHORT_OUTPUT, BOTH, 2, 5, 0);
     refused(BQB_WINDOW_SIZE, LOOK, 0, 0, 0), refused(BQB_WINDOW_SIZE, LOOK, 6, 0, 0), refused(BQB_SHORT_OUTPUT, LOOK, 5, 0, 0);
     refused(BQB_WINDOW_SIZE, PAST, 0, 2, 0), refused(BQB_WINDOW_SIZE, PAST, 7, 6, 0);
     refused(BQB_WINDOW_ORDER, PAST, 3, 2, 0), refused(BQB_SHORT_OUTPUT, PAST, 1, 2, 0);

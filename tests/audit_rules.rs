@@ -1,6 +1,7 @@
 //! The model's audit held against the paper's other way of saying it, 'some tape leaves this book', and its quotes and
 //! looks against the definitions of rows and lists, by trying every tape of small settings.
 
+use crate::call_lists::outputs_of;
 use crate::call_model::{Head, Model, Plant};
 use crate::definitions::{each_way, fields, Cells, Settings};
 use std::collections::HashSet;
@@ -38,11 +39,13 @@ impl Settings {
     }
 
     /// Whether the calls of a tape leave the model with the book, and every list and past list, that the definitions
-    /// give.
+    /// give; every quote, with a look in one, gives the lists too.
     fn called_alike(self, plant: Plant, quotes: &[u32]) -> bool {
         let (mut model, mut print) = (Model::new(plant), String::new());
         model.play(&format!("open {} {} {}", self.d, self.memory, self.directions), &mut print);
-        for quote in quotes.chunks(self.d) {
+        let mut looked = true;
+        for (i, quote) in quotes.chunks(self.d).enumerate() {
+            looked &= (1..=self.memory).all(|n| self.looked_alike(&model, quotes, i, n));
             model.play(&format!("quote{}", fields(quote)), &mut print);
         }
         let (n, newest) = (self.memory, quotes.len() / self.d);
@@ -57,7 +60,16 @@ impl Settings {
         let counts = [model.head.live, model.head.held];
         let ends = [&model.positions[..n], &model.lower[..n], &model.upper[..n]].concat();
         let cells = [&counts[..], &model.columns[..n * self.d], &ends].concat();
-        listed && past && cells == self.left_by(quotes)
+        looked && listed && past && cells == self.left_by(quotes)
+    }
+
+    /// Whether a quote of a tape with a look at n in one, on a copy of a model that has played those before it, gives the
+    /// list by the definitions.
+    fn looked_alike(self, model: &Model, quotes: &[u32], before: usize, n: usize) -> bool {
+        let (mut copy, mut print) = (model.clone(), String::new());
+        let quote = &quotes[before * self.d..(before + 1) * self.d];
+        copy.play(&format!("both {n}{}", fields(quote)), &mut print);
+        outputs_of(&print).1 == self.list(quotes, before + 1, n)
     }
 
     /// The values that the counts and cells of a book of M quotes are given, each by itself.

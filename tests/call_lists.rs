@@ -27,7 +27,7 @@ const EDGES: [u32; 16] = [
 ];
 
 /// Lines that cannot be taken.
-pub const BAD_LINES: [&str; 39] = [
+pub const BAD_LINES: [&str; 47] = [
     "",
     "quoted 1",
     "open 1 2",
@@ -45,6 +45,12 @@ pub const BAD_LINES: [&str; 39] = [
     "preview x",
     "preview 1 4294967296",
     "previewed 1",
+    "both",
+    "both x 1",
+    "both 1 x",
+    "both 4294967296 1",
+    "both 1 4294967296",
+    "bothered 1 1",
     "watch x",
     "watch2",
     "watch2 x",
@@ -59,11 +65,13 @@ pub const BAD_LINES: [&str; 39] = [
     "lend upper 1025",
     "lend ends 1",
     "lend out 62521",
+    "lend cells 62521",
     "lend watches 8",
     "lend desks 8",
     "cell watches 8 1",
     "cell desks 8 1",
     "cell desk 0 1",
+    "cell cells 0 1",
     "cell lower 1024 1",
     "cell upper 1024 1",
     "cell columns 6144 0",
@@ -87,7 +95,7 @@ pub enum Values {
 }
 
 /// The words that begin the calls which write changes.
-const CHANGING: [&str; 4] = ["quote", "preview", "watch", "pair"];
+const CHANGING: [&str; 5] = ["quote", "both", "preview", "watch", "pair"];
 
 /// The shares of the desks, as numbers of watches, that are just allowed, and some just over them.
 const FULL_SHARES: [(usize, usize); 3] = [(5, 3), (4, 4), (3, 5)];
@@ -235,7 +243,22 @@ impl List {
         self.columns(count).iter().fold("quote".into(), |line, value| format!("{line} {value}"))
     }
 
-    /// Says a call; of a quote mostly its preview first, with as much output, and at times what the preview leaves.
+    /// The line of a quote and look in one.
+    pub fn both(&mut self) -> String {
+        let (n, quote) = (self.window_size(), self.quote());
+        both_of(n, &quote)
+    }
+
+    /// The line of a quote, twice in five times with a look in one.
+    pub fn quote_or_both(&mut self) -> String {
+        if self.below(5) < 2 {
+            return self.both();
+        }
+        self.quote()
+    }
+
+    /// Says a call; of a quote mostly its preview first, with as much output, and at times what the preview leaves; of a
+    /// quote and look in one at times what it leaves, and once in four times the two calls behind it.
     fn make(&mut self, call: String) {
         if let Some(columns) = call.strip_prefix("quote").filter(|_| !self.once_in(3)) {
             self.say(format!("preview{columns}"));
@@ -243,7 +266,16 @@ impl List {
                 self.say("show".into());
             }
         }
-        self.say(call);
+        self.say(call.clone());
+        if let Some((n, columns)) = parts_of_both(&call) {
+            if self.once_in(3) && self.memory < 100 {
+                self.say("show".into());
+            }
+            if self.once_in(4) {
+                self.say(format!("quote{columns}"));
+                self.say(format!("look {n}"));
+            }
+        }
     }
 
     /// Says the preview of a quote, shows what it leaves, and says the quote.
@@ -255,13 +287,14 @@ impl List {
 
     /// The line of some call that can have an output.
     fn writing_call(&mut self) -> String {
-        match self.r.below(9) {
+        match self.r.below(11) {
             0 => format!("look {}", self.window_size()),
             1 => self.by_desk("watch"),
             2 => self.past(),
             3 => self.pair(),
             4 => "due".into(),
             5 => self.quote().replace("quote", "preview"),
+            6..=8 => self.both(),
             _ => self.quote(),
         }
     }
@@ -283,6 +316,7 @@ impl List {
         }
         self.say(format!("lend columns {COLUMN_CELLS}"));
         self.say(format!("lend out {OUTPUT}"));
+        self.say(format!("lend cells {OUTPUT}"));
     }
 
     /// An opening with the list's settings.
@@ -317,6 +351,11 @@ impl List {
     pub fn paired(&mut self, n1: u32, n2: u32) {
         let Head { d, memory, directions, newest, live, held, .. } = self.model.head;
         self.say(format!("head {d} {memory} {directions} {newest} {live} {held} {n1} {n2}"));
+    }
+
+    /// The newest position.
+    pub fn newest(&self) -> u32 {
+        self.model.head.newest
     }
 
     /// Whether a pair stands.
@@ -365,18 +404,22 @@ impl List {
         self.say(format!("lend {name} {longest}"));
     }
 
-    /// What a call would print, were so much output lent.
+    /// What a call would print, were so much output lent, and all cells of a quote and look in one.
     pub fn trial(&self, call: &str, out: usize) -> String {
         let (mut trial, mut print) = (self.model.clone(), String::new());
-        trial.lent.out = out;
+        (trial.lent.out, trial.lent.cells) = (out, OUTPUT);
         trial.play(call, &mut print);
         print
     }
 
     /// How many bytes or cells the answer of a call has, were the output long enough.
     fn answer_length(&self, call: &str) -> usize {
-        let print = self.trial(call, OUTPUT);
-        print.lines().find_map(|line| line.strip_prefix("X ")).map_or(0, |output| output.split(' ').count())
+        outputs_of(&self.trial(call, OUTPUT)).0.len()
+    }
+
+    /// How many positions a quote and look in one writes, were both outputs long enough.
+    pub fn list_length(&self, call: &str) -> usize {
+        outputs_of(&self.trial(call, OUTPUT)).1.len()
     }
 
     /// How much output a call asks for: as much as always suffices if it writes changes, else as much as its answer has.
@@ -402,6 +445,27 @@ impl List {
         self.say(format!("lend out {}", length + more));
         self.make(call);
         self.say(format!("lend out {OUTPUT}"));
+    }
+
+    /// A quote and look in one with cells one too few, or fewer at times, or about as many as n, then just enough or one
+    /// more; once in four times with an output of bytes that is too short as well.
+    pub fn tight_cells(&mut self) {
+        let call = self.both();
+        let (length, n) = (self.list_length(&call), parts_of_both(&call).map_or(0, |(n, _)| n));
+        let about = n.min(OUTPUT as u32 - 1);
+        let few = self.one_of(&[0, length.saturating_sub(1) as u32, about.max(1) - 1, about, about + 1]);
+        let short = if self.once_in(2) { few as usize } else { length.saturating_sub(1) };
+        if self.once_in(4) {
+            let out = self.one_of(&[0, 57_400, CHANGE_BYTES as u32 - 1]);
+            self.say(format!("lend out {out}"));
+        }
+        self.say(format!("lend cells {short}"));
+        self.make(call.clone());
+        self.say(format!("lend out {OUTPUT}"));
+        let more = usize::from(self.once_in(4));
+        self.say(format!("lend cells {}", length + more));
+        self.make(call);
+        self.say(format!("lend cells {OUTPUT}"));
     }
 
     /// A cell of a table or a record gets an odd value; after a call or two it is mostly put back.
@@ -450,8 +514,9 @@ impl List {
 
     /// One step of a list.
     fn step(&mut self) {
-        match self.r.below(60) {
+        match self.r.below(64) {
             0..=4 => self.tight_output(),
+            60.. => self.tight_cells(),
             5 | 6 => self.short_loan(),
             7 => self.poke(),
             8 if self.memory < 100 || self.once_in(20) => self.show(),
@@ -473,7 +538,7 @@ impl List {
                 self.make(call);
             }
             _ => {
-                let quote = self.quote();
+                let quote = self.quote_or_both();
                 self.make(quote);
             }
         }
@@ -518,7 +583,7 @@ impl List {
         self.litter();
         self.open();
         for _ in 0..self.r.below(u64::from(self.memory.min(20)) * 2 + 1) {
-            let quote = self.quote();
+            let quote = self.quote_or_both();
             self.say(quote);
         }
     }
@@ -763,8 +828,8 @@ impl List {
             let n = self.window_size();
             self.say(format!("{word} {n}"));
         }
-        let (past, (n1, n2), quote) = (self.past(), self.window_sizes(), self.quote());
-        for call in [past, format!("pair {n1} {n2}"), "unpair".into(), "due".into(), quote, "audit".into()] {
+        let (past, (n1, n2), both, quote) = (self.past(), self.window_sizes(), self.both(), self.quote());
+        for call in [past, format!("pair {n1} {n2}"), "unpair".into(), "due".into(), both, quote, "audit".into()] {
             self.make(call);
         }
         self.short_loan();
@@ -789,6 +854,32 @@ impl List {
         }
         self.any_opening();
     }
+}
+
+/// The line of a quote and look in one, from n and the line of the quote.
+pub fn both_of(n: u32, quote: &str) -> String {
+    quote.replacen("quote", &format!("both {n}"), 1)
+}
+
+/// The n of a quote and look in one, and its columns with a space before each; none if a line is no such call.
+pub fn parts_of_both(line: &str) -> Option<(u32, &str)> {
+    let rest = line.strip_prefix("both ")?;
+    let (n, columns) = rest.split_at(rest.find(' ').unwrap_or(rest.len()));
+    Some((n.parse().ok()?, columns))
+}
+
+/// What a call printed of its bytes and, of a quote and look in one, of the positions behind them.
+pub fn outputs_of(print: &str) -> (Vec<u32>, Vec<u32>) {
+    let count = print.split(' ').nth(2).unwrap_or("0");
+    let mut outputs = print.lines().filter_map(|line| line.strip_prefix("X "));
+    let mut next = || outputs.next().map_or(Vec::new(), numbers_in);
+    let bytes = if count == "0" { Vec::new() } else { next() };
+    (bytes, next())
+}
+
+/// The numbers of a text.
+fn numbers_in(text: &str) -> Vec<u32> {
+    text.split(' ').map(|number| number.parse().expect("a number")).collect()
 }
 
 /// The list with an index.

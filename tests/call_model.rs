@@ -82,6 +82,16 @@ pub enum Plant {
     Watch2ByOne,
     /// An ended watch leaves its desk in the record that becomes empty.
     DeskLeft,
+    /// A quote and look in one says the look's 5 before the quote's 13.
+    FiveBeforeThirteen,
+    /// A quote and look in one whose look refuses leaves the quote in the tables.
+    BothLeavesQuote,
+    /// A quote and look in one writes positions though it refuses, as many as there are cells.
+    BothCellsOnRefusal,
+    /// A quote and look in one gives the list of the book before the quote.
+    LookBefore,
+    /// A quote and look in one asks for n cells, and not for as many as the list has.
+    BothCounts,
 }
 
 /// The head of a book; the pair is n1 and n2, 0 and 0 when it is unset.
@@ -103,7 +113,7 @@ pub struct Record {
     pub desk: u32,
 }
 
-/// How much of each buffer is lent to the calls.
+/// How much of each buffer is lent to the calls; a quote and look in one has the output, for its bytes, and cells beside it.
 #[derive(Clone, PartialEq)]
 pub struct Lent {
     pub columns: usize,
@@ -111,6 +121,7 @@ pub struct Lent {
     pub lower: usize,
     pub upper: usize,
     pub out: usize,
+    pub cells: usize,
 }
 
 /// A held row of the book; columns that it does not have are 0, and so is the upper end of a live one.
@@ -223,7 +234,14 @@ impl Model {
             lower: vec![0; PLACES],
             upper: vec![0; PLACES],
             watches: records_of(&[], &[]),
-            lent: Lent { columns: COLUMN_CELLS, positions: PLACES, lower: PLACES, upper: PLACES, out: OUTPUT },
+            lent: Lent {
+                columns: COLUMN_CELLS,
+                positions: PLACES,
+                lower: PLACES,
+                upper: PLACES,
+                out: OUTPUT,
+                cells: OUTPUT,
+            },
             lines: 0,
         }
     }
@@ -357,10 +375,10 @@ impl Model {
         Ok(())
     }
 
-    /// An answer, or 13 if the output is shorter than it.
-    fn fitting(&self, answer: Vec<u32>) -> Result<Vec<u32>, u32> {
+    /// An answer, or 13 if an output of so many bytes or cells is shorter than it.
+    fn fitting(&self, answer: Vec<u32>, room: usize) -> Result<Vec<u32>, u32> {
         let early = usize::from(self.plant == Plant::Early && !answer.is_empty());
-        if self.lent.out < answer.len() + early {
+        if room < answer.len() + early {
             return Err(13);
         }
         Ok(answer)
@@ -371,7 +389,7 @@ impl Model {
         if self.lent.out < CHANGE_BYTES && self.plant != Plant::ThirteenFits {
             return Err(13);
         }
-        self.fitting(answer)
+        self.fitting(answer, self.lent.out)
     }
 
     /// An opening: 3, 11; else a new book.
@@ -508,11 +526,50 @@ impl Model {
         self.head == other.head && tables && ends && self.watches == other.watches && self.lent == other.lent
     }
 
-    /// A look: 3, 11, 12, 5, 13; else the list of n.
-    fn look(&self, n: u32) -> Result<Vec<u32>, u32> {
+    /// A look with so many cells: 3, 11, 12, 5, 13; else the list of n.
+    fn look(&self, n: u32, cells: usize) -> Result<Vec<u32>, u32> {
         self.judged_with(self.plant != Plant::BlindLook && self.torn_pair())?;
         self.in_memory(n)?;
-        self.fitting(listed(&self.rows(), self.start(n)))
+        self.fitting(listed(&self.rows(), self.start(n)), cells)
+    }
+
+    /// A quote and a look in one, on a copy: the quote's refusals, then those of the look on the book after it; else the
+    /// changes, the list of n, and the book after the quote.
+    fn both(&mut self, n: u32, quote: &[u32]) -> Result<[Vec<u32>; 2], u32> {
+        let (mut after, cells) = (self.clone(), self.lent.cells);
+        let changes = match after.quote(quote) {
+            Err(13) if self.plant == Plant::FiveBeforeThirteen => self.in_memory(n).and(Err(13)),
+            answer => answer,
+        }?;
+        let looked = match self.plant {
+            Plant::LookBefore => self.look(n, cells),
+            Plant::BothCounts if (1..=self.head.memory).contains(&n) && cells < n as usize => Err(13),
+            _ => after.look(n, cells),
+        };
+        if looked.is_ok() {
+            *self = after;
+        } else if self.plant == Plant::BothLeavesQuote {
+            *self = Model { head: self.head, ..after };
+        }
+        Ok([changes, looked?])
+    }
+
+    /// Makes a quote and look in one: the line of its answer, with the changes, and the line of the positions.
+    fn quote_and_look(&mut self, n: u32, quote: &[u32], print: &mut String) {
+        let (changes, list) = match self.both(n, quote) {
+            Ok([changes, list]) => (Ok(changes), list),
+            Err(number) if self.plant == Plant::BothCellsOnRefusal => (Err(number), self.positions_that_fit(n, quote)),
+            Err(number) => (Err(number), Vec::new()),
+        };
+        self.answer(changes, 1, self.head, print);
+        output_line(&list, print);
+    }
+
+    /// The first positions of the list of n after a quote, as many as there are cells; none where the quote is refused.
+    fn positions_that_fit(&self, n: u32, quote: &[u32]) -> Vec<u32> {
+        let mut after = self.clone();
+        let list = after.quote(quote).and_then(|_| after.look(n, OUTPUT)).unwrap_or_default();
+        list.into_iter().take(self.lent.cells).collect()
     }
 
     /// A past look: 3, 11, 12, 5, 14, 13; else the past list of n1 and n2, empty if b is below 1.
@@ -525,7 +582,7 @@ impl Model {
         if n1 > n2 {
             return Err(14);
         }
-        self.fitting(past_list(&self.rows(), self.head.newest, n1, n2))
+        self.fitting(past_list(&self.rows(), self.head.newest, n1, n2), self.lent.out)
     }
 
     /// The pair set: 3, 11, 12, 5, 14, 9, 13; else the head has it, and the joins of its list are the answer.
@@ -573,7 +630,8 @@ impl Model {
         let (n1, n2) = self.head.pair;
         let rows = self.rows();
         let due = rows.iter().filter(|row| n1 != 0 && self.is_due(row, n1, n2));
-        self.fitting(due.flat_map(|row| [row.position, row.position + n1 - 1 - self.head.newest]).collect())
+        let answer = due.flat_map(|row| [row.position, row.position + n1 - 1 - self.head.newest]).collect();
+        self.fitting(answer, self.lent.out)
     }
 
     /// A watch of a desk: 3, 11, 12, 5, 8, 9, 13; else n is added, and its joins are the answer.
@@ -657,12 +715,8 @@ impl Model {
             Ok(output) => (0, output),
             Err(number) => (number, Vec::new()),
         };
-        let Head { d, memory, directions, newest, live, held, pair: (n1, n2) } = head;
-        let count = output.len() / each;
-        writeln!(print, "A {number} {count} {d} {memory} {directions} {newest} {live} {held} {n1} {n2}").unwrap();
-        if !output.is_empty() {
-            line_of("X", &output, print);
-        }
+        answer_line(number, output.len() / each, head, print);
+        output_line(&output, print);
     }
 
     /// The lines of `show`: of tables whose settings are out of range there is nothing to show.
@@ -687,6 +741,7 @@ impl Model {
             "lower" => (&mut self.lent.lower, PLACES),
             "upper" => (&mut self.lent.upper, PLACES),
             "out" => (&mut self.lent.out, OUTPUT),
+            "cells" => (&mut self.lent.cells, OUTPUT),
             _ => return None,
         };
         if length as usize > longest {
@@ -717,7 +772,7 @@ impl Model {
         let answer = match (word, numbers) {
             ("open", &[d, memory, directions]) => self.open(d, memory, directions),
             ("quote", columns) => self.quote(columns),
-            ("look", &[n]) => self.look(n),
+            ("look", &[n]) => self.look(n, self.lent.out),
             ("past", &[n1, n2]) => self.past(n1, n2),
             ("pair", &[n1, n2]) => self.pair(n1, n2),
             ("unpair", &[]) => self.unpair(),
@@ -758,6 +813,7 @@ impl Model {
             ("audit", &[]) => self.verdict(print),
             ("show", &[]) => self.show(print),
             ("preview", columns) => self.preview(columns, print),
+            ("both", &[n, ref columns @ ..]) => self.quote_and_look(n, columns, print),
             ("head", &[d, memory, directions, newest, live, held, n1, n2]) => {
                 self.head = Head { d, memory, directions, newest, live, held, pair: (n1, n2) }
             }
@@ -778,6 +834,19 @@ impl Model {
 /// The numbers of some words, each below 2^32; none if one is no such number.
 fn numbers(words: &[&str]) -> Option<Vec<u32>> {
     words.iter().map(|word| word.parse().ok()).collect()
+}
+
+/// The line of an answer and a count, with the head handed back.
+pub fn answer_line(number: u32, count: usize, head: Head, print: &mut String) {
+    let Head { d, memory, directions, newest, live, held, pair: (n1, n2) } = head;
+    writeln!(print, "A {number} {count} {d} {memory} {directions} {newest} {live} {held} {n1} {n2}").unwrap();
+}
+
+/// The line of an output, where anything was written.
+pub fn output_line(output: &[u32], print: &mut String) {
+    if !output.is_empty() {
+        line_of("X", output, print);
+    }
 }
 
 /// A letter and numbers, one space between.

@@ -1,15 +1,15 @@
 //! The model's pair held against the definitions by trying every tape of small settings: whoever applies its changes
 //! holds the past list, and what is due joins that list after exactly the number of quotes said, and not before.
 
+use crate::call_lists::outputs_of;
 use crate::call_model::{Model, Plant};
 use crate::definitions::{fields, Settings};
 
-/// What a call writes.
+/// What a call writes; of a quote and look in one, the changes.
 fn written(model: &mut Model, call: &str) -> Vec<u32> {
     let mut print = String::new();
     model.play(call, &mut print);
-    let output = print.lines().nth(1).unwrap_or("X");
-    output.split(' ').skip(1).map(|number| number.parse().expect("a number")).collect()
+    outputs_of(&print).0
 }
 
 /// Applies change frames of the pair to the positions that a watcher holds.
@@ -63,12 +63,14 @@ impl Followed {
         }
     }
 
-    /// Plays the tape with the pair standing from its opening on; how many rows were due, or where it differs.
+    /// Plays the tape with the pair standing from its opening on, every second quote with a look in one; how many rows were
+    /// due, or where it differs.
     fn play(&self, plant: Plant) -> Result<usize, String> {
         let Settings { d, memory, directions, .. } = self.settings;
         let (mut model, mut held, mut rows) = (Model::new(plant), Vec::new(), 0);
         let pair = format!("pair {} {}", self.n1, self.n2);
-        let quotes = self.quotes.chunks(d).map(|quote| format!("quote{}", fields(quote)));
+        let words = ["quote".to_string(), format!("both {memory}")].into_iter().cycle();
+        let quotes = self.quotes.chunks(d).zip(words).map(|(quote, word)| word + &fields(quote));
         written(&mut model, &format!("open {d} {memory} {directions}"));
         for (newest, call) in std::iter::once(pair).chain(quotes).enumerate() {
             apply(&written(&mut model, &call), &mut held);

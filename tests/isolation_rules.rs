@@ -1,7 +1,8 @@
 //! Two lists of calls that agree in what concerns one desk and differ in all else, held against each other in the model:
-//! where the same of that desk's calls got 9, its answers and its change frames are the same.
+//! where the same of that desk's calls got 9, its answers and its change frames are the same. To a desk an accepted quote
+//! and look in one is its quote, and a refused one is none.
 
-use crate::call_lists::List;
+use crate::call_lists::{both_of, outputs_of, parts_of_both, List};
 use crate::call_model::{Model, Plant, OUTPUT};
 use crate::random::Random;
 
@@ -28,7 +29,8 @@ fn sign(desk: u32) -> &'static str {
     ["", "2"][desk as usize - 1]
 }
 
-/// Whether a line concerns a desk: openings, quotes, its own watches and ends; the pair belongs to desk one.
+/// Whether a line concerns a desk: openings, quotes, its own watches and ends; the pair belongs to desk one. A quote and
+/// look in one is looked at by its answer.
 fn concerns(desk: u32, line: &str) -> bool {
     match line.split(' ').next().unwrap_or("") {
         "open" | "quote" => true,
@@ -60,15 +62,19 @@ fn concerning(list: &mut List, desk: u32) -> Vec<Call> {
     (0..count).map(call).collect()
 }
 
-/// The line of a call that does not concern a desk.
+/// The line of a call that does not concern a desk; that of a quote and look in one is refused.
 fn other_call(list: &mut List, desk: u32) -> String {
     let other = sign(3 - desk);
-    match list.below(12) {
+    match list.below(14) {
         0 => format!("look {}", list.window_size()),
         1 => list.past(),
         2 => "due".into(),
         3 => list.quote().replace("quote", "preview"),
         4 => "audit".into(),
+        12.. => {
+            let n = [0, list.memory + 1][list.below(2) as usize];
+            both_of(n, &list.quote())
+        }
         5 | 6 if desk == 2 => list.pair(),
         5..=8 => format!("end{other} {}", list.window_size()),
         _ => format!("watch{other} {}", list.window_size()),
@@ -86,8 +92,19 @@ fn mend(list: &mut List, desk: u32, call: &Call, nine: bool) {
     }
 }
 
-/// Says the calls that concern a desk on any tables, others before each of them, or none at all; says which got 9: those
-/// that are known to, if they are known.
+/// Says a quote with a look in one, at any n and with cells about as many as it asks for; whether it accepted.
+fn say_both(list: &mut List, quote: &str) -> bool {
+    let call = both_of(list.window_size(), quote);
+    let cells = (list.list_length(&call) + list.below(3) as usize).max(1) - 1;
+    list.say(format!("lend cells {cells}"));
+    let before = list.newest();
+    list.say(call);
+    list.say(format!("lend cells {OUTPUT}"));
+    list.newest() > before
+}
+
+/// Says the calls that concern a desk on any tables, others before each of them, or none at all; a quote mostly with a
+/// look in one, and singly where that refuses. Says which got 9: those that are known to, if they are known.
 fn say_all(list: &mut List, desk: u32, calls: &[Call], nines: Option<&[bool]>) -> Vec<bool> {
     let (mut got, others) = (Vec::new(), 1 + list.below(6));
     list.litter();
@@ -101,7 +118,10 @@ fn say_all(list: &mut List, desk: u32, calls: &[Call], nines: Option<&[bool]>) -
         }
         got.push(list.trial(&call.line, call.out).starts_with("A 9 "));
         list.say(format!("lend out {}", call.out));
-        list.say(call.line.clone());
+        let both = call.line.starts_with("quote") && !list.once_in(3);
+        if !(both && say_both(list, &call.line)) {
+            list.say(call.line.clone());
+        }
         list.say(format!("lend out {OUTPUT}"));
     }
     got
@@ -124,9 +144,8 @@ pub fn isolated_lists(seed: u64, index: u64) -> (u32, [Vec<String>; 2]) {
 }
 
 /// The change frames of an output that are a desk's.
-fn frames_of(desk: u32, output: &str) -> Vec<Vec<u32>> {
-    let bytes: Vec<u32> = output.split(' ').map(|byte| byte.parse().expect("a byte")).collect();
-    let (mut frames, mut rest) = (Vec::new(), &bytes[..]);
+fn frames_of(desk: u32, mut rest: &[u32]) -> Vec<Vec<u32>> {
+    let mut frames = Vec::new();
     while let Some(&kind) = rest.first() {
         let (frame, behind) = rest.split_at(if kind < 36 { 7 } else { 5 });
         if desk == if kind == 34 || kind == 35 { 2 } else { 1 } {
@@ -137,36 +156,48 @@ fn frames_of(desk: u32, output: &str) -> Vec<Vec<u32>> {
     frames
 }
 
-/// What a desk sees of a list, played by a model.
-fn views(plant: Plant, desk: u32, list: &[String]) -> Vec<View> {
-    let (mut model, mut views) = (Model::new(plant), Vec::new());
-    for line in list {
-        let (mut print, out) = (String::new(), model.lent.out);
-        model.play(line, &mut print);
-        if concerns(desk, line) {
-            let answer = print.split(' ').nth(1).expect("an answer").to_string();
-            let output = print.lines().find_map(|line| line.strip_prefix("X "));
-            let frames = output.map_or(Vec::new(), |output| frames_of(desk, output));
-            views.push(View { call: Call { line: line.clone(), out }, answer, frames });
-        }
+/// What a call is to the desks that saw its print: an accepted quote and look in one is its quote, a refused one nothing.
+fn seen_as(line: &str, print: &str) -> Option<String> {
+    match parts_of_both(line) {
+        Some((_, columns)) => print.starts_with("A 0 ").then(|| format!("quote{columns}")),
+        None => Some(line.into()),
     }
-    views
 }
 
-/// How many pairs of lists were compared, how many calls in them got 9, and how many change frames there were.
+/// What a desk sees of a list, played by a model, and how many quotes in it came with a look in one.
+fn views(plant: Plant, desk: u32, list: &[String]) -> (Vec<View>, usize) {
+    let (mut model, mut views, mut both) = (Model::new(plant), Vec::new(), 0);
+    for played in list {
+        let (mut print, out) = (String::new(), model.lent.out);
+        model.play(played, &mut print);
+        if let Some(line) = seen_as(played, &print).filter(|line| concerns(desk, line)) {
+            both += usize::from(line != *played);
+            let answer = print.split(' ').nth(1).expect("an answer").to_string();
+            let frames = frames_of(desk, &outputs_of(&print).0);
+            views.push(View { call: Call { line, out }, answer, frames });
+        }
+    }
+    (views, both)
+}
+
+/// How many pairs of lists were compared, how many calls in them got 9, how many quotes came with a look in one, in either
+/// list, and how many change frames there were.
 #[derive(Default)]
 struct Compared {
     pairs: usize,
     nines: usize,
+    both: usize,
     frames: usize,
 }
 
 /// Compares what a desk sees of two lists, if the same of its calls got 9; a message if it differs.
 fn compare(plant: Plant, index: u64, compared: &mut Compared) -> Result<(), String> {
     let (desk, lists) = isolated_lists(1, index);
-    let [one, two] = lists.map(|list| views(plant, desk, &list));
+    let [(one, both), (two, more)] = lists.map(|list| views(plant, desk, &list));
     let alike = one.iter().zip(&two).all(|(a, b)| a.call == b.call);
-    assert!(alike && one.len() == two.len(), "the lists agree in what concerns the desk");
+    if !(alike && one.len() == two.len()) {
+        return Err(format!("lists {index}: not the same calls concern desk {desk}"));
+    }
     if one.iter().zip(&two).any(|(a, b)| (a.answer == "9") != (b.answer == "9")) {
         return Ok(());
     }
@@ -176,6 +207,7 @@ fn compare(plant: Plant, index: u64, compared: &mut Compared) -> Result<(), Stri
     }
     compared.pairs += 1;
     compared.nines += one.iter().filter(|view| view.answer == "9").count();
+    compared.both += both + more;
     compared.frames += one.iter().map(|view| view.frames.len()).sum::<usize>();
     Ok(())
 }
@@ -189,7 +221,8 @@ pub fn hold(plant: Plant) -> bool {
             return false;
         }
     }
-    let Compared { pairs, nines, frames } = compared;
-    println!("random_calls: a desk saw the same of both lists of {pairs} pairs, {nines} times 9 and {frames} changes");
-    pairs as u64 > PAIRS / 2 && nines > 0 && frames > 0
+    let Compared { pairs, nines, both, frames } = compared;
+    println!("random_calls: a desk saw the same of both lists of {pairs} pairs, {nines} times 9 and {frames} changes,");
+    println!("random_calls: where {both} quotes came with a look in one");
+    pairs as u64 > PAIRS / 2 && nines > 0 && both > 0 && frames > 0
 }

@@ -1,15 +1,18 @@
 //! Plays random lists of calls through the book player and through a plain model of the calls on any tables, and
-//! compares what they print, line by line; in the model each preview is held against the quote behind it.
+//! compares what they print, line by line; in the model each preview is held against the quote behind it, and each quote
+//! and look in one against the two calls.
 //!
 //! usage: random_calls [--plant NAME] PLAYER [SEED [LISTS]]
 //!            compare the player with the model, or with a model that has a bug planted, on random lists
 //!        random_calls [--plant NAME] --rules
 //!            compare the model's audit, lists and due rows with every tape of small settings, its previews with its
-//!            quotes, and what one desk sees of lists that differ in all that does not concern it
+//!            quotes, a quote and look in one with the two, and what one desk sees of lists that differ in all that
+//!            does not concern it
 //!        random_calls --play < CALLS
 //!            play a list by the model alone
 
 mod audit_rules;
+mod both_rules;
 mod call_lists;
 mod call_model;
 mod definitions;
@@ -20,7 +23,8 @@ mod preview_rules;
 mod random;
 mod small_lists;
 
-use call_model::{Model, Plant};
+use both_rules::Pairing;
+use call_model::{Model, Plant, CHANGE_BYTES};
 use preview_rules::Follower;
 use std::collections::BTreeMap;
 use std::io::Read;
@@ -33,7 +37,7 @@ const BATCH: usize = 100;
 /// How many lines before a difference are shown; the whole list is saved.
 const SHOWN: usize = 20;
 /// The planted bugs by name.
-const PLANTS: [(&str, Plant); 28] = [
+const PLANTS: [(&str, Plant); 33] = [
     ("renamed", Plant::Renamed),
     ("torn-first", Plant::TornFirst),
     ("past-memory", Plant::PastMemory),
@@ -62,13 +66,21 @@ const PLANTS: [(&str, Plant); 28] = [
     ("desk-two-first", Plant::DeskTwoFirst),
     ("watch2-by-one", Plant::Watch2ByOne),
     ("desk-left", Plant::DeskLeft),
+    ("five-before-thirteen", Plant::FiveBeforeThirteen),
+    ("both-leaves-quote", Plant::BothLeavesQuote),
+    ("both-cells-on-refusal", Plant::BothCellsOnRefusal),
+    ("look-before", Plant::LookBefore),
+    ("both-counts", Plant::BothCounts),
 ];
+/// What 13 is called where it is said of the cells of a quote and look in one.
+const OF_CELLS: &str = "13 of the cells";
 /// The answers that each call can give and that have to come; a quote directly behind its preview is counted by itself.
-const ANSWERS: [(&str, &[&str]); 14] = [
+const ANSWERS: [(&str, &[&str]); 15] = [
     ("open", &["0", "3", "11"]),
     ("quote", &["0", "3", "11", "12", "4", "6", "13"]),
     ("preview", &["0", "3", "11", "12", "4", "6", "13"]),
     ("previewed", &["0", "3", "11", "12", "4", "6", "13"]),
+    ("both", &["0", "3", "11", "12", "4", "6", "13", "5", OF_CELLS]),
     ("look", &["0", "3", "11", "12", "5", "13"]),
     ("past", &["0", "3", "11", "12", "5", "14", "13"]),
     ("watch", &["0", "3", "11", "12", "5", "8", "9", "13"]),
@@ -97,11 +109,14 @@ struct Tally {
 }
 
 impl Tally {
-    /// Counts what a line printed: the call's word with the number or the verdict.
-    fn count(&mut self, line: &str, previewed: bool, print: &str) {
+    /// Counts what a line printed, of which so much output was lent: the call's word with the number or the verdict.
+    fn count(&mut self, line: &str, previewed: bool, out: usize, print: &str) {
         if let Some(("A" | "V", rest)) = print.split_once(' ') {
             let word = if previewed { "previewed" } else { line.split(' ').next().unwrap() };
-            let answer = rest.split([' ', '\n']).next().unwrap();
+            let answer = match rest.split([' ', '\n']).next().unwrap() {
+                "13" if word == "both" && out >= CHANGE_BYTES => OF_CELLS,
+                answer => answer,
+            };
             *self.answers.entry(format!("{word} {answer}")).or_default() += 1;
         }
     }
@@ -132,18 +147,20 @@ impl Tally {
 }
 
 impl Comparison {
-    /// What the model prints for some lists, played one behind the other, and whether its previews are right.
+    /// What the model prints for some lists, played one behind the other, and whether its previews are right, and its
+    /// quotes and looks in one.
     fn model_print(&self, lists: &[Vec<String>], tally: &mut Tally) -> (String, bool) {
         let (mut model, mut follower) = (Model::new(self.plant), Follower::default());
         let (mut print, mut right) = (String::new(), true);
         for line in lists.iter().flatten() {
-            let before = print.len();
+            let (before, pairing) = (print.len(), Pairing::of(&model, line));
             let previewed = follower.play(&mut model, line, &mut print);
-            if let (true, Err(message)) = (right, &previewed) {
+            let paired = pairing.map_or(Ok(true), |pairing| pairing.compare(&model, line, &print[before..]));
+            if let (true, Some(message)) = (right, previewed.as_ref().err().or(paired.as_ref().err())) {
                 eprintln!("random_calls: {}: the rules differ: {message}", self.label);
                 right = false;
             }
-            tally.count(line, previewed == Ok(true), &print[before..]);
+            tally.count(line, previewed == Ok(true), model.lent.out, &print[before..]);
         }
         (print, right)
     }
@@ -273,8 +290,9 @@ fn main() {
     let start = Instant::now();
     check_examples();
     let right = if arguments.next_if_eq("--rules").is_some() {
-        let windows = audit_rules::hold(plant) && due_rules::hold(plant);
-        windows && preview_rules::hold(plant) && isolation_rules::hold(plant)
+        let calls = both_rules::hold(plant) && preview_rules::hold(plant);
+        let windows = calls && audit_rules::hold(plant) && due_rules::hold(plant);
+        windows && isolation_rules::hold(plant)
     } else {
         let player = arguments.next().expect("usage: random_calls [--plant NAME] PLAYER [SEED [LISTS]]");
         let seed: u64 = arguments.next().map_or(1, |s| s.parse().expect("a seed"));

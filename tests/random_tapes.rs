@@ -28,8 +28,8 @@ enum Values {
     Crossing,
 }
 
-/// What a tape's frames are drawn by: the settings, the sort of values, how often a watch or its end comes, and how many in four of
-/// these are desk two's.
+/// What a tape's frames are drawn by: the settings, the sort of values, how often a watch or its end comes, how many in four of
+/// these are desk two's, how many in eight quotes have a look behind them, and the n of most of those looks.
 struct Style {
     d: u8,
     memory: u16,
@@ -37,6 +37,8 @@ struct Style {
     values: Values,
     watching: u64,
     leaning: u64,
+    looking: u64,
+    looked: u16,
 }
 
 impl Style {
@@ -59,7 +61,10 @@ impl Style {
             5..=7 => Values::Repeated(1 + r.below(6)),
             _ => Values::Few(1 + r.below(5)),
         };
-        Style { d, memory, directions, values, watching: [1, 2, 12][r.below(3) as usize], leaning: r.below(5) }
+        let (watching, leaning) = ([1, 2, 12][r.below(3) as usize], r.below(5));
+        let looking = [0, 0, 7][r.below(3) as usize];
+        let style = Style { d, memory, directions, values, watching, leaning, looking, looked: 1 };
+        Style { looked: style.window_size(r), ..style }
     }
 
     /// A value of column i at a step of the tape.
@@ -125,9 +130,25 @@ impl Style {
         set_pair(tape, n1, n2);
     }
 
-    /// A quote, once in 40 with a column count of its own. One of so many distinct quotes has a generator of its own.
+    /// A quote, and behind it a look as often as the style says: mostly directly, and mostly of the style's n.
     fn quote(&self, r: &mut Random, step: u32, tape: &mut Vec<u8>) {
-        let count = if r.below(40) == 0 { 1 + r.below(6) as u8 } else { self.d };
+        self.quote_alone(r, step, tape);
+        if r.below(8) < self.looking {
+            match r.below(20) {
+                0 => self.watch(r, tape),
+                1 => self.past_look(r, tape),
+                2 => self.pair(r, tape),
+                3 if r.below(3) == 0 => change(r, tape),
+                _ => {}
+            }
+            look(tape, if r.below(4) == 0 { self.window_size(r) } else { self.looked });
+        }
+    }
+
+    /// A quote, once in 40 with a column count of its own, more often where looks are behind quotes. One of so many distinct
+    /// quotes has a generator of its own.
+    fn quote_alone(&self, r: &mut Random, step: u32, tape: &mut Vec<u8>) {
+        let count = if r.below(40) <= self.looking / 2 { 1 + r.below(6) as u8 } else { self.d };
         let mut repeated = match self.values {
             Values::Repeated(k) => Some(Random::new(k, r.below(k))),
             _ => None,
@@ -251,7 +272,8 @@ fn good_tape(r: &mut Random, index: u64) -> Vec<u8> {
 
 /// A tape longer than a reader's buffer, of a book with a short memory.
 fn long_tape(r: &mut Random, index: u64) -> Vec<u8> {
-    let style = Style { memory: 1 + r.below(9) as u16, watching: 2, ..Style::new(r, index) };
+    let (memory, looked) = (1 + r.below(9) as u16, 1 + r.below(9) as u16);
+    let style = Style { memory, watching: 2, looked, ..Style::new(r, index) };
     let mut tape = Vec::new();
     style.open(&mut tape);
     let count = 2_000 + r.below(8_000);
@@ -330,7 +352,7 @@ pub fn flipped_tape(seed: u64, index: u64) -> Vec<u8> {
 
 /// A short tape with a frame of every known kind for a column count.
 fn tape_of_every_kind(r: &mut Random, d: u8) -> Vec<u8> {
-    let style = Style { d, memory: 4, directions: 0, values: Values::Few(3), watching: 4, leaning: 2 };
+    let style = Style { d, memory: 4, directions: 0, values: Values::Few(3), watching: 4, leaning: 2, looking: 0, looked: 1 };
     let mut tape = Vec::new();
     style.open(&mut tape);
     for n in [2, 4] {
@@ -347,6 +369,25 @@ fn tape_of_every_kind(r: &mut Random, d: u8) -> Vec<u8> {
     style.quote(r, 0, &mut tape);
     tape.push(22);
     style.past_look(r, &mut tape);
+    tape
+}
+
+/// A short tape with looks behind most quotes for a column count: before the opening too, out of range, and behind quotes
+/// of another column count.
+fn tape_of_looks(r: &mut Random, d: u8) -> Vec<u8> {
+    let style = Style { d, memory: 3, directions: 1, values: Values::Few(3), watching: 1, leaning: 2, looking: 7, looked: 2 };
+    let mut tape = Vec::new();
+    style.quote(r, 0, &mut tape);
+    style.open(&mut tape);
+    for n in [3, 4, 1] {
+        style.quote(r, 0, &mut tape);
+        frames::watch(&mut tape, n);
+        frames::quote(&mut tape, &vec![n.into(); usize::from(d % 6) + 1]);
+        look(&mut tape, n);
+        style.quote_alone(r, 0, &mut tape);
+        look(&mut tape, n);
+    }
+    style.steps(r, 0, 4, &mut tape);
     tape
 }
 
@@ -420,6 +461,36 @@ fn pair_example() -> (Vec<u8>, &'static str) {
         frames::quote(&mut tape, &quote);
     }
     let print = "O 2 6 0\nB 3 5\nQ 1 1\nQ 2 2\nQ 3 3\n++ 1\nQ 4 2\nQ 5 3\n++ 3\nQ 6 1\n-- 1\n++ 4\nQ 7 2\n";
+    (tape, print)
+}
+
+/// A tape with looks behind quotes, some of either refused, and its print.
+fn looks_example() -> (Vec<u8>, &'static str) {
+    let mut tape = Vec::new();
+    let pair = |tape: &mut Vec<u8>, columns: &[u32], n: u16| {
+        frames::quote(tape, columns);
+        look(tape, n);
+    };
+    look(&mut tape, 1);
+    pair(&mut tape, &[5, 5], 2);
+    frames::open(&mut tape, 2, 5, 0);
+    pair(&mut tape, &[5, 5], 5);
+    pair(&mut tape, &[3, 8], 5);
+    frames::watch(&mut tape, 2);
+    for (columns, n) in [(&[4, 4][..], 2), (&[7, 2], 6), (&[4], 3), (&[4, 4], 0)] {
+        pair(&mut tape, columns, n);
+    }
+    set_pair(&mut tape, 2, 4);
+    pair(&mut tape, &[6, 6], 5);
+    look(&mut tape, 2);
+    frames::quote(&mut tape, &[2, 9]);
+    past(&mut tape, 1, 5);
+    look(&mut tape, 4);
+    pair(&mut tape, &[4, 3], 5);
+    let print = "R 7\nR 7\nR 7\nO 2 5 0\nQ 1 1\nL 5 1\nQ 2 2\nL 5 1 2\nW 2\n+ 2 1\n+ 2 2\nQ 3 2\n- 2 1\n+ 2 3\nL 2 2 3\n\
+                 Q 4 3\n- 2 2\n+ 2 4\nR 5\nR 4\nL 3 2 3 4\nQ 5 3\n- 2 3\n+ 2 5\nR 5\nB 2 4\n++ 2\n++ 3\n++ 4\n\
+                 Q 6 4\n- 2 4\n-- 2\n-- 3\n++ 5\nL 5 2 4 5\nL 2 5\nQ 7 4\n- 2 5\n+ 2 6\n+ 2 7\nP 1 5 4 5 7\nL 4 4 5 7\n\
+                 Q 8 3\n- 2 6\n+ 2 8\n-- 4\n++ 7\nL 5 4 7 8\n";
     (tape, print)
 }
 
@@ -497,18 +568,22 @@ fn tape_of_shares(one: u16, two: u16) -> Vec<u8> {
 pub fn examples() -> Vec<(Vec<u8>, &'static str)> {
     let pairs = [past_example(), pair_example(), pair_refusals()];
     let desks = [shares_example(), desks_example()];
-    [worked_example(), renewed_example()].into_iter().chain(pairs).chain(desks).collect()
+    [worked_example(), renewed_example(), looks_example()].into_iter().chain(pairs).chain(desks).collect()
 }
 
-/// The worked tapes, tapes on which the desks take any numbers of watches, tapes cut at every byte, for every column count, and every
-/// kind byte before bodies of several lengths, alone and behind an opening.
+/// A tape cut at every byte, and whole.
+fn cuts(whole: Vec<u8>) -> impl Iterator<Item = Vec<u8>> {
+    (0..=whole.len()).map(move |keep| whole[..keep].to_vec())
+}
+
+/// The worked tapes and, for every column count, tapes of every kind and with looks behind quotes, all cut at every byte; tapes on
+/// which the desks take any numbers of watches; and every kind byte before bodies of several lengths, alone and behind an opening.
 pub fn edge_tapes(seed: u64) -> Vec<Vec<u8>> {
-    let mut tapes = vec![Vec::new()];
-    tapes.extend(examples().into_iter().map(|(tape, _)| tape));
+    let mut tapes: Vec<Vec<u8>> = examples().into_iter().flat_map(|(tape, _)| cuts(tape)).collect();
     tapes.extend((0..=6).flat_map(|one| (0..=6).map(move |two| tape_of_shares(one, two))));
     for d in 1..=6 {
-        let whole = tape_of_every_kind(&mut Random::new(seed, d), d as u8);
-        tapes.extend((0..=whole.len()).map(|keep| whole[..keep].to_vec()));
+        tapes.extend(cuts(tape_of_every_kind(&mut Random::new(seed, d), d as u8)));
+        tapes.extend(cuts(tape_of_looks(&mut Random::new(!seed, d), d as u8)));
     }
     for kind in 0..=255 {
         let mut opened = Vec::new();

@@ -1,8 +1,8 @@
 //! Small lists of calls that go through settings, n, pairs of n, shares of the desks, lengths of tables and untorn books
 //! one by one, and bring the longest answers; and some that are worked out by hand.
 
-use crate::call_lists::{List, Values, BAD_LINES};
-use crate::call_model::OUTPUT;
+use crate::call_lists::{both_of, List, Values, BAD_LINES};
+use crate::call_model::{CHANGE_BYTES, OUTPUT};
 use crate::random::Random;
 
 /// What makes a list, when it is played.
@@ -69,6 +69,28 @@ fn every_window(d: u32, memory: u32, directions: u32) -> Vec<String> {
     list.lines
 }
 
+/// A quote and look in one for every n from 0 to N + 1, up and down: with an output of bytes one too short, with cells one
+/// too few, and with just enough, each with what it leaves; under watches and a pair.
+fn every_both(d: u32, memory: u32, directions: u32) -> Vec<String> {
+    let mut list = small_list(d, memory, directions);
+    for call in [format!("watch {memory}"), "watch2 1".into(), format!("pair 2 {memory}")] {
+        list.say(call);
+    }
+    for n in (0..=memory + 1).chain((0..=memory + 1).rev()) {
+        let quote = list.quote();
+        let call = both_of(n, &quote);
+        let cells = list.list_length(&call);
+        for (out, cells) in [(CHANGE_BYTES - 1, cells), (OUTPUT, cells.saturating_sub(1)), (OUTPUT, cells)] {
+            list.say(format!("lend out {out}"));
+            list.say(format!("lend cells {cells}"));
+            list.say(call.clone());
+            list.say("show".into());
+        }
+    }
+    list.say("audit".into());
+    list.lines
+}
+
 /// Watches set by turns, up to a number for each desk, and one more of each; a quote under them; and each ended, in an
 /// order that differs with the numbers.
 fn every_share(one: u32, two: u32) -> Vec<String> {
@@ -106,6 +128,11 @@ fn any_shares(one: u32, two: u32) -> Vec<String> {
         list.say(call.into());
         list.say("show".into());
     }
+    for (n, quote) in [(0, "quote 4"), (8, "quote 4"), (8, "quote 5")] {
+        list.records(&ones, &twos);
+        list.say(both_of(n, quote));
+        list.say("show".into());
+    }
     list.records(&ones, &twos);
     list.previewed(" 4");
     list.say("audit".into());
@@ -126,6 +153,8 @@ fn every_loan(d: u32, memory: u32) -> Vec<String> {
             for call in ["watch 1", "watch2 1", "end 1", "end2 1"] {
                 list.say(call.into());
             }
+            list.say(format!("both {}{}", memory + 1, zeros(d)));
+            list.say(format!("both 1{}", zeros(d)));
             list.previewed(&zeros(d));
             list.open();
         }
@@ -181,15 +210,18 @@ fn any_pairs(memory: u32) -> Vec<String> {
             list.say(call.into());
         }
         list.paired(n1, n2);
+        list.say("both 0 1".into());
+        list.say("both 1 1".into());
+        list.paired(n1, n2);
         list.previewed(" 1");
     }
     list.open();
     list.lines
 }
 
-/// 1,024 quotes of which none beats another, and all but the oldest are due; then eight watches of both desks and another
-/// pair, a quote that beats them all and its equal, and the list before it; each call first with an output one byte or
-/// cell too short.
+/// 1,024 quotes of which none beats another, and all but the oldest are due; one more of them with a look at all; then
+/// eight watches of both desks and another pair, a quote that beats them all with a look and its equal, and the list
+/// before it; each call first with an output one byte or cell too short.
 fn longest_answers() -> Vec<String> {
     let mut list = small_list(2, 1_024, 0);
     for value in 1..=1_024 {
@@ -197,6 +229,7 @@ fn longest_answers() -> Vec<String> {
     }
     list.say("pair 1024 1024".into());
     say_tightly(&mut list, "due");
+    say_with_cells(&mut list, "both 1024 1025 975");
     list.say("unpair".into());
     list.say("pair 2 1024".into());
     for (word, first) in [("watch", 1_020), ("watch2", 1_022)] {
@@ -204,7 +237,9 @@ fn longest_answers() -> Vec<String> {
             say_tightly(&mut list, &format!("{word} {n}"));
         }
     }
-    for call in ["preview 1 1", "quote 1 1", "preview 1 1", "quote 1 1", "due", "past 2 1024"] {
+    say_tightly(&mut list, "preview 1 1");
+    say_with_cells(&mut list, "both 1024 1 1");
+    for call in ["preview 1 1", "quote 1 1", "due", "past 2 1024"] {
         say_tightly(&mut list, call);
     }
     list.say("audit".into());
@@ -220,6 +255,17 @@ fn say_tightly(list: &mut List, call: &str) {
         list.say(call.into());
     }
     list.say(format!("lend out {OUTPUT}"));
+}
+
+/// A quote and look in one with bytes one too few, with cells one too few, and with just enough of both.
+fn say_with_cells(list: &mut List, call: &str) {
+    let cells = list.list_length(call);
+    for (out, cells) in [(CHANGE_BYTES - 1, cells), (CHANGE_BYTES, cells - 1), (CHANGE_BYTES, cells)] {
+        list.say(format!("lend out {out}"));
+        list.say(format!("lend cells {cells}"));
+        list.say(call.into());
+    }
+    list.say(format!("lend cells {OUTPUT}"));
 }
 
 /// The marked audits of the paper: a sole row of the worst quote, of the next to the worst, and ends of two rows.
@@ -262,8 +308,9 @@ fn every_ends(start: u32, newest: u32) -> Vec<Vec<(u32, u32)>> {
 }
 
 /// An untorn book of one column with M and the ends of its rows given, each row beating the next quote, equal to it or
-/// beaten by it, as a number to the base 3 says, under watches of both desks and a pair or none; two equal quotes on it,
-/// each previewed, with what they leave, what is due, and every past list.
+/// beaten by it, as a number to the base 3 says, under watches of both desks and a pair or none; on it two equal quotes,
+/// each previewed, with what they leave, what is due, and every past list; before the first one a look in one with it,
+/// refused, and behind them one with a third.
 fn untorn_book(newest: u32, ends: &[(u32, u32)], values: u32, pair: (u32, u32)) -> Vec<String> {
     let mut list = small_list(1, 3, 0);
     let start = newest + 1 - ends.len() as u32;
@@ -276,12 +323,19 @@ fn untorn_book(newest: u32, ends: &[(u32, u32)], values: u32, pair: (u32, u32)) 
     for call in ["watch2 3", "watch2 1", "watch 1", "watch 2", "watch 3", "audit", "due"] {
         list.say(call.into());
     }
+    let n = 1 + (newest + values) % 3;
+    let few = list.list_length(&format!("both {n} 1")).max(1) - 1;
+    for call in [format!("lend cells {few}"), format!("both {n} 1"), "lend cells 3".into()] {
+        list.say(call);
+    }
     for _ in 0..2 {
         list.previewed(" 1");
         for call in ["show", "due", "past 1 1", "past 1 2", "past 1 3", "past 2 2", "past 2 3", "past 3 3"] {
             list.say(call.into());
         }
     }
+    list.say(format!("both {n} 1"));
+    list.say("show".into());
     list.lines
 }
 
@@ -318,9 +372,10 @@ fn retired_over(memory: u32, newest: u32, place: u32, live_one: Option<u32>) -> 
     list.head(newest, held - 1, held);
     list.say(format!("watch {memory}"));
     list.say(format!("pair 2 {memory}"));
-    for _ in 0..=memory {
+    for i in 0..=memory {
         list.previewed(" 5 5");
         list.say("show".into());
+        list.say(format!("both {} 6 6", memory - i / 2));
         list.say("due".into());
         list.say(format!("look {memory}"));
         list.say(format!("past 2 {memory}"));
@@ -441,6 +496,30 @@ fn desks_example() -> (Vec<String>, String) {
     (lines, print.into())
 }
 
+/// Quotes with a look in one: before any opening, with changes and without, and refused in every way, of which the quote's
+/// 13 comes before the look's 5, and that before the look's own 13; a refused one leaves the book as it was.
+fn both_example() -> (Vec<String>, String) {
+    let begun = ["both 1 1", "open 2 5 0", "both 5 5 5", "watch 2", "both 1 3 8", "both 2 4", "both 9 4"];
+    let bytes = ["lend out 62519", "both 0 4 4", "both 2 4 4", "lend out 62520", "both 0 4 4", "both 6 4 4"];
+    let cells = ["lend cells 1", "both 6 4 4", "both 3 4 4", "show", "lend cells 2", "both 3 4 4", "show"];
+    let behind = ["lend cells 0", "lend out 1", "look 1", "lend out 62520", "both 1 2 9", "quote 2 9", "look 1"];
+    let lines = [&begun[..], &bytes, &cells, &behind, &["lend cells 62520"]].concat();
+    let print = "A 3 0 0 0 0 0 0 0 0 0\nA 0 0 2 5 0 0 0 0 0 0\nA 0 0 2 5 0 1 1 1 0 0\nX 1\n\
+                 A 0 7 2 5 0 1 1 1 0 0\nX 33 2 0 1 0 0 0\n\
+                 A 0 7 2 5 0 2 2 2 0 0\nX 33 2 0 2 0 0 0\nX 2\n\
+                 A 4 0 2 5 0 2 2 2 0 0\nA 4 0 2 5 0 2 2 2 0 0\n\
+                 A 13 0 2 5 0 2 2 2 0 0\nA 13 0 2 5 0 2 2 2 0 0\n\
+                 A 5 0 2 5 0 2 2 2 0 0\nA 5 0 2 5 0 2 2 2 0 0\n\
+                 A 5 0 2 5 0 2 2 2 0 0\nA 13 0 2 5 0 2 2 2 0 0\n\
+                 C 5 5 3 8 0 0 0 0 0 0\nP 1 2 0 0 0\nE 0 0 0 0 0\nU 0 0 0 0 0\nW 2 0 0 0 0 0 0 0\nD 1 0 0 0 0 0 0 0\n\
+                 A 0 14 2 5 0 3 2 3 0 0\nX 32 2 0 1 0 0 0 33 2 0 3 0 0 0\nX 2 3\n\
+                 C 5 5 3 8 4 4 0 0 0 0\nP 1 2 3 0 0\nE 0 0 0 0 0\nU 3 0 0 0 0\nW 2 0 0 0 0 0 0 0\nD 1 0 0 0 0 0 0 0\n\
+                 A 0 1 2 5 0 3 2 3 0 0\nX 3\n\
+                 A 13 0 2 5 0 3 2 3 0 0\n\
+                 A 0 14 2 5 0 4 3 4 0 0\nX 32 2 0 2 0 0 0 33 2 0 4 0 0 0\nA 0 1 2 5 0 4 3 4 0 0\nX 4\n";
+    (lines.into_iter().map(String::from).collect(), print.into())
+}
+
 /// Arrangements of the records, n and desk of each in turn, and the answer that desk one's end of 1 gets: 12 where they
 /// are torn.
 const ARRANGEMENTS: [(&[(u32, u32)], u32); 15] = [
@@ -480,7 +559,7 @@ fn torn_example() -> (Vec<String>, String) {
 /// The lists that are worked out by hand, with their prints.
 pub fn examples() -> Vec<(Vec<String>, String)> {
     let windows = [past_example(), due_example(), preview_example(), marked_example(), renewed_example()];
-    windows.into_iter().chain([desks_example(), torn_example()]).collect()
+    windows.into_iter().chain([desks_example(), both_example(), torn_example()]).collect()
 }
 
 /// All small lists, and one of every sort of line that cannot be taken.
@@ -489,6 +568,7 @@ pub fn small_lists() -> Vec<Maker> {
     for d in 1..=6 {
         for memory in 1..=5 {
             lists.extend((0..1 << d).map(|directions| maker(move || every_window(d, memory, directions))));
+            lists.push(maker(move || every_both(d, memory, (1 << d) - 1)));
             lists.push(maker(move || every_loan(d, memory)));
         }
     }

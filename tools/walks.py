@@ -20,6 +20,8 @@ LAST = "(lent-tables {columns} {positions} {lowerEnds} {upperEnds})"
 CALLS = {
     "quote": ([("head", "head"), ("quoted", "shr")] + LENT + RECORDS + [("out", "out")], "Quoted",
               "head (quoted .now) lent {ws} (out .now) {j} " + LAST + " {out}", "head (quoted .now) lent", "Reply"),
+    "both": ([("head", "head"), ("quoted", "shr"), ("n", "num")] + LENT + RECORDS + [("out", "out"), ("cells", "mut")], "QuotedLooked",
+             "head (quoted .now) n lent {ws} (out .now) (cells .now) {j} " + LAST + " {out} {cells}", "head (quoted .now) n lent", "BothReply"),
     "preview": ([("head", "head"), ("quoted", "shr")] + SHARED + RECORDS + [("out", "out")], "Previewed",
                 "head (quoted .now) lent {ws} (out .now) {j} {out}", "head (quoted .now) lent", "Effect"),
     "pair": ([("head", "head"), ("n1", "num"), ("n2", "num")] + SHARED + RECORDS + [("out", "out")], "Paired",
@@ -27,7 +29,7 @@ CALLS = {
     "unpair": ([("head", "head")] + SHARED + RECORDS, "Unpaired", "head lent {ws} {j}", "head lent", "Reply"),
 }
 # The machine values of a result of each type, and that what a call hands back is spelled so.
-SPELLED = {"Reply": ("machines", "spelled"), "Effect": ("effect-machines", "effect-spelled")}
+SPELLED = {"Reply": ("machines", "spelled"), "Effect": ("effect-machines", "effect-spelled"), "BothReply": ("both-machines", "both-spelled")}
 MARK = "-- what is had of each parameter at the end"
 ROWS = "(array-typed T.the-row (LL.lawful T.the-type T′.the-laws 𝓤 H A W .typed) 8 records _ is-records .0)"
 GIVEN = "{M : Type 1} (𝓤 : URA M) (H : Heap 𝓤) (A : Atoms 𝓤)"

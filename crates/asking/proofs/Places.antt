@@ -36,6 +36,7 @@ columnsIn (request (Call.Pair n1 n2)) = 0
 columnsIn (request Call.Unpair) = 0
 columnsIn (request Call.Due) = 0
 columnsIn (request (Call.Preview x)) = length x
+columnsIn (request (Call.Both x n)) = length x
 
 -- what ends the tape
 unfoldable pub ends : Asked → Bool

@@ -60,6 +60,7 @@ inPlace begun (Call.Pair n1 n2) = begun
 inPlace begun Call.Unpair = begun
 inPlace begun Call.Due = begun
 inPlace begun (Call.Preview x) = begun
+inPlace begun (Call.Both x n) = begun
 
 -- what is asked for, in its place
 unfoldable pub placed : Bool → Asked → Asked
@@ -74,7 +75,7 @@ asked begun (told m) columns = placed begun (asks m columns)
 asked begun ended columns = finished
 asked begun (refused k) columns = unread k
 
--- some frame asks for this call: for any but what is due and a preview
+-- some frame asks for this call: for any but what is due, a preview, and a quote and look in one
 unfoldable pub playable : Call → Bool
 playable (Call.Open d N directions) = true
 playable (Call.Quote x) = true
@@ -86,3 +87,4 @@ playable (Call.Pair n1 n2) = true
 playable Call.Unpair = true
 playable Call.Due = false
 playable (Call.Preview x) = false
+playable (Call.Both x n) = false

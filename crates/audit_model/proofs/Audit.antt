@@ -17,10 +17,10 @@ use Rattle.model.specs.Rows.{Row, Tables, rowsIn, filled}
 use Rattle.model.specs.Reference.{Reference, newest, headOf, rowOf, rowsOf}
 use Rattle.model.specs.Book.{bookRows}
 use Rattle.audit_model.specs.Audit.{Small, wrongEnd, auditFinding, Tape, Audited}
-use Rattle.model.proofs.Tables.{length-read, rows-filled}
+use Rattle.model.proofs.Tables.{length-read, read-fit, rows-filled}
 use Rattle.model.proofs.Sound.{Wide, positions-are, row-held, rows-wide, rows-bounded, rows-whole}
 use Rattle.audit_model.proofs.Plays.{holding, opening-plays, opening-took, opening-accepted, accepted-settings, opening-next}
-use Rattle.audit_model.proofs.AuditTables.{read-fit, read-small, clean-filled, filled-clean}
+use Rattle.audit_model.proofs.AuditTables.{read-small, clean-filled, filled-clean}
 use Rattle.audit_model.proofs.Rules.{Passed, yes-iff-passed}
 use Rattle.audit_model.proofs.RightEnds.{are-ends}
 use Rattle.model.proofs.Torn.{Whole, window-bounded, untorn-whole, whole-untorn}

@@ -13,7 +13,6 @@ use Rattle.lists.specs.Lists.{any, flat, run, padded}
 use Rattle.lists.proofs.Booleans.{none-left}
 use Rattle.lists.proofs.Filters.{map-map}
 use Rattle.lists.proofs.Members.{of-map}
-use Rattle.lists.proofs.Runs.{length-run, of-run}
 use Rattle.model.specs.Rows.{Row, Tables, rowAt, rowsIn, filled}
 use Rattle.audit_model.specs.Audit.{Small, zeroFrom}
 use Rattle.model.proofs.Tables.{Fit, cells-counted}
@@ -72,16 +71,6 @@ columns-read l d a zero = rw zero-mul
 columns-read l d a (suc k) =
     let e : suc k * d ≡ d + k * d = rw suc-mul (add-comm (k * d) d) in
     rw (columns-read l d (suc a) k, e, take-add, drop-drop, suc-mul)
-
--- rows that are read have d columns
-pub read-fit : (d N k : ℕ) (t : Tables) → k ≤ N → N * d ≤ length (t .columns) → Fit d (rowsIn d k t)
-unfolding rowsIn rowAt
-read-fit d N k t h room r m =
-    let p = of-map (rowAt d t) r (run 0 k) m in
-    let i = p .0 in
-    let b = of-run 0 k i (p .1) in
-    let fits : suc i * d ≤ N * d = mul-le-mul-right d (omega arith) in
-    rw (p .2) (length-take-le d (drop (i * d) (t .columns)) (simp length-drop (omega (arith, fits, suc-mul i d))))
 
 small-take : (n : ℕ) (l : List ℕ) → Small l → Small (take n l)
 small-take zero l small i = zero-le

@@ -9,6 +9,7 @@ use lending::open_lent;
 pub use looking::look;
 pub use looking::past;
 use replies::Reply;
+pub use shared_records::both;
 pub use shared_records::pair;
 pub use shared_records::preview;
 pub use shared_records::quote;

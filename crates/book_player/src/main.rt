@@ -45,6 +45,7 @@ fn main() {
             &mut lower,
             &mut upper,
             &mut out,
+            &mut list,
         );
         state = set(state, line, &columns, &positions, &lower, &upper, &mut out);
         state = read(state, line, &columns, &positions, &lower, &upper, &mut list);

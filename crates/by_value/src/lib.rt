@@ -1,8 +1,9 @@
 // The calls of a book that change no record, for callers that hold plain values: the eight records go in by value.
-ghost use Rattle.model.specs.Promises.{tables, Quoted, Previewed, Paired, Unpaired};
+ghost use Rattle.model.specs.Promises.{tables, Quoted, QuotedLooked, Previewed, Paired, Unpaired};
 ghost use Rattle.watch_records.specs.Records.{watched};
 use head::Head;
 use head::Watch;
+use replies::BothReply;
 use replies::Effect;
 use replies::Reply;
 
@@ -33,6 +34,40 @@ pub fn quote(
         upper_ends,
         &held,
         out,
+    )
+}
+
+// Takes a quote and looks at the list of n behind it, in one.
+pub fn both(
+    head: Head,
+    quoted: &[u32],
+    n: u32,
+    columns: &mut [u32],
+    positions: &mut [u32],
+    lower_ends: &mut [u32],
+    upper_ends: &mut [u32],
+    records: [Watch; 8],
+    out: &mut [u8],
+    cells: &mut [u32],
+) -> BothReply
+    ensures { λ r. ⌜ QuotedLooked head (now (quoted .entry)) n
+        (tables (now (columns .entry)) (now (positions .entry)) (now («lower_ends» .entry)) (now («upper_ends» .entry)))
+        (watched records) (now (out .entry)) (now (cells .entry)) r
+        (tables (now (columns .exit)) (now (positions .exit)) (now («lower_ends» .exit)) (now («upper_ends» .exit)))
+        (now (out .exit)) (now (cells .exit)) ⌝ }
+{
+    let held = records;
+    shared_records::both(
+        head,
+        quoted,
+        n,
+        columns,
+        positions,
+        lower_ends,
+        upper_ends,
+        &held,
+        out,
+        cells,
     )
 }
 

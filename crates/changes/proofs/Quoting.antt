@@ -90,7 +90,7 @@ module _ (h : Head) (t : Tables) (x : List ℕ) (lower : ℕ) (whole : Whole h (
       go (inr p) = p .1
 
   -- a row is on the list of a window up to the newest if it is live and the start stabs it
-  on-list : (a i : ℕ) → i < h .held → covers a M (getD (t .lowerEnds) i 0) (getD (t .positions) i 0) (getD (t .upperEnds) i 0) ≡ live (t .upperEnds) i && stabbed a (getD (t .lowerEnds) i 0) (first + i)
+  pub on-list : (a i : ℕ) → i < h .held → covers a M (getD (t .lowerEnds) i 0) (getD (t .positions) i 0) (getD (t .upperEnds) i 0) ≡ live (t .upperEnds) i && stabbed a (getD (t .lowerEnds) i 0) (first + i)
   unfolding live
   on-list a i l =
       rw (places .at i l)
@@ -125,7 +125,7 @@ module _ (h : Head) (t : Tables) (x : List ℕ) (lower : ℕ) (whole : Whole h (
         go false k o = refl
 
     -- the list after the quote
-    after-is : listed (w .after) (M + 1) (rowsAfter d (h .directions) (h .capacity) M x rs) ≡ picked is first (h .held) ++ keep (ltb lower (w .after)) (first + h .held) []
+    pub after-is : listed (w .after) (M + 1) (rowsAfter d (h .directions) (h .capacity) M x rs) ≡ picked is first (h .held) ++ keep (ltb lower (w .after)) (first + h .held) []
     unfolding shiftOf windowStart expiring bookRows rowAt
     after-is =
         list-after d (h .directions) (h .capacity) M x rs placed (whole .upper-ends) (w .after) (omega arith) (omega arith)

@@ -1,13 +1,14 @@
 -- When a row that is due comes onto the past list of the pair (000, theorem 4.1): with further quotes, and over a list of calls; and that the
 -- quotes for it are accepted if the tape has space for them.
 use mathlib.Core.Path.{_≡_, refl, sym, ap, _∙_}
+use mathlib.Core.Logic.{_⊎_, inl, inr}
 use Prim.Native.Nat.{ℕ, zero, suc, _+_, _≤_, _<_}
 use native.Mathlib.Omega.{arith}
 use mathlib.Core.Bool.{Bool, true, false, _&&_, _||_, not, cond}
 use mathlib.Core.List.{List, [], _∷_, _++_, map, List·Memᴰ, List·Memᴰ·not-nil, append-nil, append-assoc}
 use lib.Dec.{ltb, leb, eqb}
 use lib.ListN.{length, take, length-append}
-use borrow.Author.Tests.{ltb-true, leb-true, ne-eqb, lt-leb, le-ltb}
+use borrow.Author.Tests.{ltb-true, leb-true, ne-eqb, lt-leb, le-leb, le-ltb}
 use Rattle.lists.specs.Lists.{filter, insert, without}
 use Rattle.lists.proofs.Booleans.{clash, and-left, and-right}
 use Rattle.lists.proofs.Members.{of-filter, of-map}
@@ -21,10 +22,12 @@ use Rattle.head.specs.Heads.{lastPosition, tornPair}
 use Rattle.head.specs.Desks.{watchOf}
 use Rattle.model.specs.Rows.{Row, dueRows}
 use Rattle.model.specs.Changes.{changeRoom}
-use Rattle.model.specs.Reference.{Reference, newest, over, pastOf, paired, rowOf, rowsOf, headOf, dueOf, isOpen, withQuote, withQuotes, withWatched, withPairOf, opening, tells, foretells, referenceStep}
-use Rattle.model.specs.Calls.{Call, Open, Quote, Look, Watch, End, Past, Pair, Unpair, Due, Preview, Outputs, Lending, Lent, Seen, Expected, lengthsOf, expectedStep, bookStep, runs, worldFirst, expectedFirst, expectedAtEnd, referenceAtEnd}
-use Rattle.claims.specs.Claims.{isQuote, isOpening, acceptedIn, countIn, wideQuote, fitQuotes, stretch, IsDue, dueAfter}
+use Rattle.model.specs.Reference.{Reference, newest, over, skylineOf, pastOf, paired, rowOf, rowsOf, headOf, dueOf, isOpen, outside, withQuote, withQuotes, withWatched, withPairOf, opening, tells, foretells, tellsBoth, referenceStep}
+use Rattle.model.specs.Calls.{Call, Open, Quote, Look, Watch, End, Past, Pair, Unpair, Due, Preview, Both, Outputs, Lending, Lent, Seen, Expected, lengthsOf, expectedStep, bookStep, runs, worldFirst, expectedFirst, expectedAtEnd, referenceAtEnd}
+use Rattle.claims.specs.Claims.{isQuote, isOpening, acceptedIn, countIn, fits, fitQuotes, stretch, IsDue, dueAfter}
 use Rattle.model.proofs.Quotes.{over-within}
+use Rattle.model.proofs.Short.{skyline-short}
+use Rattle.model.proofs.Both.{Taken, Left, both-told}
 use Rattle.model.proofs.Sound.{row-held}
 use Rattle.model.proofs.Simulation.{Bounded, bounded, watched-pair}
 use Rattle.model.proofs.Replay.{replay, replay-ends}
@@ -149,10 +152,15 @@ unfolding granted
 later-unopened zero s next e = absurd (clash true refl e)
 later-unopened (suc k) s next e = later-same s
 
+-- a quote that is accepted
+later-quote : (s : Reference) (x : List ℕ) → Later s (withQuote s x) 1
+unfolding withQuote
+later-quote s x = record { more = x ∷ []; counted = refl; dimensions = refl; capacity = refl; directions = refl; quotes = refl }
+
 -- a quote, accepted or not
 later-quoted : (a : ℕ) (s : Reference) (x : List ℕ) → Later s (granted a (withQuote s x) s) (cond (eqb a 0) 1 0)
-unfolding granted withQuote
-later-quoted zero s x = record { more = x ∷ []; counted = refl; dimensions = refl; capacity = refl; directions = refl; quotes = refl }
+unfolding granted
+later-quoted zero s x = later-quote s x
 later-quoted (suc k) s x = rw (ne-eqb (suc k) 0 (λ e. omega arith)) (later-same s)
 
 module _ (o : Outputs) (k : Expected) where
@@ -178,6 +186,12 @@ module _ (o : Outputs) (k : Expected) where
   later-step Unpair e = later-granted (answered Unpair) (later-alike s (withPairOf s 0 0) refl refl refl refl)
   later-step Due e = later-granted (answered Due) (later-same s)
   later-step (Preview x) e = later-same s
+  later-step (Both x n) e = go (both-told x n (lengthsOf (k .lent) o) s)
+    where
+      go : Taken x n (lengthsOf (k .lent) o) s ⊎ Left x n (lengthsOf (k .lent) o) s
+          → Later s (referenceStep (Both x n) (lengthsOf (k .lent) o) s .next) (cond (eqb (referenceStep (Both x n) (lengthsOf (k .lent) o) s .number) 0) 1 0)
+      go (inl t) = rw (t .next, t .number) (later-quote s x)
+      go (inr t) = rw (t .next, ne-eqb (referenceStep (Both x n) (lengthsOf (k .lent) o) s .number) 0 (λ z. omega (arith, t .number))) (later-same s)
 
 -- a list of calls
 later-runs : (cs : List Lending) (k : Expected) → acceptedIn isOpening cs (runs expectedStep cs k .0) ≡ 0
@@ -214,11 +228,23 @@ module _ (o : Outputs) (k : Expected) where
   quote-accepted x opened wide room space =
       rw (opened, wide, lt-leb lastPosition (newest (k .reference)) space, le-ltb (length (o .bytes)) changeRoom (leb-true changeRoom (length (o .bytes)) room))
 
+  -- so is one with a look behind it, in one, whose n is from 1 to N, with a cell for each of n positions
+  both-fits : (x : List ℕ) (n : ℕ) → isOpen (k .reference) ≡ true → answered o k (Quote x) ≡ 0 → 1 ≤ n → n ≤ k .reference .capacity
+      → n ≤ length (o .cells) → answered o k (Both x n) ≡ 0
+  unfolding expectedStep referenceStep tells tellsBoth lengthsOf granted firstOf isOpen outside withQuote
+  both-fits x n opened e some most long =
+      rw (
+        e,
+        opened,
+        le-leb 1 n some,
+        le-leb n (k .reference .capacity) most,
+        le-ltb (length (o .cells)) (length (skylineOf (withQuote (k .reference) x) n)) (omega (arith, skyline-short (withQuote (k .reference) x) n some)),
+      )
+
   -- so is a call that is a fit quote
-  fit-accepted : (c : Call) → isOpen (k .reference) ≡ true
-      → not (isQuote c) || wideQuote (k .reference .dimensions) c && leb changeRoom (length (o .bytes)) ≡ true
+  fit-accepted : (c : Call) → isOpen (k .reference) ≡ true → fits (k .reference .dimensions) (k .reference .capacity) c o ≡ true
       → newest (k .reference) + cond (isQuote c) 1 0 ≤ lastPosition → _≡_ {A = ℕ} (cond (isQuote c && eqb (answered o k c) 0) 1 0) (cond (isQuote c) 1 0)
-  unfolding isQuote wideQuote
+  unfolding isQuote fits
   fit-accepted (Open d N directions) opened fit space = refl
   fit-accepted (Quote x) opened fit space =
       let wide = eqb (length x) (k .reference .dimensions) in
@@ -232,23 +258,36 @@ module _ (o : Outputs) (k : Expected) where
   fit-accepted Unpair opened fit space = refl
   fit-accepted Due opened fit space = refl
   fit-accepted (Preview x) opened fit space = refl
+  fit-accepted (Both x n) opened fit space =
+      let wide = eqb (length x) (k .reference .dimensions) in
+      let room = leb changeRoom (length (o .bytes)) in
+      let some = leb 1 n in
+      let most = leb n (k .reference .capacity) in
+      let long = leb n (length (o .cells)) in
+      let quote = and-left (wide && room) ((some && most) && long) fit in
+      let look = and-right (wide && room) ((some && most) && long) fit in
+      let range = and-left (some && most) long look in
+      let taken = quote-accepted x opened (and-left wide room quote) (and-right wide room quote) (omega arith) in
+      rw (both-fits x n opened taken (leb-true 1 n (and-left some most range)) (leb-true n (k .reference .capacity) (and-right some most range))
+      (leb-true n (length (o .cells)) (and-right (some && most) long look)))
 
 -- a list of calls
 all-accepted : (cs : List Lending) (k : Expected) → isOpen (k .reference) ≡ true → acceptedIn isOpening cs (runs expectedStep cs k .0) ≡ 0
-    → fitQuotes (k .reference .dimensions) cs ≡ true → newest (k .reference) + countIn isQuote cs ≤ lastPosition
+    → fitQuotes (k .reference .dimensions) (k .reference .capacity) cs ≡ true → newest (k .reference) + countIn isQuote cs ≤ lastPosition
     → acceptedIn isQuote cs (runs expectedStep cs k .0) ≡ countIn isQuote cs
 unfolding runs acceptedIn fitQuotes countIn
 all-accepted [] k opened closed fit space = refl
 all-accepted (c ∷ cs) k opened closed fit space =
     let d = k .reference .dimensions in
-    let fits = not (isQuote (c .call)) || wideQuote d (c .call) && leb changeRoom (length (c .outputs .bytes)) in
-    let one = fit-accepted (c .outputs) k (c .call) opened (and-left fits (fitQuotes d cs) fit) (omega arith) in
+    let N = k .reference .capacity in
+    let first = fits d N (c .call) (c .outputs) in
+    let one = fit-accepted (c .outputs) k (c .call) opened (and-left first (fitQuotes d N cs) fit) (omega arith) in
     let later = later-step (c .outputs) k (c .call) (unopened (isOpening (c .call) && eqb (answered (c .outputs) k (c .call)) 0) closed) in
     omega (
       arith,
       one,
       all-accepted cs (expectedStep (c .call) (c .outputs) k .1) (later-open later ∙ opened) (omega arith)
-          (rw (later .dimensions) (and-right fits (fitQuotes d cs) fit)) (omega (arith, later-newest later, one)),
+          (rw (later .dimensions, later .capacity) (and-right first (fitQuotes d N cs) fit)) (omega (arith, later-newest later, one)),
     )
   where
     rest : ℕ
@@ -279,7 +318,7 @@ module _ (cs : List Lending) (l : Lent) (i j : ℕ) (h : i ≤ j) where
 
   module _ (closed : acceptedIn isOpening (stretch i j cs) (stretch i j ss) ≡ 0) where
     -- the quotes of a stretch are accepted if the tape has space for them
-    pub due-space : isOpen from ≡ true → fitQuotes (from .dimensions) (stretch i j cs) ≡ true → newest from + countIn isQuote (stretch i j cs) ≤ lastPosition
+    pub due-space : isOpen from ≡ true → fitQuotes (from .dimensions) (from .capacity) (stretch i j cs) ≡ true → newest from + countIn isQuote (stretch i j cs) ≤ lastPosition
         → acceptedIn isQuote (stretch i j cs) (stretch i j ss) ≡ countIn isQuote (stretch i j cs)
     due-space opened fit space =
         rw (replay cs l, stretch-seen expectedStep i j h cs (expectedFirst l))

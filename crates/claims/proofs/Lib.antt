@@ -5,6 +5,7 @@ pub mod Stretches
 pub mod Due
 pub mod Refining
 pub mod Previews
+pub mod InOne
 pub mod Shares
 pub mod Untorn
 pub mod UntornDue

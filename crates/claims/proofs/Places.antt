@@ -17,9 +17,9 @@ use Rattle.head.specs.Heads.{settingsHold}
 use Rattle.refusals.proofs.Numbers.{zero-passed}
 use Rattle.model.specs.Rows.{Row, Tables, filled}
 use Rattle.claims.specs.Places.{SameFront, SamePlaces}
-use Rattle.model.specs.Reference.{Reference, unopened, Lengths, rowsOf, headOf, isOpen, withQuote, withWatched, withPairOf, opening, tooShort, tells, foretells, referenceStep}
+use Rattle.model.specs.Reference.{Reference, unopened, Lengths, rowsOf, headOf, isOpen, withQuote, withWatched, withPairOf, opening, tooShort, tells, foretells, tellsBoth, referenceStep}
 use Rattle.model.specs.Book.{shortTables, shortLoan}
-use Rattle.model.specs.Calls.{Call, Open, Quote, Look, Watch, End, Past, Pair, Unpair, Due, Preview, Outputs, Lending, Lent, World, bookStep, lengthsOf, shown, Expected, expectedStep, runs, worldFirst, expectedFirst, Reached}
+use Rattle.model.specs.Calls.{Call, Open, Quote, Look, Watch, End, Past, Pair, Unpair, Due, Preview, Both, Outputs, Lending, Lent, World, bookStep, lengthsOf, shown, Expected, expectedStep, runs, worldFirst, expectedFirst, Reached}
 use Rattle.model.specs.Promises.{world}
 use Rattle.claims.specs.Claims.{isOpening}
 use Rattle.model.proofs.Tables.{Fit, cells-counted, filled-again, filled-long}
@@ -46,6 +46,7 @@ lengths-unread (Pair n1 n2) i n n' e f s = rw e
 lengths-unread Unpair i n n' e f s = refl
 lengths-unread Due i n n' e f s = rw f
 lengths-unread (Preview x) i n n' e f s = rw e
+lengths-unread (Both x k) i n n' e f s = rw (e, f)
 
 -- so it tells the same whatever tables and records are lent
 lent-unread : (c : Call) → isOpening c ≡ false → (l l' : Lent) (o : Outputs) (s : Reference) → referenceStep c (lengthsOf l o) s ≡ referenceStep c (lengthsOf l' o) s
@@ -61,7 +62,7 @@ same s = (refl, refl, refl)
 
 -- no call but an opening changes the settings
 settings-kept : (c : Call) → isOpening c ≡ false → (n : Lengths) (s : Reference) → SameSettings s (referenceStep c n s .next)
-unfolding referenceStep tells foretells isOpening withQuote withWatched withPairOf
+unfolding referenceStep tells foretells tellsBoth isOpening withQuote withWatched withPairOf
 settings-kept (Open d N directions) i n s = absurd (clash true refl i)
 settings-kept (Quote x) i n s = either-way (SameSettings s) _ (withQuote s x) s (λ _. same s) (same s)
 settings-kept (Look k) i n s = either-way (SameSettings s) _ s s (λ _. same s) (same s)
@@ -72,6 +73,7 @@ settings-kept (Pair n1 n2) i n s = either-way (SameSettings s) _ (withPairOf s n
 settings-kept Unpair i n s = either-way (SameSettings s) _ (withPairOf s 0 0) s (λ _. same s) (same s)
 settings-kept Due i n s = either-way (SameSettings s) _ s s (λ _. same s) (same s)
 settings-kept (Preview x) i n s = same s
+settings-kept (Both x k) i n s = either-way (SameSettings s) _ _ s (λ _. either-way (SameSettings s) _ (withQuote s x) s (λ _. same s) (same s)) (same s)
 
 -- so it leaves them taken, or not
 pub opened-kept : (c : Call) → isOpening c ≡ false → (n : Lengths) (s : Reference) → isOpen (referenceStep c n s .next) ≡ isOpen s
@@ -242,6 +244,7 @@ module _ (o : Outputs) (k : Expected) (since : Since k) (shows : Shows (k .refer
   step-shows Unpair = other-shows Unpair refl
   step-shows Due = other-shows Due refl
   step-shows (Preview x) = other-shows (Preview x) refl
+  step-shows (Both x n) = other-shows (Both x n) refl
 
 -- a list of calls
 runs-show : (cs : List Lending) (k : Expected) → Since k → Shows (k .reference) → Shows (runs expectedStep cs k .1 .reference)

@@ -10,9 +10,9 @@ use Rattle.refusals.specs.Refusals.{number, firstOf}
 use Rattle.replies.specs.Replies.{yes, refused}
 use Rattle.head.specs.Heads.{freshHead, settingsHold}
 use Rattle.model.specs.Reference.{unopened, headOf, isOpen}
-use Rattle.model.specs.Calls.{Call, Quote, Preview, Outputs, Lending, Lent, Seen, Expected, World, bookSeen, worldAfter, bookStep, runs, worldFirst, expectedAtEnd, worldAtEnd, referenceAtEnd}
+use Rattle.model.specs.Calls.{Call, Quote, Look, Preview, Both, Outputs, Lending, Lent, Seen, Expected, World, bookSeen, worldAfter, bookStep, runs, worldFirst, expectedAtEnd, worldAtEnd, referenceAtEnd}
 use Rattle.watcher.specs.Watcher.{Follower, OfSize, OfPair, Nothing, watcher, heldBy}
-use Rattle.claims.specs.Claims.{Made, opened, quoted, looked, watched, ended, pastLooked, paired, unpaired, dueLooked, previewed, AllMade, none, next, lastHead, lastLent, AsQuoted, Refines}
+use Rattle.claims.specs.Claims.{Made, opened, quoted, looked, watched, ended, pastLooked, paired, unpaired, dueLooked, previewed, both, AllMade, none, next, lastHead, lastLent, AsQuoted, InOne, Refines}
 use Rattle.audit_model.specs.Audit.{findingOf, auditFinding}
 use Rattle.model.proofs.Simulation.{Simulation, referenceWith, bookWith, simulation, simulation-by, shown-same}
 use Rattle.model.proofs.Replay.{replay, replay-ends}
@@ -21,6 +21,7 @@ use Rattle.watcher.proofs.Watcher.{watcher-holds}
 use Rattle.claims.proofs.Stretches.{first-seen}
 use Rattle.claims.proofs.Due.{due-row-joins, due-row-not-before, due-space}
 use Rattle.claims.proofs.Previews.{preview-is-quote}
+use Rattle.claims.proofs.InOne.{both-in-one}
 use Rattle.audit_model.proofs.Passing.{simulation-passes}
 
 -- what is seen of a call that met its promise is what the book model says
@@ -36,6 +37,7 @@ made-seen (paired m) = rw (m .reply, m .out)
 made-seen (unpaired m) = rw (m .reply)
 made-seen (dueLooked m) = rw (m .reply, m .out)
 made-seen (previewed m) = rw (m .reply, m .counts, m .out)
+made-seen (both m) = rw (m .reply, m .listed, m .lent, m .out, m .positions)
 
 -- so is what is seen of a list of calls, and the book at its end
 pub all-made : {cs : List Lending} {w : World} {ss : List Seen} {end : World} → AllMade cs w ss end
@@ -68,6 +70,12 @@ lent-seen (c ∷ cs) w = lent-seen cs (bookStep (c .call) (c .outputs) w .1)
 as-quoted : (x : List ℕ) (o : Outputs) (w : World) (quote preview : Seen) → Made (Quote x) o w quote → Made (Preview x) o w preview → AsQuoted quote preview
 unfolding bookStep
 as-quoted x o w quote preview q p = rw (made-seen q, made-seen p) (preview-is-quote x o w)
+
+-- a quote and look in one that was made on a book shows what the quote, and the look on the book after it, show
+as-in-one : (x : List ℕ) (n : ℕ) (o : Outputs) (w : World) (quote look two : Seen) → Made (Quote x) o w quote → Made (Look n) o (worldAfter (Quote x) quote w) look
+    → Made (Both x n) o w two → InOne o w quote look two
+unfolding bookStep
+as-in-one x n o w quote look two q k b = rw (made-seen q, made-seen b, rw (made-seen q) at (made-seen k)) (both-in-one x n o w)
 
 -- the audit of a book before any opening, and of one that simulates the reference model
 unopened-audited : (l : Lent) → auditFinding (headOf unopened) (l .tables) ≡ cond (isOpen unopened) yes (refused (number Settings))
@@ -104,6 +112,7 @@ calls-refine cs l ss end m =
       due-not-before = λ i j p due h closed. due-row-not-before cs l i j h closed p;
       due-space = λ i j h opened closed. due-space cs l i j h closed opened;
       preview-is-quote = λ x o quote preview q p. as-quoted x o (runs bookStep cs (worldFirst l) .1) quote preview q p;
+      both-in-one = λ x n o quote look two q k b. as-in-one x n o (runs bookStep cs (worldFirst l) .1) quote look two q k b;
       audit-says = audits;
     }
   where

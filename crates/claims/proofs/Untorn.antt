@@ -2,18 +2,18 @@
 -- held row is alone on the past list at its own place.
 use mathlib.Core.Path.{_≡_, refl, sym, ap, subst, _∙_}
 use mathlib.Core.Logic.{_⊎_, inl, inr}
-use Prim.Native.Nat.{ℕ, suc, _+_, _-_, _*_, _≤_, _<_}
+use Prim.Native.Nat.{ℕ, suc, _+_, _-_, _≤_, _<_}
 use native.Mathlib.Nat.{le-refl}
 use native.Mathlib.Omega.{arith}
 use mathlib.Core.Bool.{Bool, true, false, _&&_, _||_, not, cond}
-use mathlib.Core.List.{List, [], _∷_, map, List·Memᴰ, List·Memᴰ·eq-of-singleton, List·Memᴰ·append-cases, Memᴰ·append-left}
+use mathlib.Core.List.{List, [], _∷_, map, List·Memᴰ, Memᴰ·append-left}
 use lib.Dec.{ltb, leb, eqb}
-use lib.ListN.{length, length-map}
-use borrow.Author.Tests.{ltb-true, ltb-false, leb-true, leb-false, eqb-true, eqb-false, not-false, lt-ltb, le-ltb, le-leb, eq-eqb, ne-eqb}
+use lib.ListN.{length}
+use borrow.Author.Tests.{ltb-true, leb-true, eqb-true, eqb-false, not-false, lt-ltb, le-ltb, le-leb, eq-eqb, ne-eqb}
 use Rattle.lists.specs.Lists.{filter, any, between, contains, rising, padded}
 use Rattle.lists.proofs.Booleans.{and-left, and-right, and-false, none-left, none-right}
 use Rattle.lists.proofs.Filters.{filter-map}
-use Rattle.lists.proofs.Members.{mem-none, into-filter, of-filter, filter-same-mem, into-map, of-map, mem-contains, contains-filter}
+use Rattle.lists.proofs.Members.{mem-none, into-filter, filter-same-mem, into-map, mem-contains, contains-filter}
 use Rattle.lists.proofs.Rising.{cons-rising, rising-between, rising-filter, rising-bounds, rising-ext}
 use Rattle.lists.proofs.Writing.{length-padded}
 use Rattle.skyline.specs.Skyline.{windowStart}
@@ -23,18 +23,17 @@ use Rattle.refusals.proofs.Numbers.{zero-passed}
 use Rattle.head.specs.declared.Head.{Head}
 use Rattle.head.specs.Heads.{lastPosition, settingsHold, afterQuote, tornPair}
 use Rattle.head.proofs.Settings.{settings-within}
-use Rattle.model.specs.Rows.{Row, Tables, filled, liveRows, listed, expiring, renamed, lowerEndAmong, rowAfter, rowsAfter}
-use Rattle.model.specs.Book.{shortTables, shortLoan, tornRows, tornWatches, bookRows, pastListOf, watchfulAnswer, replyOf, quoteRows, quoteHead, quoteAnswer, quoteReply, quoteTables, pastCells}
+use Rattle.model.specs.Rows.{Row, Tables, filled, listed, expiring, renamed, rowAfter, rowsAfter}
+use Rattle.model.specs.Book.{shortLoan, tornRows, tornWatches, bookRows, pastListOf, watchfulAnswer, replyOf, quoteRows, quoteHead, quoteAnswer, quoteReply, quoteTables, pastCells}
 use Rattle.model.specs.Calls.{Quote, Outputs, World, bookSeen, headAfter, worldAfter, bookStep, positionsIn}
 use Rattle.model.specs.Promises.{world}
 use Rattle.claims.specs.Untorn.{Untorn, AloneInBook}
-use Rattle.model.proofs.Tables.{Fit, rows-filled, filled-long, length-read}
+use Rattle.model.proofs.Tables.{length-read}
 use Rattle.model.proofs.Records.{Records, eight-records}
 use Rattle.model.proofs.Sound.{watches-sound}
-use Rattle.model.proofs.Torn.{Whole, lowerAstray, upperAstray, upper-place, window-bounded, untorn-whole, whole-untorn}
-use Rattle.model.proofs.QuoteUntorn.{whole-after, pair-untorn}
+use Rattle.model.proofs.Torn.{Whole, lowerAstray, upperAstray, upper-place, untorn-whole, whole-untorn}
+use Rattle.model.proofs.LookAfter.{passed, whole-next, tables-after, long-after, rows-read, pair-after}
 use Rattle.model.proofs.Simulation.{long-tables, long-records}
-use Rattle.audit_model.proofs.AuditTables.{read-fit}
 
 -- a call on a book that is not torn is answered by what it adds
 pub judged-untorn : {w : World} → Untorn w → (more : List (Bool × ℕ)) → watchfulAnswer (w .head) (w .lent .tables) (w .lent .watches) more ≡ firstOf more
@@ -264,12 +263,6 @@ module _ (w : World) (u : Untorn w) where
     abbrev next : World
     next = bookStep (Quote x) o w .1
 
-    quote-passed : (eqb (length x) d ≡ true) × (M < lastPosition)
-    unfolding quoteAnswer
-    quote-passed =
-        let a = zero-passed _ _ _ (sym (judged-untorn u _) ∙ accepted) in
-        (not-false (eqb (length x) d) (a .0), leb-false lastPosition M (zero-passed _ _ _ (a .1) .0))
-
     pub next-is : next ≡ world (quoteHead h x t ws) (filled d N after t) ws
     unfolding bookSeen headAfter worldAfter bookStep quoteReply replyOf quoteTables granted
     next-is = rw accepted
@@ -278,64 +271,12 @@ module _ (w : World) (u : Untorn w) where
     pub head-after : (quoteHead h x t ws .newest ≡ M + 1) × (quoteHead h x t ws .held ≡ length after) × SameSettings h (quoteHead h x t ws)
     unfolding quoteHead afterQuote
     head-after =
-        rw (lt-ltb M lastPosition (quote-passed .1))
+        rw (lt-ltb M lastPosition (passed h x t ws _ accepted .5))
         (refl, refl, record { dimensions = refl; capacity = refl; directions = refl; n1 = refl; n2 = refl })
 
     -- the rows are read back
-    whole-next : Whole (quoteHead h x t ws) after
-    unfolding quoteHead quoteRows
-    whole-next = whole-after h x rs some-capacity (quote-passed .1) whole
-
-    after-bounded : length after ≤ N
-    after-bounded =
-        let e = head-after .2 .capacity in
-        omega (
-          arith,
-          length-map after Row.position,
-          ap length (whole-next .window),
-          e,
-          window-bounded (quoteHead h x t ws .capacity) (rw e some-capacity) (quoteHead h x t ws .newest),
-        )
-
-    fit-before : Fit d rs
-    unfolding bookRows shortTables
-    fit-before =
-        read-fit d N (h .held) t (omega (arith, rows-counted, length-map rs Row.position, ap length (whole .window), window-bounded N some-capacity M))
-        (ltb-false (length (t .columns)) (N * d)
-        (none-left (ltb (length (t .columns)) (N * d)) (ltb (length (t .positions)) N)
-        (none-left (ltb (length (t .columns)) (N * d) || ltb (length (t .positions)) N) (ltb (length (t .lowerEnds)) N)
-        (none-left (ltb (length (t .columns)) (N * d) || ltb (length (t .positions)) N || ltb (length (t .lowerEnds)) N) (ltb (length (t .upperEnds)) N)
-        (long-tables t ws d N (u .long))))))
-
-    fit-after : Fit d after
-    unfolding quoteRows rowsAfter rowAfter
-    fit-after r m = go (List·Memᴰ·append-cases (map moved left) m)
-      where
-        g : ℕ
-        g = expiring M N
-
-        left : List Row
-        left = filter (λ q. not (eqb (q .position) g)) rs
-
-        moved : Row → Row
-        moved = rowAfter d (h .directions) x (M + 1) g
-
-        new : Row
-        new = record { position = M + 1; lowerEnd = lowerEndAmong d (h .directions) x left; upperEnd = 0; columns = x }
-
-        go : List·Memᴰ r (map moved left) ⊎ List·Memᴰ r (new ∷ []) → length (r .columns) ≡ d
-        go (inl n) =
-            let q = of-map moved r left n in
-            rw (q .2) (fit-before (q .0) (of-filter (λ q. not (eqb (q .position) g)) (q .0) rs (q .1) .0))
-        go (inr n) = rw (List·Memᴰ·eq-of-singleton n) (eqb-true (length x) d (quote-passed .0))
-
     rows-after : bookRows (next .head) (next .lent .tables) ≡ after
-    unfolding bookRows
-    rows-after = rw (next-is, head-after .1, head-after .2 .dimensions) (rows-filled d N after t after-bounded fit-after)
-
-    pair-after : tornPair (quoteHead h x t ws) ≡ false
-    unfolding quoteHead
-    pair-after = pair-untorn h (length (liveRows after)) (length after) ∙ u .pair
+    rows-after = rw (next-is, ← tables-after h x t ws _ accepted) (rows-read h x t ws _ accepted)
 
     -- a quote on a book that is not torn leaves one that is not
     pub untorn-after : Untorn next
@@ -344,9 +285,9 @@ module _ (w : World) (u : Untorn w) where
         let s = head-after .2 in
         rw next-is record {
           settings = rw (s .dimensions, s .capacity, s .directions) (u .settings);
-          long = rw (s .dimensions, s .capacity, filled-long d N after t after-bounded fit-after (long-tables t ws d N (u .long)) d N) (u .long);
-          rows = rw (rw next-is at rows-after) (whole-untorn (quoteHead h x t ws) after (head-after .1) (rw (s .capacity) some-capacity) whole-next);
-          pair = pair-after;
+          long = rw (s .dimensions, s .capacity, long-after h x t ws _ accepted) (u .long);
+          rows = rw (rw next-is at rows-after) (whole-untorn (quoteHead h x t ws) after (head-after .1) (rw (s .capacity) some-capacity) (whole-next h x t ws _ accepted));
+          pair = pair-after h x t ws _ accepted;
           watches = rw (s .capacity) (u .watches);
         }
 

@@ -10,15 +10,16 @@ use Rattle.head.specs.declared.Head.{Head}
 use Rattle.head.specs.declared.Desk.{Desk}
 use Rattle.replies.specs.declared.Reply.{Reply}
 use Rattle.replies.specs.declared.Effect.{Effect}
+use Rattle.replies.specs.declared.BothReply.{BothReply}
 use Rattle.head.specs.Heads.{freshHead, lastPosition}
 use Rattle.refusals.specs.declared.Refusal.the-variants.{Settings}
-use Rattle.refusals.specs.Refusals.{number}
+use Rattle.refusals.specs.Refusals.{number, granted}
 use Rattle.replies.specs.Replies.{outcome, yes, refused}
 use Rattle.model.specs.Rows.{Row, Tables, joinsAfter}
 use Rattle.model.specs.Changes.{changeRoom}
 use Rattle.model.specs.Reference.{Reference, newest, skylineOf, pastOf, dueOf, headOf, isOpen, withQuotes}
-use Rattle.model.specs.Calls.{Call, Open, Quote, Look, Watch, End, Past, Pair, Unpair, Due, Preview, Outputs, Lending, Lent, Seen, World, headAfter, worldAfter, shown, expectedStep, runs, expectedFirst, expectedAtEnd, referenceAtEnd, positionsIn, livePositionsIn}
-use Rattle.model.specs.Promises.{world, Opened, Quoted, Looked, PastLooked, Watched, Ended, Paired, Unpaired, DueLooked, Previewed}
+use Rattle.model.specs.Calls.{Call, Open, Quote, Look, Watch, End, Past, Pair, Unpair, Due, Preview, Both, Outputs, Lending, Lent, Seen, World, headAfter, worldAfter, shown, expectedStep, runs, expectedFirst, expectedAtEnd, referenceAtEnd, positionsIn, livePositionsIn}
+use Rattle.model.specs.Promises.{world, Opened, Quoted, Looked, PastLooked, Watched, Ended, Paired, Unpaired, DueLooked, Previewed, QuotedLooked}
 use Rattle.watcher.specs.Watcher.{Nothing, OfSize, OfPair, watcher, heldBy}
 use Rattle.audit_model.specs.Audit.{auditFinding}
 
@@ -30,6 +31,11 @@ seen r o t ws = record { outcome = outcome r; counts = []; outputs = o; lent = r
 abbrev pub foreseen : Effect → Outputs → Tables → List ℕ → Seen
 foreseen e o t ws =
     record { outcome = outcome (e .reply); counts = e .live ∷ e .held ∷ []; outputs = o; lent = record { tables = t; watches = ws } }
+
+-- what is seen of a quote and look in one that left this reply, these outputs and these tables
+abbrev pub bothSeen : BothReply → Outputs → Tables → List ℕ → Seen
+bothSeen r o t ws =
+    record { outcome = outcome (r .reply); counts = r .listed ∷ []; outputs = o; lent = record { tables = t; watches = ws } }
 
 -- a call was made on a book, met its promise, and left this to be seen
 pub data Made : Call → Outputs → World → Seen → Type 0 where
@@ -52,6 +58,8 @@ pub data Made : Call → Outputs → World → Seen → Type 0 where
       → DueLooked h t (o .cells) r cells → Made Due o (world h t ws) (seen r (record { bytes = o .bytes; cells = cells }) t ws)
   previewed : {x : List ℕ} {o : Outputs} {h : Head} {t : Tables} {ws : List ℕ} {e : Effect} {bytes : List ℕ}
       → Previewed h x t ws (o .bytes) e bytes → Made (Preview x) o (world h t ws) (foreseen e (record { bytes = bytes; cells = o .cells }) t ws)
+  both : {x : List ℕ} {n : ℕ} {o : Outputs} {h : Head} {t : Tables} {ws : List ℕ} {r : BothReply} {t' : Tables} {bytes cells : List ℕ}
+      → QuotedLooked h x n t ws (o .bytes) (o .cells) r t' bytes cells → Made (Both x n) o (world h t ws) (bothSeen r (record { bytes = bytes; cells = cells }) t' ws)
 
 -- a list of calls was made on a book, each on what the one before left (it gets the head handed back, unless by a refused opening), and
 -- left this to be seen after each, and this book at the end
@@ -79,7 +87,30 @@ pub record AsQuoted (quote preview : Seen) : Type 0 where
   pub bytes : preview .outputs .bytes ≡ quote .outputs .bytes
   pub counts : preview .counts ≡ quote .outcome .head .live ∷ quote .outcome .head .held ∷ []
 
--- the call is a quote
+-- a quote and look in one is accepted: it shows the quote's outcome, bytes and tables, the look's positions, and both counts
+pub record BothTaken (quote look both : Seen) : Type 0 where
+  pub outcome : both .outcome ≡ quote .outcome
+  pub counts : both .counts ≡ look .outcome .count ∷ []
+  pub bytes : both .outputs .bytes ≡ quote .outputs .bytes
+  pub cells : both .outputs .cells ≡ look .outputs .cells
+  pub lent : both .lent ≡ quote .lent
+
+-- a quote and look in one is refused: it hands back the head as it came and 0 for both counts, and leaves everything lent as it was
+pub record BothLeft (o : Outputs) (w : World) (both : Seen) : Type 0 where
+  pub head : both .outcome .head ≡ w .head
+  pub count : both .outcome .count ≡ 0
+  pub counts : both .counts ≡ 0 ∷ []
+  pub outputs : both .outputs ≡ o
+  pub lent : both .lent ≡ w .lent
+
+-- what is seen of a quote and look in one, by what is seen of the quote on the same book, and of the look on the book after that: it is refused
+-- as the quote, then as the look, and if either is refused neither happens (02, 8/13)
+pub record InOne (o : Outputs) (w : World) (quote look both : Seen) : Type 0 where
+  pub number : both .outcome .number ≡ granted (quote .outcome .number) (look .outcome .number) (quote .outcome .number)
+  pub both-accepted : both .outcome .number ≡ 0 → BothTaken quote look both
+  pub both-refused : 1 ≤ both .outcome .number → BothLeft o w both
+
+-- the call is a quote, by itself or with a look behind it, in one
 unfoldable pub isQuote : Call → Bool
 isQuote (Open d N directions) = false
 isQuote (Quote x) = true
@@ -91,6 +122,7 @@ isQuote (Pair n1 n2) = false
 isQuote Unpair = false
 isQuote Due = false
 isQuote (Preview x) = false
+isQuote (Both x n) = true
 
 -- the call is an opening
 unfoldable pub isOpening : Call → Bool
@@ -104,6 +136,7 @@ isOpening (Pair n1 n2) = false
 isOpening Unpair = false
 isOpening Due = false
 isOpening (Preview x) = false
+isOpening (Both x n) = false
 
 -- how many calls of this sort were accepted, of calls of which this was seen
 unfoldable pub acceptedIn : (Call → Bool) → List Lending → List Seen → ℕ
@@ -116,23 +149,25 @@ unfoldable pub countIn : (Call → Bool) → List Lending → ℕ
 countIn sort [] = 0
 countIn sort (c ∷ cs) = cond (sort (c .call)) 1 0 + countIn sort cs
 
--- a call that is a quote has d columns
-unfoldable pub wideQuote : ℕ → Call → Bool
-wideQuote d (Open d' N directions) = true
-wideQuote d (Quote x) = eqb (length x) d
-wideQuote d (Look n) = true
-wideQuote d (Watch desk n) = true
-wideQuote d (End desk n) = true
-wideQuote d (Past n1 n2) = true
-wideQuote d (Pair n1 n2) = true
-wideQuote d Unpair = true
-wideQuote d Due = true
-wideQuote d (Preview x) = true
+-- a call that is a quote has d columns and an output that always suffices; with a look behind it, in one, also an n from 1 to N, and a cell for
+-- each of n positions
+unfoldable pub fits : ℕ → ℕ → Call → Outputs → Bool
+fits d N (Open d' N' directions) o = true
+fits d N (Quote x) o = eqb (length x) d && leb changeRoom (length (o .bytes))
+fits d N (Look n) o = true
+fits d N (Watch desk n) o = true
+fits d N (End desk n) o = true
+fits d N (Past n1 n2) o = true
+fits d N (Pair n1 n2) o = true
+fits d N Unpair o = true
+fits d N Due o = true
+fits d N (Preview x) o = true
+fits d N (Both x n) o = (eqb (length x) d && leb changeRoom (length (o .bytes))) && ((leb 1 n && leb n N) && leb n (length (o .cells)))
 
--- every quote of a list has d columns, and an output that always suffices
-unfoldable pub fitQuotes : ℕ → List Lending → Bool
-fitQuotes d [] = true
-fitQuotes d (c ∷ cs) = (not (isQuote (c .call)) || wideQuote d (c .call) && leb changeRoom (length (c .outputs .bytes))) && fitQuotes d cs
+-- every quote of a list fits
+unfoldable pub fitQuotes : ℕ → ℕ → List Lending → Bool
+fitQuotes d N [] = true
+fitQuotes d N (c ∷ cs) = fits d N (c .call) (c .outputs) && fitQuotes d N cs
 
 -- those behind the first i, of the first j
 abbrev pub stretch : {A : Type 0} → ℕ → ℕ → List A → List A
@@ -191,15 +226,18 @@ pub record Refines (cs : List Lending) (l : Lent) (ss : List Seen) (end : World)
       → acceptedIn isOpening (stretch i j cs) (stretch i j ss) ≡ 0
       → acceptedIn isQuote (stretch i j cs) (stretch i j ss) < dueAfter (referenceAtEnd (take i cs) l) p
       → List·Memᴰ p (pastOf (referenceAtEnd (take j cs) l) (referenceAtEnd (take i cs) l .n1) (referenceAtEnd (take i cs) l .n2)) → ⊥
-  -- if the tape has space for them the quotes of a stretch are accepted, each with d columns and an output that always suffices, once an
+  -- if the tape has space for them the quotes of a stretch are accepted, each with d columns and outputs that always suffice, once an
   -- opening was accepted and while no other one is
   pub due-space : (i j : ℕ) → i ≤ j → isOpen (referenceAtEnd (take i cs) l) ≡ true
-      → acceptedIn isOpening (stretch i j cs) (stretch i j ss) ≡ 0 → fitQuotes (referenceAtEnd (take i cs) l .dimensions) (stretch i j cs) ≡ true
+      → acceptedIn isOpening (stretch i j cs) (stretch i j ss) ≡ 0 → fitQuotes (referenceAtEnd (take i cs) l .dimensions) (referenceAtEnd (take i cs) l .capacity) (stretch i j cs) ≡ true
       → newest (referenceAtEnd (take i cs) l) + countIn isQuote (stretch i j cs) ≤ lastPosition
       → acceptedIn isQuote (stretch i j cs) (stretch i j ss) ≡ countIn isQuote (stretch i j cs)
   -- a preview and a quote of the same columns that are made on the book at the end, each with the same outputs, show the same
   pub preview-is-quote : (x : List ℕ) (o : Outputs) (quote preview : Seen) → Made (Quote x) o end quote → Made (Preview x) o end preview
       → AsQuoted quote preview
+  -- a quote and look in one that is made on the book at the end shows what the quote, and then the look on the book that it leaves, show
+  pub both-in-one : (x : List ℕ) (n : ℕ) (o : Outputs) (quote look both : Seen) → Made (Quote x) o end quote → Made (Look n) o (worldAfter (Quote x) quote end) look
+      → Made (Both x n) o end both → InOne o end quote look both
   -- after each call the book, with the head and the tables that were seen, passes the audit once an opening was accepted; before that its head
   -- of zeros is refused with 3
   pub audit-says : (k : ℕ)

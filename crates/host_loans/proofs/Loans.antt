@@ -18,13 +18,14 @@ use Rattle.refusals.specs.Refusals.{number, numberOf, firstOf, granted}
 use Rattle.refusals.proofs.Numbers.{granted-refused, refused-granted, accepted-granted}
 use Rattle.replies.specs.declared.Reply.{Reply}
 use Rattle.replies.specs.declared.Effect.{Effect}
+use Rattle.replies.specs.declared.BothReply.{BothReply}
 use Rattle.replies.specs.Replies.{Outcome, outcome}
 use Rattle.model.specs.Rows.{Tables}
 use Rattle.model.specs.Book.{replyOf, openAnswer, openReply, openTables, openWatches, watchAnswer, watchReply, watchWatches, endAnswer, endReply, endWatches}
-use Rattle.model.specs.Promises.{Opened, Quoted, Previewed, Watched, Ended, Paired, Unpaired}
+use Rattle.model.specs.Promises.{Opened, Quoted, QuotedLooked, Previewed, Watched, Ended, Paired, Unpaired}
 use Rattle.watch_records.specs.Records.{watched}
 use Rattle.lending.specs.Lent.{judgement, shortLoanAnswer, shortLoanReply}
-use Rattle.lending.proofs.ShortLoan.{quote-short, preview-short, pair-short, unpair-short, watch-short, end-short, open-short}
+use Rattle.lending.proofs.ShortLoan.{quote-short, both-short, preview-short, pair-short, unpair-short, watch-short, end-short, open-short}
 use Rattle.previewing.specs.Effects.{effectOf}
 use Rattle.host_cells.specs.Cells.{eightRecords, recordsIn, Answered, OnlyEight}
 
@@ -76,6 +77,11 @@ module _ (cells : List ℕ) (lacking : length cells < 16) where
   quote-lacking : (h : Head) (x : List ℕ) (t : Tables) (before : List ℕ) → Quoted h x t (recordsIn cells) before (shortReply h h) t before
   unfolding recordsIn
   quote-lacking h x t before = quote-short (eightRecords cells) (length cells / 2) fewer h x t (short-outcome h h)
+
+  both-lacking : (h : Head) (x : List ℕ) (n : ℕ) (t : Tables) (before list : List ℕ)
+      → QuotedLooked h x n t (recordsIn cells) before list (record { reply = shortReply h h; listed = 0 }) t before list
+  unfolding recordsIn
+  both-lacking h x n t before list = both-short (eightRecords cells) (length cells / 2) fewer h x n t (short-outcome h h) refl
 
   preview-lacking : (h : Head) (x : List ℕ) (t : Tables) (before : List ℕ) → Previewed h x t (recordsIn cells) before (effectOf h (shortReply h h)) before
   unfolding recordsIn
@@ -180,6 +186,13 @@ module _ {h at : Head} {t : Tables} (e : h ≡ at) where
           let kept : ws ≡ endWatches h desk m t ws = sym (granted-refused _ (subst (λ (i : ℕ). 0 < i) (a ∙ ap Outcome.number (q .reply)) above) _ ws) in
           record { reply = r; answer = a; promised = subst (λ (g : Head). Ended g desk m t ws r ws) e (record { reply = q .reply; watches = kept }) }
 
+  pub both-told : {held ws x before list after listed : List ℕ} {m : ℕ} {t' : Tables} {f : BothReply} {next : Head} {n count : ℕ} → held ≡ ws
+      → QuotedLooked h x m t held before list f t' after listed → n ≡ numberOf (f .reply .answer) → next ≡ f .reply .head → count ≡ f .reply .count
+      → Answered n (λ reply. QuotedLooked at x m t ws before list (record { reply = reply; listed = f .listed }) t' after listed × (next ≡ reply .head) × (count ≡ reply .count))
+  both-told {ws = ws} {x = x} {before = before} {list = list} {after = after} {listed = listed} {m = m} {t' = t'} {f = f} lent p a b k =
+      let q = subst (λ (l : List ℕ). QuotedLooked h x m t l before list f t' after listed) lent p in
+      record { reply = f .reply; answer = a; promised = (subst (λ (g : Head). QuotedLooked g x m t ws before list f t' after listed) e q, b, k) }
+
   pub preview-told : {held ws x before after : List ℕ} {f : Effect} {n count : ℕ} → held ≡ ws → Previewed h x t held before f after → n ≡ numberOf (f .reply .answer) → count ≡ f .reply .count
       → Answered n (λ reply. Previewed at x t ws before (record { reply = reply; live = f .live; held = f .held }) after × (count ≡ reply .count))
   preview-told {ws = ws} {x = x} {before = before} {after = after} {f = f} lent p a k =
@@ -188,6 +201,11 @@ module _ {h at : Head} {t : Tables} (e : h ≡ at) where
   module _ (ws : List ℕ) (lacking : length ws < 16) {n : ℕ} (a : n ≡ shortLoanAnswer h) where
     pub quote-short-told : {x before : List ℕ} → Answered n (λ reply. Quoted at x t (recordsIn ws) before reply t before × (at ≡ reply .head) × (0 ≡ reply .count))
     quote-short-told {x} {before} = record { reply = shortReply at at; answer = short-answered h at e a; promised = (quote-lacking ws lacking at x t before, refl, refl) }
+
+    pub both-short-told : {x before list : List ℕ} {m : ℕ}
+        → Answered n (λ reply. QuotedLooked at x m t (recordsIn ws) before list (record { reply = reply; listed = 0 }) t before list × (at ≡ reply .head) × (0 ≡ reply .count))
+    both-short-told {x} {before} {list} {m} =
+        record { reply = shortReply at at; answer = short-answered h at e a; promised = (both-lacking ws lacking at x m t before list, refl, refl) }
 
     pub preview-short-told : {x before : List ℕ}
         → Answered n (λ reply. Previewed at x t (recordsIn ws) before (record { reply = reply; live = h .live; held = h .held }) before × (0 ≡ reply .count))

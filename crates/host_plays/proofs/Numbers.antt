@@ -64,8 +64,8 @@ stored-are l e p0 q0 p1 q1 p2 q2 p3 q3 p4 q4 p5 q5 p6 q6 p7 q7 = rw (p0, q0, p1,
 pub turned-is : {next count k flag : ℕ} → k ≡ flag → next ∷ count ∷ k ∷ [] ≡ next ∷ count ∷ flag ∷ []
 turned-is e = rw e
 
-pub step-at : {tape : List ℕ} {place : ℕ} {h at : Head} {t t' : Tables} {numbers ws bytes text bytes' text' : List ℕ} {r : Step} → h ≡ at → numbers ≡ ws
+pub step-at : (tape : List ℕ) (place : ℕ) (t : Tables) (bytes : List ℕ) {h at : Head} {t' : Tables} {numbers ws text bytes' text' : List ℕ} {r : Step} → h ≡ at → numbers ≡ ws
     → Stepped tape place (player h t numbers bytes) text r t' bytes' text' → Stepped tape place (player at t ws bytes) text r t' bytes' text'
-step-at {tape} {place} {h} {at} {t} {t'} {numbers} {ws} {bytes} {text} {bytes'} {text'} {r} e f p =
+step-at tape place t bytes {h} {at} {t'} {numbers} {ws} {text} {bytes'} {text'} {r} e f p =
     subst (λ (g : Head). Stepped tape place (player g t ws bytes) text r t' bytes' text') e
     (subst (λ (l : List ℕ). Stepped tape place (player h t l bytes) text r t' bytes' text') f p)

@@ -25,7 +25,7 @@ use Rattle.model.specs.Changes.{leaveKindOf, joinKindOf, leave, join, pairLeave
 use Rattle.model.specs.Shares.{ofDesk}
 use Rattle.model.specs.Reference.{Reference, Lengths, newest, skylineOf, pastOf, paired, pairOf, isOpen, outside, outsidePair, withQuote, withWatched, withPairOf, opening, tooShort}
 use Rattle.model.specs.Book.{isWatch}
-use Rattle.model.specs.Calls.{Call, Open, Quote, Look, Watch, End, Past, Pair, Unpair, Due, Preview, Seen}
+use Rattle.model.specs.Calls.{Call, Open, Quote, Look, Watch, End, Past, Pair, Unpair, Due, Preview, Both, Seen}
 use Rattle.isolation.specs.Isolation.{Concern, isChangeOf, View, writesFrames, wrote, changesOf, viewOf}
 use Rattle.model.proofs.Desks.{watch-desk}
 use Rattle.watcher.proofs.ReadBack.{Sent, read-back}
@@ -44,7 +44,7 @@ own concern s = record {
 
 -- ---- a call by what concerns a desk
 
--- the refusals of a call, in order, with the desk of a watch full or not; none of a call that concerns no desk
+-- the refusals of a call, in order, with the desk of a watch full or not; none of a call that concerns no desk, or is heard of as another
 abbrev pub refusals : Call → Bool → Lengths → Reference → List (Bool × ℕ)
 refusals (Open d N directions) full l s = (not (settingsHold d N directions), number Settings) ∷ (tooShort l d N, number ShortLoan) ∷ []
 refusals (Quote x) full l s =
@@ -63,6 +63,7 @@ refusals (Pair n1 n2) full l s =
 refusals Unpair full l s = (not (isOpen s), number Settings) ∷ (not (paired s), number NotWatched) ∷ []
 refusals Due full l s = []
 refusals (Preview x) full l s = []
+refusals (Both x n) full l s = []
 
 -- the messages that an accepted call writes
 abbrev pub messages : Call → Reference → List Message
@@ -78,6 +79,7 @@ messages (Pair n1 n2) s = map pairJoin (pastOf s n1 n2)
 messages Unpair s = []
 messages Due s = []
 messages (Preview x) s = []
+messages (Both x n) s = []
 
 -- what an accepted call leaves
 abbrev pub leaves : Call → Reference → Reference
@@ -91,6 +93,7 @@ leaves (Pair n1 n2) s = withPairOf s n1 n2
 leaves Unpair s = withPairOf s 0 0
 leaves Due s = s
 leaves (Preview x) s = s
+leaves (Both x n) s = s
 
 -- what a concern sees of a call with this answer that writes these messages if it is accepted
 abbrev pub shows : Concern → ℕ → List Message → View
@@ -244,3 +247,16 @@ pub view-unread : (concern : Concern) (c : Call) (a : ℕ) (seen : Seen) → wri
     → viewOf concern c seen ≡ shows concern a []
 unfolding viewOf filter
 view-unread concern c a seen w e = ap₂ viewed e (changes-unread concern c seen w ∙ sym (granted-none {A = Message} a))
+
+-- calls that write frames, answered alike and with the same written, are viewed alike
+pub view-alike : (concern : Concern) (c d : Call) (one other : Seen) → writesFrames c ≡ true → writesFrames d ≡ true
+    → one .outcome .number ≡ other .outcome .number → one .outcome .count ≡ other .outcome .count → one .outputs .bytes ≡ other .outputs .bytes
+    → viewOf concern c one ≡ viewOf concern d other
+unfolding viewOf changesOf wrote
+view-alike concern c d one other w v e n o = rw (w, v, e, n, o)
+
+-- a call that wrote nothing shows no change
+pub changes-none-written : (concern : Concern) (c : Call) (seen : Seen) → writesFrames c ≡ true → seen .outcome .count ≡ 0
+    → changesOf concern c seen ≡ []
+unfolding changesOf wrote messagesFrom filter
+changes-none-written concern c seen w e = rw (w, e)

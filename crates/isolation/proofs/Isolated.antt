@@ -9,7 +9,7 @@ use mathlib.Core.Bool.{Bool, true, false, _&&_, not, cond}
 use mathlib.Core.List.{List, [], _∷_, _++_, map}
 use lib.Dec.{ltb, eqb}
 use lib.ListN.{length}
-use borrow.Author.Tests.{leb-false}
+use borrow.Author.Tests.{leb-false, eqb-true}
 use Rattle.lists.specs.Lists.{filter, flat, contains, insert, without, laid}
 use Rattle.lists.proofs.Booleans.{clash}
 use Rattle.lists.proofs.Members.{contains-filter}
@@ -23,10 +23,11 @@ use Rattle.refusals.proofs.Numbers.{zero-passed, firstOf-alike}
 use Rattle.frames.specs.declared.Message.{Message}
 use Rattle.model.specs.Changes.{join, pairJoin, frames, changeRoom}
 use Rattle.model.specs.Shares.{ofDesk, deskFull}
-use Rattle.model.specs.Reference.{Reference, Lengths, newest, skylineOf, pastOf, paired, isOpen, outside, outsidePair, withQuote, withWatched, withPairOf, opening, tells, foretells, referenceStep}
-use Rattle.model.specs.Calls.{Call, Open, Quote, Look, Watch, End, Past, Pair, Unpair, Due, Preview, Outputs, Lending, Lent, Seen, World, lengthsOf, Expected, bookStep, expectedStep, runs, worldFirst, expectedFirst, Reached}
-use Rattle.isolation.specs.Isolation.{Concern, sameDesk, concerns, isChangeOf, writesFrames, isPreview, changesOf, View, viewOf, ofConcerning, views, nines, issued, changesIn, Asking, concerning, lentLengths, SameConcern, SameShown, Silent}
+use Rattle.model.specs.Reference.{Reference, Lengths, newest, skylineOf, pastOf, paired, isOpen, outside, outsidePair, withQuote, withWatched, withPairOf, opening, tooShort, tells, foretells, referenceStep}
+use Rattle.model.specs.Calls.{Call, Open, Quote, Look, Watch, End, Past, Pair, Unpair, Due, Preview, Both, Outputs, Lending, Lent, Seen, World, lengthsOf, Expected, bookStep, expectedStep, runs, worldFirst, expectedFirst, Reached}
+use Rattle.isolation.specs.Isolation.{Concern, sameDesk, concerns, heardAs, isChangeOf, writesFrames, isPreview, changesOf, View, viewOf, ofConcerning, views, nines, issued, changesIn, Asking, asked, concerning, lentLengths, SameConcern, SameShown, Silent}
 use Rattle.claims.specs.Claims.{Made, AllMade}
+use Rattle.model.proofs.Both.{Taken, both-taken, both-left}
 use Rattle.model.proofs.Desks.{watch-own, watch-other, watch-is, watch-range, highest}
 use Rattle.model.proofs.Records.{filter-swap}
 use Rattle.model.proofs.Simulation.{Bounded, bounded, in-range, in-unit, in-pair-range}
@@ -37,7 +38,7 @@ use Rattle.watcher.proofs.ReadBack.{Sent}
 use Rattle.watcher.proofs.Following.{sent-watch, sent-pairing, sent-quote}
 use Rattle.claims.proofs.Shares.{own-insert, other-insert, other-without}
 use Rattle.claims.proofs.Refining.{made-seen, calls-refine}
-use Rattle.isolation.proofs.Alone.{own, refusals, messages, leaves, shows, none-own, other-changes, pair-change, quote-own, granted-none, changes-read, changes-unread, view-read, view-unread}
+use Rattle.isolation.proofs.Alone.{own, refusals, messages, leaves, shows, none-own, other-changes, pair-change, quote-own, granted-none, changes-read, changes-unread, view-read, view-unread, view-alike, changes-none-written}
 
 -- ---- what concerns a desk
 
@@ -86,9 +87,9 @@ module _ (concern : Concern) (o : Outputs) (k : Expected) (f : Since k) where
   abbrev s : Reference
   s = k .reference
 
-  -- the lengths lent
+  -- the lengths lent, none for positions: no call that concerns a desk writes any
   abbrev room : Lengths
-  room = lengthsOf (k .lent) o
+  room = lengthsOf (k .lent) (record { bytes = o .bytes; cells = [] })
 
   -- what is seen of a call
   abbrev seen : Call → Seen
@@ -105,42 +106,43 @@ module _ (concern : Concern) (o : Outputs) (k : Expected) (f : Since k) where
   ok : Bounded s
   ok = bounded s (k .lent) f
 
-  -- the answer of a call by what concerns the desk, and by whether it got 9
+  -- the answer of a call as the desk hears of it, by what concerns the desk, and by whether it got 9
   abbrev alone : Call → ℕ
-  alone c = firstOf (refusals c (nine c) room (own concern s))
+  alone c = firstOf (refusals (heardAs c) (nine c) room (own concern s))
 
   -- what the desk sees of a call, and what the call leaves of what concerns it, are by that answer and what concerned it before
   record Follows (c : Call) : Type 0 where
-    sees : viewOf concern c (seen c) ≡ shows concern (alone c) (messages c (own concern s))
-    goes : own concern (next c) ≡ granted (alone c) (leaves c (own concern s)) (own concern s)
+    sees : viewOf concern c (seen c) ≡ shows concern (alone c) (messages (heardAs c) (own concern s))
+    goes : own concern (next c) ≡ granted (alone c) (leaves (heardAs c) (own concern s)) (own concern s)
 
   -- they are where the answer is the call's own, and an accepted call writes and leaves the same for the desk
-  follows-by : (c : Call) (a : ℕ) → alone c ≡ a → viewOf concern c (seen c) ≡ shows concern a (messages c s) → next c ≡ granted a (leaves c s) s
-      → (a ≡ 0 → filter (isChangeOf concern) (messages c s) ≡ filter (isChangeOf concern) (messages c (own concern s)))
-      → (a ≡ 0 → own concern (leaves c s) ≡ leaves c (own concern s)) → Follows c
+  follows-by : (c : Call) (a : ℕ) → alone c ≡ a → viewOf concern c (seen c) ≡ shows concern a (messages (heardAs c) s)
+      → next c ≡ granted a (leaves (heardAs c) s) s
+      → (a ≡ 0 → filter (isChangeOf concern) (messages (heardAs c) s) ≡ filter (isChangeOf concern) (messages (heardAs c) (own concern s)))
+      → (a ≡ 0 → own concern (leaves (heardAs c) s) ≡ leaves (heardAs c) (own concern s)) → Follows c
   unfolding granted
   follows-by c a e v n ms l = record { sees = v ∙ rw e (saw a ms); goes = ap (own concern) n ∙ rw e (went a l) }
     where
-      saw : (a : ℕ) → (a ≡ 0 → filter (isChangeOf concern) (messages c s) ≡ filter (isChangeOf concern) (messages c (own concern s)))
-          → shows concern a (messages c s) ≡ shows concern a (messages c (own concern s))
+      saw : (a : ℕ) → (a ≡ 0 → filter (isChangeOf concern) (messages (heardAs c) s) ≡ filter (isChangeOf concern) (messages (heardAs c) (own concern s)))
+          → shows concern a (messages (heardAs c) s) ≡ shows concern a (messages (heardAs c) (own concern s))
       saw zero h = rw (h refl)
       saw (suc j) h = refl
 
-      went : (a : ℕ) → (a ≡ 0 → own concern (leaves c s) ≡ leaves c (own concern s))
-          → own concern (granted a (leaves c s) s) ≡ granted a (leaves c (own concern s)) (own concern s)
+      went : (a : ℕ) → (a ≡ 0 → own concern (leaves (heardAs c) s) ≡ leaves (heardAs c) (own concern s))
+          → own concern (granted a (leaves (heardAs c) s) s) ≡ granted a (leaves (heardAs c) (own concern s)) (own concern s)
       went zero h = h refl
       went (suc j) h = refl
 
   -- ---- openings and quotes
 
   opens : (d N directions : ℕ) → Follows (Open d N directions)
-  unfolding expectedStep referenceStep tells lengthsOf writesFrames
+  unfolding expectedStep referenceStep tells tooShort lengthsOf writesFrames heardAs
   opens d N directions =
       let c = Open d N directions in
       follows-by c (alone c) refl (view-unread concern c (alone c) (seen c) refl refl) refl (λ _. refl) (λ _. fresh-own concern d N directions)
 
   quotes : (x : List ℕ) → Follows (Quote x)
-  unfolding expectedStep referenceStep tells lengthsOf isOpen withQuote writesFrames
+  unfolding expectedStep referenceStep tells lengthsOf isOpen withQuote writesFrames heardAs
   quotes x =
       let c = Quote x in
       follows-by c (alone c) refl (view-read concern c (messages c s) (alone c) (o .bytes) (seen c) refl sent refl refl refl) refl
@@ -165,7 +167,7 @@ module _ (concern : Concern) (o : Outputs) (k : Expected) (f : Since k) where
     watch-answer = firstOf (refusals (Watch desk n) (deskFull desk (s .watched)) room s)
 
     watch-alone : alone (Watch desk n) ≡ watch-answer
-    unfolding expectedStep referenceStep tells lengthsOf isOpen outside
+    unfolding expectedStep referenceStep tells lengthsOf isOpen outside heardAs
     watch-alone =
         firstOf-alike p (number Settings) ((q, number WindowSize) ∷ more (contains watch (own concern s .watched))) ((q, number WindowSize) ∷ more r)
         (λ _. firstOf-alike q (number WindowSize) (more (contains watch (own concern s .watched))) (more r)
@@ -185,7 +187,7 @@ module _ (concern : Concern) (o : Outputs) (k : Expected) (f : Since k) where
         more b = (b, number AlreadyWatched) ∷ (nine (Watch desk n), number NoFreeRecord) ∷ (ltb (length (o .bytes)) changeRoom, number ShortOutput) ∷ []
 
     watches : Follows (Watch desk n)
-    unfolding expectedStep referenceStep tells lengthsOf skylineOf withWatched writesFrames
+    unfolding expectedStep referenceStep tells lengthsOf skylineOf withWatched writesFrames heardAs
     watches =
         let c = Watch desk n in
         follows-by c watch-answer watch-alone (view-read concern c (messages c s) watch-answer (o .bytes) (seen c) refl sent refl refl refl)
@@ -212,7 +214,7 @@ module _ (concern : Concern) (o : Outputs) (k : Expected) (f : Since k) where
     end-answer = firstOf (refusals (End desk n) false room s)
 
     end-alone : alone (End desk n) ≡ end-answer
-    unfolding isOpen outside
+    unfolding isOpen outside heardAs
     end-alone =
         firstOf-alike (not (isOpen s)) (number Settings) ((outside s n, number WindowSize) ∷ more (contains watch (own concern s .watched)))
         ((outside s n, number WindowSize) ∷ more (contains watch (s .watched)))
@@ -223,7 +225,7 @@ module _ (concern : Concern) (o : Outputs) (k : Expected) (f : Since k) where
         more b = (not b, number NotWatched) ∷ []
 
     ends : Follows (End desk n)
-    unfolding expectedStep referenceStep tells lengthsOf withWatched without writesFrames
+    unfolding expectedStep referenceStep tells lengthsOf withWatched without writesFrames heardAs
     ends =
         let c = End desk n in
         follows-by c end-answer end-alone (view-unread concern c end-answer (seen c) refl refl) refl (λ _. refl)
@@ -238,11 +240,11 @@ module _ (concern : Concern) (o : Outputs) (k : Expected) (f : Since k) where
       pair-answer = firstOf (refusals (Pair n1 n2) false room s)
 
       pair-alone : alone (Pair n1 n2) ≡ pair-answer
-      unfolding isOpen outsidePair paired
+      unfolding isOpen outsidePair paired heardAs
       pair-alone = rw its
 
       pairs : Follows (Pair n1 n2)
-      unfolding expectedStep referenceStep tells lengthsOf pastOf withPairOf writesFrames
+      unfolding expectedStep referenceStep tells lengthsOf pastOf withPairOf writesFrames heardAs
       pairs =
           let c = Pair n1 n2 in
           follows-by c pair-answer pair-alone (view-read concern c (messages c s) pair-answer (o .bytes) (seen c) refl sent refl refl refl)
@@ -259,19 +261,32 @@ module _ (concern : Concern) (o : Outputs) (k : Expected) (f : Since k) where
     unpair-answer = firstOf (refusals Unpair false room s)
 
     unpair-alone : alone Unpair ≡ unpair-answer
-    unfolding isOpen paired
+    unfolding isOpen paired heardAs
     unpair-alone = rw its
 
     unpairs : Follows Unpair
-    unfolding expectedStep referenceStep tells lengthsOf withPairOf writesFrames
+    unfolding expectedStep referenceStep tells lengthsOf withPairOf writesFrames heardAs
     unpairs =
         follows-by Unpair unpair-answer unpair-alone (view-unread concern Unpair unpair-answer (seen Unpair) refl refl) refl (λ _. refl) (λ _. rw its)
+
+  -- ---- a quote and look in one
+
+  -- taken, it follows as its quote does
+  boths : (x : List ℕ) (n : ℕ) → Taken x n (lengthsOf (k .lent) o) s → Follows (Both x n)
+  unfolding expectedStep writesFrames heardAs
+  boths x n t = record {
+    sees =
+        view-alike concern (Both x n) (Quote x) (seen (Both x n)) (seen (Quote x)) refl refl (t .number ∙ sym (t .quote-number)) (t .count)
+        (ap (λ (bs : List ℕ). laid bs (o .bytes)) (t .bytes))
+        ∙ quotes x .sees;
+    goes = ap (own concern) (t .next ∙ sym (t .quote-next)) ∙ quotes x .goes;
+  }
 
   -- ---- every call
 
   -- a call that concerns the desk follows from what concerns it
-  follows : (c : Call) → concerns concern c ≡ true → Follows c
-  unfolding concerns
+  follows : (c : Call) → concerns concern c (seen c .outcome .number) ≡ true → Follows c
+  unfolding concerns expectedStep
   follows (Open d N directions) t = opens d N directions
   follows (Quote x) t = quotes x
   follows (Look n) t = absurd (clash false t refl)
@@ -282,6 +297,7 @@ module _ (concern : Concern) (o : Outputs) (k : Expected) (f : Since k) where
   follows Unpair t = unpairs t
   follows Due t = absurd (clash false t refl)
   follows (Preview x) t = absurd (clash false t refl)
+  follows (Both x n) t = boths x n (both-taken x n (lengthsOf (k .lent) o) s (eqb-true (seen (Both x n) .outcome .number) 0 t))
 
   -- what is granted of two that are alike for the desk
   granted-own : (a : ℕ) (next : Reference) → (a ≡ 0 → own concern next ≡ own concern s) → own concern (granted a next s) ≡ own concern s
@@ -290,7 +306,7 @@ module _ (concern : Concern) (o : Outputs) (k : Expected) (f : Since k) where
   granted-own (suc j) next e = refl
 
   -- one that does not concern it leaves what does
-  stays : (c : Call) → concerns concern c ≡ false → own concern (next c) ≡ own concern s
+  stays : (c : Call) → concerns concern c (seen c .outcome .number) ≡ false → own concern (next c) ≡ own concern s
   unfolding concerns expectedStep referenceStep tells foretells lengthsOf withWatched withPairOf sameDesk
   stays (Open d N directions) t = absurd (clash true refl t)
   stays (Quote x) t = absurd (clash true refl t)
@@ -308,6 +324,7 @@ module _ (concern : Concern) (o : Outputs) (k : Expected) (f : Since k) where
   stays Unpair t = granted-own _ (withPairOf s 0 0) (λ _. rw t)
   stays Due t = granted-own _ s (λ _. refl)
   stays (Preview x) t = refl
+  stays (Both x n) t = ap (own concern) (both-left x n (lengthsOf (k .lent) o) s t .next)
 
   -- ---- calls of no concern are silent
 
@@ -334,7 +351,7 @@ module _ (concern : Concern) (o : Outputs) (k : Expected) (f : Since k) where
   bytes-left a = rw (granted-none {A = ℕ} a)
 
   -- a call that is none of the concern's, and no preview, says nothing to it
-  silent : (c : Call) → concerns concern c ≡ false → isPreview c ≡ false → Silent concern c o (seen c)
+  silent : (c : Call) → concerns concern c (seen c .outcome .number) ≡ false → isPreview c ≡ false → Silent concern c o (seen c)
   unfolding concerns isPreview expectedStep referenceStep tells lengthsOf writesFrames sameDesk outside
   silent (Open d N directions) t u = absurd (clash true refl t)
   silent (Quote x) t u = absurd (clash true refl t)
@@ -363,19 +380,23 @@ module _ (concern : Concern) (o : Outputs) (k : Expected) (f : Since k) where
   silent Unpair t u = silent-unread Unpair refl (bytes-left (seen Unpair .outcome .number))
   silent Due t u = silent-unread Due refl (bytes-left (seen Due .outcome .number))
   silent (Preview x) t u = absurd (clash true refl u)
+  silent (Both x n) t u = record {
+    none = changes-none-written concern (Both x n) (seen (Both x n)) refl (both-left x n (lengthsOf (k .lent) o) s t .count);
+    left = λ v. absurd (clash true refl v);
+  }
 
 -- ---- a list of calls
 
--- lengths of what is lent, and of a call's outputs
-abbrev within : Lengths → ℕ → ℕ → Lengths
-within l bytes cells = record {
+-- lengths of what is lent, and of a call's output for frames
+abbrev within : Lengths → ℕ → Lengths
+within l bytes = record {
   columns = l .columns;
   positions = l .positions;
   lowerEnds = l .lowerEnds;
   upperEnds = l .upperEnds;
   watches = l .watches;
   bytes = bytes;
-  cells = cells;
+  cells = 0;
 }
 
 -- what a concern sees of calls, from what is its own, the lengths lent, and which of the calls got 9
@@ -383,23 +404,21 @@ alone-sees : Concern → Lengths → List Asking → List Bool → Reference →
 alone-sees concern l [] bs s = []
 alone-sees concern l (c ∷ cs) [] s = []
 alone-sees concern l (c ∷ cs) (b ∷ bs) s =
-    let a = firstOf (refusals (c .call) b (within l (c .bytes) (c .cells)) s) in
+    let a = firstOf (refusals (c .call) b (within l (c .bytes)) s) in
     shows concern a (messages (c .call) s) ∷ alone-sees concern l cs bs (granted a (leaves (c .call) s) s)
 
 -- that is what it sees
 views-alone : (concern : Concern) (cs : List Lending) (k : Expected) → Since k
     → views concern cs (runs expectedStep cs k .0)
-    ≡ alone-sees concern (lentLengths (k .lent)) (concerning concern cs) (nines concern cs (runs expectedStep cs k .0)) (own concern (k .reference))
-unfolding views nines ofConcerning concerning runs alone-sees lentLengths lengthsOf
+    ≡ alone-sees concern (lentLengths (k .lent)) (concerning concern cs (runs expectedStep cs k .0)) (nines concern cs (runs expectedStep cs k .0))
+    (own concern (k .reference))
+unfolding views nines ofConcerning concerning asked runs alone-sees lentLengths lengthsOf
 views-alone concern [] k f = refl
 views-alone concern (c ∷ cs) k f =
-    go (views-alone concern cs (expectedStep (c .call) (c .outputs) k .1) (since-step (c .call) (c .outputs) k f)) (concerns concern (c .call)) refl
+    go (views-alone concern cs (one .1) (since-step (c .call) (c .outputs) k f)) (concerns concern (c .call) (one .0 .outcome .number)) refl
   where
     one : Seen × Expected
     one = expectedStep (c .call) (c .outputs) k
-
-    asks : Asking
-    asks = record { call = c .call; bytes = length (c .outputs .bytes); cells = length (c .outputs .cells) }
 
     got : Bool
     got = eqb (one .0 .outcome .number) (number NoFreeRecord)
@@ -409,18 +428,18 @@ views-alone concern (c ∷ cs) k f =
 
     -- what is seen of the calls behind the first
     Rest : Type 0
-    Rest = views concern cs ss ≡ alone-sees concern (lentLengths (one .1 .lent)) (concerning concern cs) (nines concern cs ss) (own concern (one .1 .reference))
+    Rest = views concern cs ss ≡ alone-sees concern (lentLengths (one .1 .lent)) (concerning concern cs ss) (nines concern cs ss) (own concern (one .1 .reference))
 
     rest : Rest → (s : Reference) → own concern (one .1 .reference) ≡ s
-        → views concern cs ss ≡ alone-sees concern (lentLengths (k .lent)) (concerning concern cs) (nines concern cs ss) s
+        → views concern cs ss ≡ alone-sees concern (lentLengths (k .lent)) (concerning concern cs ss) (nines concern cs ss) s
     rest r s e =
         r
-        ∙ ap₂ (λ (l : Lengths) (s : Reference). alone-sees concern l (concerning concern cs) (nines concern cs ss) s)
+        ∙ ap₂ (λ (l : Lengths) (s : Reference). alone-sees concern l (concerning concern cs ss) (nines concern cs ss) s)
         (lengths-step (c .call) (c .outputs) (record { bytes = []; cells = [] }) k f) e
 
-    go : Rest → (b : Bool) → concerns concern (c .call) ≡ b
+    go : Rest → (b : Bool) → concerns concern (c .call) (one .0 .outcome .number) ≡ b
         → cond b (viewOf concern (c .call) (one .0) ∷ views concern cs ss) (views concern cs ss)
-        ≡ alone-sees concern (lentLengths (k .lent)) (cond b (asks ∷ concerning concern cs) (concerning concern cs))
+        ≡ alone-sees concern (lentLengths (k .lent)) (cond b (asked c ∷ concerning concern cs ss) (concerning concern cs ss))
         (cond b (got ∷ nines concern cs ss) (nines concern cs ss)) (own concern (k .reference))
     go r true t =
         let h = follows concern (c .outputs) k f (c .call) t in
@@ -430,18 +449,19 @@ views-alone concern (c ∷ cs) k f =
 -- ---- everything that was written
 
 -- a call of the concern is no preview
-no-preview : (concern : Concern) (c : Call) → concerns concern c ≡ true → isPreview c ≡ false
+no-preview : (concern : Concern) (c : Call) (a : ℕ) → concerns concern c a ≡ true → isPreview c ≡ false
 unfolding concerns isPreview
-no-preview concern (Open d N directions) t = refl
-no-preview concern (Quote x) t = refl
-no-preview concern (Look n) t = refl
-no-preview concern (Watch desk n) t = refl
-no-preview concern (End desk n) t = refl
-no-preview concern (Past n1 n2) t = refl
-no-preview concern (Pair n1 n2) t = refl
-no-preview concern Unpair t = refl
-no-preview concern Due t = refl
-no-preview concern (Preview x) t = absurd (clash false t refl)
+no-preview concern (Open d N directions) a t = refl
+no-preview concern (Quote x) a t = refl
+no-preview concern (Look n) a t = refl
+no-preview concern (Watch desk n) a t = refl
+no-preview concern (End desk n) a t = refl
+no-preview concern (Past n1 n2) a t = refl
+no-preview concern (Pair n1 n2) a t = refl
+no-preview concern Unpair a t = refl
+no-preview concern Due a t = refl
+no-preview concern (Preview x) a t = absurd (clash false t refl)
+no-preview concern (Both x n) a t = refl
 
 -- a preview issues no change, any other call those among its frames
 issued-preview : (concern : Concern) (c : Call) (seen : Seen) → isPreview c ≡ true → issued concern c seen ≡ []
@@ -458,7 +478,7 @@ written-viewed : (concern : Concern) (cs : List Lending) (k : Expected) → Sinc
 unfolding changesIn views ofConcerning viewOf flat runs
 written-viewed concern [] k f = refl
 written-viewed concern (c ∷ cs) k f =
-    go (written-viewed concern cs (expectedStep (c .call) (c .outputs) k .1) (since-step (c .call) (c .outputs) k f)) (concerns concern (c .call)) refl
+    go (written-viewed concern cs (one .1) (since-step (c .call) (c .outputs) k f)) (concerns concern (c .call) (one .0 .outcome .number)) refl
   where
     one : Seen × Expected
     one = expectedStep (c .call) (c .outputs) k
@@ -470,17 +490,17 @@ written-viewed concern (c ∷ cs) k f =
     first : List Message
     first = changesOf concern (c .call) (one .0)
 
-    unseen : concerns concern (c .call) ≡ false → issued concern (c .call) (one .0) ≡ []
+    unseen : concerns concern (c .call) (one .0 .outcome .number) ≡ false → issued concern (c .call) (one .0) ≡ []
     unseen t = by (isPreview (c .call)) refl
       where
         by : (b : Bool) → isPreview (c .call) ≡ b → issued concern (c .call) (one .0) ≡ []
         by true u = issued-preview concern (c .call) (one .0) u
         by false u = issued-own concern (c .call) (one .0) u ∙ silent concern (c .outputs) k f (c .call) t u .none
 
-    go : changesIn concern cs ss ≡ flat (map View.changes (views concern cs ss)) → (b : Bool) → concerns concern (c .call) ≡ b
+    go : changesIn concern cs ss ≡ flat (map View.changes (views concern cs ss)) → (b : Bool) → concerns concern (c .call) (one .0 .outcome .number) ≡ b
         → issued concern (c .call) (one .0) ++ changesIn concern cs ss
         ≡ flat (map View.changes (cond b (viewOf concern (c .call) (one .0) ∷ views concern cs ss) (views concern cs ss)))
-    go r true t = rw (issued-own concern (c .call) (one .0) (no-preview concern (c .call) t)) (ap (λ (ms : List Message). first ++ ms) r)
+    go r true t = rw (issued-own concern (c .call) (one .0) (no-preview concern (c .call) (one .0 .outcome .number) t)) (ap (λ (ms : List Message). first ++ ms) r)
     go r false t = rw (unseen t) r
 
 -- ---- isolation
@@ -520,9 +540,10 @@ calls-isolated concern cs cs' l l' ss ss' end end' m m' g =
 
 -- a call that was made on a book that calls left, is none of a concern's and no preview, says nothing to it
 pub others-silent : (concern : Concern) (c : Call) (o : Outputs) {w : World} (s : Seen) → Reached w → Made c o w s
-    → concerns concern c ≡ false → isPreview c ≡ false
+    → concerns concern c (s .outcome .number) ≡ false → isPreview c ≡ false
     → Silent concern c o s
 unfolding bookStep
 others-silent concern c o {w} s r m t u =
     let j = reached-simulation r in
-    rw (made-seen m ∙ call-agrees c o (expected r) w j .0) (silent concern o (expected r) (j .since) c t u)
+    let e = made-seen m ∙ call-agrees c o (expected r) w j .0 in
+    rw e (silent concern o (expected r) (j .since) c (rw e at t) u)

@@ -28,18 +28,34 @@ pub record Concern : Type 0 where
 unfoldable pub sameDesk : Desk → Desk → Bool
 sameDesk one other = eqb (deskNumber one) (deskNumber other)
 
--- a call is of this concern: openings, quotes, the desk's own watches and their ends, and the pair and its end where it is counted in
-unfoldable pub concerns : Concern → Call → Bool
-concerns concern (Call.Open d N directions) = true
-concerns concern (Call.Quote x) = true
-concerns concern (Call.Look n) = false
-concerns concern (Call.Watch other n) = sameDesk (concern .desk) other
-concerns concern (Call.End other n) = sameDesk (concern .desk) other
-concerns concern (Call.Past n1 n2) = false
-concerns concern (Call.Pair n1 n2) = concern .pair
-concerns concern Call.Unpair = concern .pair
-concerns concern Call.Due = false
-concerns concern (Call.Preview x) = false
+-- a call with this answer is of this concern: openings, quotes, the desk's own watches and their ends, and the pair and its end where it is
+-- counted in; a quote and look in one if it was accepted (02, 8/13: the quote of a refused one is no quote here)
+unfoldable pub concerns : Concern → Call → ℕ → Bool
+concerns concern (Call.Open d N directions) a = true
+concerns concern (Call.Quote x) a = true
+concerns concern (Call.Look n) a = false
+concerns concern (Call.Watch other n) a = sameDesk (concern .desk) other
+concerns concern (Call.End other n) a = sameDesk (concern .desk) other
+concerns concern (Call.Past n1 n2) a = false
+concerns concern (Call.Pair n1 n2) a = concern .pair
+concerns concern Call.Unpair a = concern .pair
+concerns concern Call.Due a = false
+concerns concern (Call.Preview x) a = false
+concerns concern (Call.Both x n) a = eqb a 0
+
+-- a call as a desk hears of it: a quote and look in one as its quote, any other as itself
+unfoldable pub heardAs : Call → Call
+heardAs (Call.Open d N directions) = Call.Open d N directions
+heardAs (Call.Quote x) = Call.Quote x
+heardAs (Call.Look n) = Call.Look n
+heardAs (Call.Watch desk n) = Call.Watch desk n
+heardAs (Call.End desk n) = Call.End desk n
+heardAs (Call.Past n1 n2) = Call.Past n1 n2
+heardAs (Call.Pair n1 n2) = Call.Pair n1 n2
+heardAs Call.Unpair = Call.Unpair
+heardAs Call.Due = Call.Due
+heardAs (Call.Preview x) = Call.Preview x
+heardAs (Call.Both x n) = Call.Quote x
 
 -- a message is a change of its own: a leave or a join of the desk's watches, and of the pair where it is counted in
 unfoldable pub isChangeOf : Concern → Message → Bool
@@ -53,7 +69,7 @@ isChangeOf concern (Message.Open d N directions) = false
 isChangeOf concern Message.EndOfTape = false
 isChangeOf concern (Message.Refused k) = false
 
--- a call is lent an output for frames: a quote, the setting of a watch or of the pair, a preview
+-- a call is lent an output for frames: a quote, by itself or with a look behind it, the setting of a watch or of the pair, a preview
 unfoldable pub writesFrames : Call → Bool
 writesFrames (Call.Open d N directions) = false
 writesFrames (Call.Quote x) = true
@@ -65,6 +81,7 @@ writesFrames (Call.Pair n1 n2) = true
 writesFrames Call.Unpair = false
 writesFrames Call.Due = false
 writesFrames (Call.Preview x) = true
+writesFrames (Call.Both x n) = true
 
 -- a call is a preview
 unfoldable pub isPreview : Call → Bool
@@ -78,6 +95,7 @@ isPreview (Call.Pair n1 n2) = false
 isPreview Call.Unpair = false
 isPreview Call.Due = false
 isPreview (Call.Preview x) = true
+isPreview (Call.Both x n) = false
 
 -- the bytes of the frames that a call wrote
 unfoldable pub wrote : Call → Seen → List ℕ
@@ -101,7 +119,7 @@ module _ {A : Type 0} (concern : Concern) (of : Lending → Seen → A) where
   unfoldable pub ofConcerning : List Lending → List Seen → List A
   ofConcerning [] ss = []
   ofConcerning (c ∷ cs) [] = []
-  ofConcerning (c ∷ cs) (s ∷ ss) = cond (concerns concern (c .call)) (of c s ∷ ofConcerning cs ss) (ofConcerning cs ss)
+  ofConcerning (c ∷ cs) (s ∷ ss) = cond (concerns concern (c .call) (s .outcome .number)) (of c s ∷ ofConcerning cs ss) (ofConcerning cs ss)
 
 -- what a concern sees of its calls
 unfoldable pub views : Concern → List Lending → List Seen → List View
@@ -121,27 +139,27 @@ changesIn concern [] ss = []
 changesIn concern (c ∷ cs) [] = []
 changesIn concern (c ∷ cs) (s ∷ ss) = issued concern (c .call) s ++ changesIn concern cs ss
 
--- a call with the lengths of its outputs, whatever they held when they were lent
+-- a call as a desk hears of it, with the length of its output for frames, whatever that held when it was lent
 pub record Asking : Type 0 where
   pub call : Call
   pub bytes : ℕ
-  pub cells : ℕ
 
--- the calls of a concern, but for what their outputs held
-unfoldable pub concerning : Concern → List Lending → List Asking
-concerning concern [] = []
-concerning concern (c ∷ cs) =
-    let one : Asking = record { call = c .call; bytes = length (c .outputs .bytes); cells = length (c .outputs .cells) } in
-    cond (concerns concern (c .call)) (one ∷ concerning concern cs) (concerning concern cs)
+-- what a desk hears of a call
+unfoldable pub asked : Lending → Asking
+asked c = record { call = heardAs (c .call); bytes = length (c .outputs .bytes) }
+
+-- what a concern hears of its calls: not what their outputs held, nor what they were lent for positions
+unfoldable pub concerning : Concern → List Lending → List Seen → List Asking
+concerning concern = ofConcerning concern (λ c s. asked c)
 
 -- how long everything lent is
 unfoldable pub lentLengths : Lent → Lengths
 lentLengths l = lengthsOf l (record { bytes = []; cells = [] })
 
--- two runs agree in a concern: as much was lent, the same calls of it were made, and the same of them got 9
+-- two runs agree in a concern: as much was lent, the same calls of it were made as it hears of them, and the same of them got 9
 pub record SameConcern (concern : Concern) (cs cs' : List Lending) (l l' : Lent) (ss ss' : List Seen) : Type 0 where
   pub lengths : lentLengths l ≡ lentLengths l'
-  pub calls : concerning concern cs ≡ concerning concern cs'
+  pub calls : concerning concern cs ss ≡ concerning concern cs' ss'
   pub refused : nines concern cs ss ≡ nines concern cs' ss'
 
 -- two runs show a concern the same: answers and changes of its calls, and its changes among all that was written

@@ -1,7 +1,8 @@
 -- What calls feed the reference model: its quotes are those that were accepted since the last accepted opening, and its settings stay where
 -- none is accepted.
 use mathlib.Core.Path.{_≡_, refl, sym, ap, _∙_}
-use Prim.Native.Nat.{ℕ, zero, suc, _+_}
+use mathlib.Core.Logic.{_⊎_, inl, inr}
+use Prim.Native.Nat.{ℕ, zero, suc, _+_, _≤_}
 use native.Mathlib.Omega.{arith}
 use mathlib.Core.Bool.{Bool, true, false, _&&_, cond}
 use mathlib.Core.List.{List, [], _∷_, _++_, append-nil, append-assoc}
@@ -11,8 +12,9 @@ use Rattle.lists.proofs.Booleans.{clash}
 use Rattle.refusals.specs.Refusals.{granted}
 use Rattle.head.specs.Desks.{watchOf}
 use Rattle.model.specs.Reference.{Reference, withQuote, withWatched, withPairOf, opening, tells, foretells, referenceStep}
-use Rattle.model.specs.Calls.{Call, Open, Quote, Look, Watch, End, Past, Pair, Unpair, Due, Preview, Outputs, Lending, Seen, Expected, lengthsOf, expectedStep, runs}
+use Rattle.model.specs.Calls.{Call, Open, Quote, Look, Watch, End, Past, Pair, Unpair, Due, Preview, Both, Outputs, Lending, Seen, Expected, lengthsOf, expectedStep, runs}
 use Rattle.claims.specs.Claims.{isOpening, acceptedIn}
+use Rattle.model.proofs.Both.{Taken, Left, both-told}
 use Rattle.late.specs.Feeding.{offers, quotesAfter, quotesTaken}
 
 -- the settings of a reference model
@@ -44,6 +46,12 @@ unfolding granted quotesAfter withQuote
 feeds-quote c x zero s o i = record { quotes = rw (o, i); settled = λ t. refl }
 feeds-quote c x (suc k) s o i = record { quotes = refl; settled = λ t. refl }
 
+-- a refused call leaves the model as it is
+feeds-refused : (c : Call) (a : ℕ) (s : Reference) → 1 ≤ a → Feeds c a s s
+unfolding granted quotesAfter
+feeds-refused c zero s h = absurd (omega (arith, h))
+feeds-refused c (suc k) s h = record { quotes = refl; settled = λ t. refl }
+
 -- a preview leaves the model as it is, whatever its answer
 feeds-preview : (x : List ℕ) (a : ℕ) (s : Reference) → Feeds (Preview x) a s s
 unfolding granted quotesAfter offers isOpening
@@ -57,6 +65,16 @@ module _ (o : Outputs) (k : Expected) where
   -- the number of the reference model's answer
   abbrev pub answered : Call → ℕ
   answered c = expectedStep c o k .0 .outcome .number
+
+  -- a quote and look in one: both taken, as the quote, or both left
+  feeds-both : (x : List ℕ) (n : ℕ) → Feeds (Both x n) (answered (Both x n)) s (expectedStep (Both x n) o k .1 .reference)
+  unfolding expectedStep granted isOpening offers
+  feeds-both x n = go (both-told x n (lengthsOf (k .lent) o) s)
+    where
+      go : Taken x n (lengthsOf (k .lent) o) s ⊎ Left x n (lengthsOf (k .lent) o) s
+          → Feeds (Both x n) (answered (Both x n)) s (expectedStep (Both x n) o k .1 .reference)
+      go (inl taken) = rw (taken .next, taken .number) (feeds-quote (Both x n) x 0 s refl refl)
+      go (inr left) = rw (left .next) (feeds-refused (Both x n) (answered (Both x n)) s (left .number))
 
   -- one call
   feeds : (c : Call) → Feeds c (answered c) s (expectedStep c o k .1 .reference)
@@ -72,6 +90,7 @@ module _ (o : Outputs) (k : Expected) where
   feeds Unpair = feeds-none Unpair (answered Unpair) s (withPairOf s 0 0) refl refl refl refl
   feeds Due = feeds-none Due (answered Due) s s refl refl refl refl
   feeds (Preview x) = feeds-preview x (answered (Preview x)) s
+  feeds (Both x n) = feeds-both x n
 
 -- after a list of calls its quotes are those that were taken
 pub quotes-taken : (cs : List Lending) (k : Expected)

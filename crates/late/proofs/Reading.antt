@@ -25,8 +25,9 @@ use Rattle.model.specs.Changes.{leaveKindOf, joinKindOf, leave, join, pairLeave
 use Rattle.model.specs.Shares.{ofDesk}
 use Rattle.model.specs.Reference.{Reference, newest, skylineOf, pastOf, pairOf, withQuote, tells, referenceStep}
 use Rattle.model.specs.Book.{isWatch}
-use Rattle.model.specs.Calls.{Call, Open, Quote, Look, Watch, End, Past, Pair, Unpair, Due, Preview, Outputs, Seen, Expected, lengthsOf, expectedStep}
+use Rattle.model.specs.Calls.{Call, Open, Quote, Look, Watch, End, Past, Pair, Unpair, Due, Preview, Both, Outputs, Seen, Expected, lengthsOf, expectedStep}
 use Rattle.watcher.specs.Watcher.{Follower, OfSize, OfPair, sizedFor, watchedFor, listFor}
+use Rattle.model.proofs.Both.{both-taken}
 use Rattle.model.proofs.Desks.{size-of-watch, watch-own, watch-desk, highest}
 use Rattle.model.proofs.Simulation.{Bounded, in-unit, in-pair-range}
 use Rattle.watcher.proofs.Applying.{same-size, sized-once}
@@ -217,19 +218,32 @@ quote-read f o k ok x e t =
     let room = leb-false lastPosition (newest (k .reference)) (zero-passed _ _ _ (zero-passed _ _ _ (zero-passed _ _ _ e .1) .1) .0) in
     quote-told f (k .reference) ok x room t (expectedStep (Quote x) o k .0) (o .bytes) (rw e) (rw e)
 
+-- and of one with a look behind it, in one, whose frames are the quote's
+both-read : (f : Follower) (o : Outputs) (k : Expected) → Bounded (k .reference) → (x : List ℕ) (n : ℕ) → answered o k (Both x n) ≡ 0
+    → watchedFor f (k .reference) ≡ true
+    → changesFor f (expectedStep (Both x n) o k .0) ≡ listChanges (listFor f (k .reference)) (listFor f (withQuote (k .reference) x))
+unfolding expectedStep changesFor
+both-read f o k ok x n e t =
+    let taken = both-taken x n (lengthsOf (k .lent) o) (k .reference) e in
+    rw (taken .count, taken .bytes) (quote-read f o k ok x (taken .quote-number) t)
+
 -- a call that offers none offers not one
 offers-one : (x : List ℕ) → _≡_ {A = List (List ℕ)} [] (x ∷ []) → ⊥
 offers-one x e = let n : _≡_ {A = ℕ} 0 1 = ap length e in omega arith
+
+-- the quote that is offered is the one that is taken
+offered-changes : (f : Follower) (s : Reference) (y x : List ℕ) → _≡_ {A = List (List ℕ)} (y ∷ []) (x ∷ [])
+    → listChanges (listFor f s) (listFor f (withQuote s y)) ≡ listChanges (listFor f s) (listFor f (withQuote s x))
+unfolding headOr
+offered-changes f s y x h = ap (λ (q : List ℕ). listChanges (listFor f s) (listFor f (withQuote s q))) (ap (headOr []) h)
 
 -- and of every accepted call that takes a quote
 pub offer-read : (f : Follower) (c : Call) (o : Outputs) (k : Expected) → Bounded (k .reference) → (x : List ℕ) → offers c ≡ x ∷ [] → answered o k c ≡ 0
     → watchedFor f (k .reference) ≡ true
     → changesFor f (expectedStep c o k .0) ≡ listChanges (listFor f (k .reference)) (listFor f (withQuote (k .reference) x))
-unfolding offers headOr
+unfolding offers
 offer-read f (Open d N directions) o k ok x h e t = absurd (offers-one x h)
-offer-read f (Quote y) o k ok x h e t =
-    let same : y ≡ x = ap (headOr []) h in
-    quote-read f o k ok y e t ∙ ap (λ (q : List ℕ). listChanges (listFor f (k .reference)) (listFor f (withQuote (k .reference) q))) same
+offer-read f (Quote y) o k ok x h e t = quote-read f o k ok y e t ∙ offered-changes f (k .reference) y x h
 offer-read f (Look n) o k ok x h e t = absurd (offers-one x h)
 offer-read f (Watch desk n) o k ok x h e t = absurd (offers-one x h)
 offer-read f (End desk n) o k ok x h e t = absurd (offers-one x h)
@@ -238,6 +252,7 @@ offer-read f (Pair n1 n2) o k ok x h e t = absurd (offers-one x h)
 offer-read f Unpair o k ok x h e t = absurd (offers-one x h)
 offer-read f Due o k ok x h e t = absurd (offers-one x h)
 offer-read f (Preview y) o k ok x h e t = absurd (offers-one x h)
+offer-read f (Both y n) o k ok x h e t = both-read f o k ok y n e t ∙ offered-changes f (k .reference) y x h
 
 -- ---- an accepted watch
 

@@ -12,14 +12,14 @@ use Rattle.frames.specs.declared.Message.the-variants as Message
 use Rattle.frame_kinds.specs.Kinds.{pairLeaveKind, pairJoinKind}
 use Rattle.frames.specs.Frames.{messagesFrom}
 use Rattle.model.specs.Changes.{leaveKindOf, joinKindOf}
-use Rattle.model.specs.Calls.{Call, Open, Quote, Look, Watch, End, Past, Pair, Unpair, Due, Preview, Lending, Seen}
+use Rattle.model.specs.Calls.{Call, Open, Quote, Look, Watch, End, Past, Pair, Unpair, Due, Preview, Both, Lending, Seen}
 use Rattle.watcher.specs.Watcher.{Follower, OfSize, OfPair}
 use Rattle.claims.specs.Claims.{isOpening}
 use Rattle.late.specs.Shift.{ListChange, Leaves, Joins}
 
 -- ---- the quotes that a book has taken
 
--- the quote that a call puts behind the others if it is accepted; none of any call but a quote
+-- the quote that a call puts behind the others if it is accepted; none of any call but a quote, by itself or with a look behind it, in one
 unfoldable pub offers : Call → List (List ℕ)
 offers (Open d N directions) = []
 offers (Quote x) = x ∷ []
@@ -31,6 +31,7 @@ offers (Pair n1 n2) = []
 offers Unpair = []
 offers Due = []
 offers (Preview x) = []
+offers (Both x n) = x ∷ []
 
 -- the quotes that stand after a call with this answer: an accepted opening drops those before it, and what an accepted call offers goes behind
 unfoldable pub quotesAfter : Call → ℕ → List (List ℕ) → List (List ℕ)

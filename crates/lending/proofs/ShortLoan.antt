@@ -13,13 +13,14 @@ use Rattle.head.specs.declared.Desk.{Desk}
 use Rattle.refusals.specs.declared.Refusal.the-variants.{Settings, ShortLoan}
 use Rattle.replies.specs.declared.Reply.{Reply}
 use Rattle.replies.specs.declared.Effect.{Effect}
+use Rattle.replies.specs.declared.BothReply.{BothReply}
 use Rattle.head.specs.Heads.{freshHead, settingsHold, withPair}
 use Rattle.refusals.specs.Refusals.{number, firstOf, granted}
 use Rattle.replies.specs.Replies.{Outcome, outcome}
 use Rattle.refusals.proofs.Numbers.{granted-refused}
 use Rattle.model.specs.Rows.{Tables}
-use Rattle.model.specs.Book.{shortTables, shortLoan, watchfulAnswer, replyOf, openAnswer, openReply, openTables, quoteHead, quoteBytes, quoteAnswer, quoteReply, quoteTables, quoteOut, watchBytes, watchAnswer, watchReply, watchOut, endAnswer, endReply, pairBytes, pairAnswer, pairReply, pairOut, unpairAnswer, unpairReply}
-use Rattle.model.specs.Promises.{Opened, Quoted, Previewed, Watched, Ended, Paired, Unpaired}
+use Rattle.model.specs.Book.{shortTables, shortLoan, watchfulAnswer, replyOf, openAnswer, openReply, openTables, quoteHead, quoteBytes, quoteAnswer, quoteReply, quoteTables, quoteOut, bothAnswer, bothReply, bothListed, bothTables, bothOut, bothCells, watchBytes, watchAnswer, watchReply, watchOut, endAnswer, endReply, pairBytes, pairAnswer, pairReply, pairOut, unpairAnswer, unpairReply}
+use Rattle.model.specs.Promises.{Opened, Quoted, Previewed, QuotedLooked, Watched, Ended, Paired, Unpaired}
 use Rattle.previewing.specs.Effects.{effectOf}
 use Rattle.previewing.proofs.Previews.{tells-quote}
 use Rattle.lending.specs.declared.Judgement.{Judgement}
@@ -78,6 +79,10 @@ module _ (watches : List ℕ) (lent : ℕ) where
   pub preview-eight : (h : Head) (x : List ℕ) (t : Tables) {before : List ℕ} {e : Effect} {out : List ℕ} → length watches ≤ lent → Previewed h x t watches before e out → Previewed h x t ws before e out
   preview-eight h x t {before} {e} {out} k m = subst (λ (l : List ℕ). Previewed h x t l before e out) (enough k) m
 
+  pub both-eight : (h : Head) (x : List ℕ) (n : ℕ) (t : Tables) {before cells : List ℕ} {r : BothReply} {t' : Tables} {out list : List ℕ} → length watches ≤ lent
+      → QuotedLooked h x n t watches before cells r t' out list → QuotedLooked h x n t ws before cells r t' out list
+  both-eight h x n t {before} {cells} {r} {t'} {out} {list} k m = subst (λ (l : List ℕ). QuotedLooked h x n t l before cells r t' out list) (enough k) m
+
   pub pair-eight : (h : Head) (n1 n2 : ℕ) (t : Tables) {before : List ℕ} {r : Reply} {out : List ℕ} → length watches ≤ lent → Paired h n1 n2 t watches before r out → Paired h n1 n2 t ws before r out
   pair-eight h n1 n2 t {before} {r} {out} k m = subst (λ (l : List ℕ). Paired h n1 n2 t l before r out) (enough k) m
 
@@ -121,6 +126,22 @@ module _ (watches : List ℕ) (lent : ℕ) where
           reply = e ∙ rw (short-watchful h t) (short-reply h h (quoteHead h x t ws) (length (quoteBytes h x t ws)));
           lent = rw (short-watchful h t) (short-left h _ t);
           out = rw (short-watchful h t) (short-left h _ before);
+        }
+
+    short-both : (h : Head) (x : List ℕ) (n : ℕ) (t : Tables) (room space : ℕ) → bothAnswer h x n t ws room space ≡ shortLoanAnswer h
+    unfolding bothAnswer quoteAnswer
+    short-both h x n t room space = rw (short-watchful h t) (sym (short-left h _ (shortLoanAnswer h)))
+
+    pub both-short : (h : Head) (x : List ℕ) (n : ℕ) (t : Tables) {before cells : List ℕ} {r : BothReply} → outcome (r .reply) ≡ shortLoanReply h h → r .listed ≡ 0
+        → QuotedLooked h x n t ws before cells r t before cells
+    unfolding bothReply bothListed bothTables bothOut bothCells
+    both-short h x n t {before} {cells} e z =
+        record {
+          reply = e ∙ rw (short-both h x n t) (short-reply h h (quoteHead h x t ws) (length (quoteBytes h x t ws)));
+          listed = z ∙ rw (short-both h x n t) (short-left {A = ℕ} h _ 0);
+          lent = rw (short-both h x n t) (short-left h _ t);
+          out = rw (short-both h x n t) (short-left h _ before);
+          positions = rw (short-both h x n t) (short-left h _ cells);
         }
 
     pub preview-short : (h : Head) (x : List ℕ) (t : Tables) {before : List ℕ} (r : Reply) → outcome r ≡ shortLoanReply h h → {e : Effect} → e ≡ effectOf h r → Previewed h x t ws before e before

@@ -4,7 +4,7 @@ ghost use mathlib.Core.Path.{_≡_};
 ghost use lib.ListN.{take};
 ghost use Rattle.replies.specs.Replies.{outcome};
 ghost use Rattle.model.specs.Book.{endReply};
-ghost use Rattle.model.specs.Promises.{tables, Quoted, Previewed, Paired, Unpaired};
+ghost use Rattle.model.specs.Promises.{tables, Quoted, Previewed, QuotedLooked, Paired, Unpaired};
 ghost use Rattle.lending.specs.Lent.{judgement, Judged, shortLoanReply, OpenJudged, WatchJudged};
 use head::Desk;
 use head::Head;
@@ -13,9 +13,11 @@ use pairing::pair;
 use pairing::unpair;
 use previewing::effect_of;
 use previewing::preview;
+use quote_looking::both;
 use quoting::quote;
 use refusals::Answer;
 use refusals::Refusal;
+use replies::BothReply;
 use replies::Effect;
 use replies::Reply;
 use watching::end;
@@ -126,6 +128,46 @@ pub fn quote_lent(
         upper_ends,
         watches,
         out,
+    )
+}
+
+// Takes a quote and looks at the list of n behind it, in one.
+pub fn both_lent(
+    head: Head,
+    quoted: &[u32],
+    n: u32,
+    columns: &mut [u32],
+    positions: &mut [u32],
+    lower_ends: &mut [u32],
+    upper_ends: &mut [u32],
+    watches: [u64; 8],
+    lent: usize,
+    out: &mut [u8],
+    cells: &mut [u32],
+) -> BothReply
+    ensures { λ r. ⌜ QuotedLooked head (now (quoted .entry)) n
+        (tables (now (columns .entry)) (now (positions .entry)) (now («lower_ends» .entry)) (now («upper_ends» .entry)))
+        (take lent watches) (now (out .entry)) (now (cells .entry)) r
+        (tables (now (columns .exit)) (now (positions .exit)) (now («lower_ends» .exit)) (now («upper_ends» .exit)))
+        (now (out .exit)) (now (cells .exit)) ⌝ }
+{
+    if lent < 8 {
+        return BothReply {
+            reply: short_loan(head, head),
+            listed: 0,
+        };
+    }
+    both(
+        head,
+        quoted,
+        n,
+        columns,
+        positions,
+        lower_ends,
+        upper_ends,
+        watches,
+        out,
+        cells,
     )
 }
 

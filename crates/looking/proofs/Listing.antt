@@ -2,13 +2,15 @@
 use mathlib.Core.Path.{_≡_, refl, sym, ap, ap₂, _∙_}
 use Prim.Native.Nat.{ℕ, _+_, _-_, _≤_, _<_}
 use native.Mathlib.Omega.{arith}
-use mathlib.Core.Bool.{Bool, true}
+use mathlib.Core.Bool.{Bool, true, false}
 use mathlib.Core.List.{List, [], _∷_, _++_}
 use lib.Dec.{ltb, eqb}
-use lib.ListN.{length}
+use lib.ListN.{length, length-map}
 use borrow.Author.Tests.{ltb-true, ltb-false, eqb-true, eqb-false, eq-eqb, lt-ltb, le-ltb}
-use Rattle.lists.specs.Lists.{laid}
+use Rattle.lists.specs.Lists.{filter, run, laid}
 use Rattle.lists.proofs.Booleans.{agree, none-left, none-right}
+use Rattle.lists.proofs.Filters.{length-filter}
+use Rattle.lists.proofs.Runs.{length-run, filter-from}
 use Rattle.skyline.specs.Skyline.{windowStart}
 use Rattle.head.specs.declared.Head.{Head}
 use Rattle.replies.specs.declared.Reply.{Reply}
@@ -23,14 +25,34 @@ use Rattle.model.specs.Rows.{Tables, listed}
 use Rattle.model.specs.Book.{answerOf, bookRows, listOf, pastListOf, replyOf, lookCells, lookAnswer, lookReply, lookOut, pastCells, pastAnswer, pastReply, pastOut}
 use Rattle.model.specs.Promises.{Looked, PastLooked}
 use Rattle.model.proofs.Replying.{refused-reply, refused-left}
-use Rattle.listing.specs.Picked.{listedIn, Window}
-use Rattle.listing.proofs.Listing.{whole-consecutive, listed-rows}
+use Rattle.listing.specs.Picked.{picked, listedAt, listedIn, Window}
+use Rattle.listing.proofs.Listing.{listed-early, whole-consecutive, listed-rows}
 use Rattle.judging.proofs.Answering.{Passed, InRange, in-range, rows-stand, answer-passed, stays}
 use Rattle.looking.specs.Shown.{roomAnswer, Written, Shown, sizeAnswer, sizesAnswer}
 
 -- 5 of a past look asks whether n1 is 0
 pub below-one : (n : ℕ) → ltb n 1 ≡ eqb n 0
 below-one n = agree (ltb n 1) (eqb n 0) (λ t. eq-eqb n 0 (omega (arith, ltb-true n 1 t))) (λ t. lt-ltb n 1 (omega (arith, eqb-true n 0 t)))
+
+-- a list has no more positions than its window
+list-most : (a b first : ℕ) (lowers uppers : List ℕ) → first ≤ a → a ≤ b + 1 → length (listedIn a b first lowers uppers) ≤ b + 1 - a
+unfolding listedIn picked
+list-most a b first lowers uppers low near =
+    let cut : b + 1 - first ≡ (a - first) + (b + 1 - a) = omega arith in
+    let test = listedAt a b first lowers uppers in
+    let from = run (0 + (a - first)) (b + 1 - a) in
+    rw (
+      length-map (filter test (run 0 (b + 1 - first))) (λ i. first + i),
+      cut,
+      filter-from test 0 (a - first) (b + 1 - a) (λ q _ l. listed-early first a b lowers uppers q (omega arith)),
+    )
+    (omega (arith, length-filter test from, length-run (0 + (a - first)) (b + 1 - a)))
+
+-- so with space for all of its window nothing is short
+pub wide-enough : (a b first : ℕ) (lowers uppers : List ℕ) {space : ℕ} → first ≤ a → a ≤ b + 1 → b + 1 - a ≤ space
+    → false ≡ ltb space (length (listedIn a b first lowers uppers))
+wide-enough a b first lowers uppers {space} low near l =
+    sym (le-ltb space (length (listedIn a b first lowers uppers)) (omega (arith, list-most a b first lowers uppers low near)))
 
 module _ (h : Head) (t : Tables) where
   -- the first position held

@@ -79,6 +79,26 @@ pub fn end_of(head: Head, n: u32) -> u32
     head.newest - n + 1
 }
 
+// Whether the list of the window from a to b has more positions than this space. It has no more than the window, so with space for all of
+// those they are not counted.
+fn short_list(
+    lower_ends: &[u32],
+    upper_ends: &[u32],
+    first: u32,
+    a: u32,
+    b: u32,
+    space: usize,
+) -> bool
+    requires { ⌜ Window first a b (now «lower_ends») (now «upper_ends») ⌝ }
+    ensures { λ r. ⌜ r ≡ ltb space (length
+        (listedIn a b first (now («lower_ends» .entry)) (now («upper_ends» .entry)))) ⌝ }
+{
+    if (b as usize) + 1 - (a as usize) <= space {
+        return false;
+    }
+    space < count_listed(lower_ends, upper_ends, first, a, b)
+}
+
 // Writes the positions of the list of the window from a to b into out, oldest first, if there is room, and hands back how many.
 fn write_list(
     head: Head,
@@ -94,8 +114,7 @@ fn write_list(
         (now («upper_ends» .entry))) (now (out .entry)) r (now (out .exit)) ⌝ }
 {
     let first = start_of(head, head.capacity);
-    let count = count_listed(lower_ends, upper_ends, first, a, b);
-    if out.len() < count {
+    if short_list(lower_ends, upper_ends, first, a, b, out.len()) {
         return Reply {
             answer: Answer::Refused(Refusal::ShortOutput),
             head,

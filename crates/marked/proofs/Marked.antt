@@ -1,7 +1,7 @@
 -- 01's marked cases M1 to M10 and the tapes of the table, shown of the definitions: one proof over the table by the reference model, and
 -- the same answers by the book model, since its calls show what the reference model tells.
 use mathlib.Core.Path.{_≡_, refl, sym, ap, ap₂, _∙_}
-use mathlib.Core.Logic.{inl}
+use mathlib.Core.Logic.{_⊎_, inl, inr}
 use Prim.Native.Nat.{ℕ, zero, suc, _+_}
 use native.Mathlib.Omega.{arith}
 use mathlib.Core.Bool.{Bool, true, _&&_}
@@ -21,10 +21,11 @@ use Rattle.frames.specs.Frames.{frame}
 use Rattle.model.specs.Rows.{Row, rowAt, rowsIn, isLive, liveRows, dueRows, dueCells, overOlder, overYounger}
 use Rattle.model.specs.Changes.{leaveKindOf, joinKindOf, missing, changesBy, changes, allChanges, pairChanges, frames, changeRoom}
 use Rattle.model.specs.Shares.{ofDesk, countOf, aboveShares, deskFull}
-use Rattle.model.specs.Reference.{Reference, Lengths, skylineOf, pastOf, paired, pairOf, rowOf, rowsOf, headOf, dueOf, isOpen, outside, outsidePast, outsidePair, withQuote, withWatched, withPairOf, opening, tooShort, tells, foretells, referenceStep}
+use Rattle.model.specs.Reference.{Reference, Lengths, skylineOf, pastOf, paired, pairOf, rowOf, rowsOf, headOf, dueOf, isOpen, outside, outsidePast, outsidePair, withQuote, withWatched, withPairOf, opening, tooShort, tells, foretells, tellsBoth, referenceStep}
 use Rattle.model.specs.Book.{shortTables, tornRows, isWatch, ordered, standing, tornWatches, bookRows}
-use Rattle.model.specs.Calls.{Call, Open, Quote, Look, Watch, End, Past, Pair, Unpair, Due, Preview, Outputs, lengthsOf, Expected, expectedStep, runs, expectedFirst}
+use Rattle.model.specs.Calls.{Call, Open, Quote, Look, Watch, End, Past, Pair, Unpair, Due, Preview, Both, Outputs, lengthsOf, Expected, expectedStep, runs, expectedFirst}
 use Rattle.audit_model.specs.Audit.{zeroFrom, rightLower, rightUpper, wrongEnd, passes, findingOf, auditFinding, plays}
+use Rattle.model.proofs.Both.{Taken, Left, both-told}
 use Rattle.model.proofs.Replay.{replay}
 use Rattle.model.proofs.Lengths.{Since, since-step, lengths-step}
 use Rattle.marked.specs.Marked.{Model, ByReference, ByBook, Question, Case, roomy, lending, lent, lengths, toldOf, toldLine, written, lines, linesBy, answerTo, sameAll, allHold, table}
@@ -39,7 +40,7 @@ unfolding filter any headOr lastOr flat run between contains rising insert witho
     leaveKindOf joinKindOf missing changesBy changes allChanges pairChanges frames
     ofDesk countOf aboveShares deskFull
     skylineOf pastOf paired pairOf rowOf rowsOf headOf dueOf isOpen outside outsidePast outsidePair
-    withQuote withWatched withPairOf opening tooShort tells referenceStep
+    withQuote withWatched withPairOf opening tooShort tells tellsBoth referenceStep
     shortTables tornRows isWatch ordered standing tornWatches bookRows zeroFrom rightLower rightUpper wrongEnd passes findingOf auditFinding plays
 marked-reference = refl
 
@@ -79,9 +80,31 @@ unfolding granted
 written-due zero newest n1 rs out = rw (← (due-length newest n1 rs)) (written-cells zero (dueCells newest n1 rs) out)
 written-due (suc k) newest n1 rs out = refl
 
+-- the frames of a quote, and the positions of a look
+written-quote : (x : List ℕ) (l : Lengths) (s : Reference) (out : List ℕ)
+    → take (referenceStep (Quote x) l s .count) (laid (referenceStep (Quote x) l s .bytes) out) ≡ referenceStep (Quote x) l s .bytes
+unfolding referenceStep tells
+written-quote x l s out = written-front _ _ out
+
+written-look : (n : ℕ) (l : Lengths) (s : Reference) (out : List ℕ)
+    → take (referenceStep (Look n) l s .count) (laid (referenceStep (Look n) l s .cells) out) ≡ referenceStep (Look n) l s .cells
+unfolding referenceStep tells
+written-look n l s out = written-front _ _ out
+
+-- both, or nothing where they are refused
+written-both : (x : List ℕ) (n : ℕ) (l : Lengths) (s : Reference) (o : Outputs)
+    → let t = referenceStep (Both x n) l s in take (t .count) (laid (t .bytes) (o .bytes)) ++ take (headOr 0 (t .counts)) (laid (t .cells) (o .cells)) ≡ t .bytes ++ t .cells
+unfolding headOr
+written-both x n l s o = go (both-told x n l s)
+  where
+    go : Taken x n l s ⊎ Left x n l s
+        → let t = referenceStep (Both x n) l s in take (t .count) (laid (t .bytes) (o .bytes)) ++ take (headOr 0 (t .counts)) (laid (t .cells) (o .cells)) ≡ t .bytes ++ t .cells
+    go (inl t) = rw (t .count, t .bytes, t .counts, t .cells, written-quote x l s (o .bytes), written-look n l (withQuote s x) (o .cells))
+    go (inr t) = rw (t .count, t .bytes, t .counts, t .cells)
+
 -- what was written is what is told
 written-told : (c : Call) (l : Lengths) (s : Reference) (o : Outputs)
-    → let t = referenceStep c l s in written c (t .count) (record { bytes = laid (t .bytes) (o .bytes); cells = laid (t .cells) (o .cells) }) ≡ t .bytes ++ t .cells
+    → let t = referenceStep c l s in written c (t .count) (t .counts) (record { bytes = laid (t .bytes) (o .bytes); cells = laid (t .cells) (o .cells) }) ≡ t .bytes ++ t .cells
 unfolding referenceStep tells foretells
 written-told (Open d N directions) l s o = written-none _
 written-told (Quote x) l s o = written-bytes _ _ (o .bytes)
@@ -93,6 +116,7 @@ written-told (Pair n1 n2) l s o = written-bytes _ _ (o .bytes)
 written-told Unpair l s o = written-none _
 written-told Due l s o = written-due _ _ _ _ (o .cells)
 written-told (Preview x) l s o = written-front _ _ (o .bytes) ∙ sym (append-nil _)
+written-told (Both x n) l s o = written-both x n l s o
 
 -- a line for each call
 lines-told : (cs : List Call) (k : Expected) → Since k → lengthsOf (k .lent) roomy ≡ lengths

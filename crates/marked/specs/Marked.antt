@@ -1,11 +1,12 @@
--- 01's marked cases M1 to M10 and its worked tape as 02 has them, books with equal rows, two tapes with past lists, two with a watched pair
--- and two with two desks, and torn records: one table of questions with their answers, and the answers that the definitions give.
+-- 01's marked cases M1 to M10 and its worked tape as 02 has them, books with equal rows, two tapes with past lists, two with a watched pair,
+-- two with two desks, quotes and looks in one, and torn records: one table of questions with their answers, and the answers that the
+-- definitions give.
 use Prim.Native.Nat.{ℕ, _+_, _-_}
 use mathlib.Core.Bool.{Bool, true, false, _&&_, cond}
 use mathlib.Core.List.{List, [], _∷_, _++_, map}
 use lib.Dec.{eqb}
 use lib.ListN.{length, take, replicate}
-use Rattle.lists.specs.Lists.{run}
+use Rattle.lists.specs.Lists.{headOr, run}
 use Rattle.head.specs.declared.Head.{Head}
 use Rattle.head.specs.declared.Desk.the-variants.{One, Two}
 use Rattle.replies.specs.Replies.{Finding, yes, no, refused}
@@ -14,7 +15,7 @@ use Rattle.model.specs.Rows.{Row, Tables, liveRows}
 use Rattle.model.specs.Changes.{changeRoom}
 use Rattle.model.specs.Reference.{Reference, Lengths, Told, unopened, opening, skylineOf, rowOf, rowsOf, referenceStep}
 use Rattle.model.specs.Book.{tornWatches}
-use Rattle.model.specs.Calls.{Call, Open, Quote, Look, Watch, End, Past, Pair, Unpair, Due, Preview, Outputs, Lending, Lent, Seen, bookStep, runs, worldFirst}
+use Rattle.model.specs.Calls.{Call, Open, Quote, Look, Watch, End, Past, Pair, Unpair, Due, Preview, Both, Outputs, Lending, Lent, Seen, bookStep, runs, worldFirst}
 use Rattle.audit_model.specs.Audit.{auditFinding, plays}
 
 -- the two models that calls are run by
@@ -272,6 +273,27 @@ desksPrint =
     ∷ (8 ∷ 3 ∷ 1 ∷ [])
     ∷ []
 
+-- quotes and looks in one beside a watch, each of the list after its quote; an n above N is refused behind the quote's own refusals, and
+-- leaves no trace of the quote
+abbrev inOneTape : List Call
+inOneTape =
+    Open 2 5 0 ∷ Watch One 2 ∷ Both (5 ∷ 5 ∷ []) 5 ∷ Both (3 ∷ 8 ∷ []) 1 ∷ Both (4 ∷ 4 ∷ []) 6 ∷ Both (4 ∷ []) 6 ∷ Look 5 ∷ Both (4 ∷ 4 ∷ []) 3
+    ∷ Look 3 ∷ []
+
+-- its print: the changes of the watch, and behind them the list
+abbrev inOnePrint : List (List ℕ)
+inOnePrint =
+    (0 ∷ 0 ∷ 0 ∷ [])
+    ∷ (0 ∷ 0 ∷ 0 ∷ [])
+    ∷ (0 ∷ 1 ∷ 1 ∷ join 2 1 ++ 1 ∷ [])
+    ∷ (0 ∷ 2 ∷ 2 ∷ join 2 2 ++ 2 ∷ [])
+    ∷ (5 ∷ 2 ∷ 2 ∷ [])
+    ∷ (4 ∷ 2 ∷ 2 ∷ [])
+    ∷ (0 ∷ 2 ∷ 2 ∷ 1 ∷ 2 ∷ [])
+    ∷ (0 ∷ 3 ∷ 2 ∷ leave 2 1 ++ join 2 3 ++ 2 ∷ 3 ∷ [])
+    ∷ (0 ∷ 3 ∷ 2 ∷ 2 ∷ 3 ∷ [])
+    ∷ []
+
 -- ---- the audit's books
 
 -- one column, N = 2, low, M = 2, and this many rows, all live
@@ -362,6 +384,8 @@ table =
     -- the tapes with two desks
     ∷ record { question = Lines sharesTape; answer = sharesPrint }
     ∷ record { question = Lines desksTape; answer = desksPrint }
+    -- quotes and looks in one
+    ∷ record { question = Lines inOneTape; answer = inOnePrint }
     -- desk one's by n rising, then desk two's, then empties; 5 and 3, 4 and 4
     ∷ record { question = Torn 8 []; answer = whole }
     ∷ record { question = Torn 8 ((1, 2) ∷ (1, 8) ∷ (2, 2) ∷ []); answer = whole }
@@ -400,22 +424,24 @@ toldOf (c ∷ cs) s =
 abbrev pub toldLine : Told → List ℕ
 toldLine t = t .number ∷ t .head .newest ∷ t .head .live ∷ (t .bytes ++ t .cells)
 
--- what was written, by the call and its count: frames, positions, or for each row that is due two cells
-abbrev pub written : Call → ℕ → Outputs → List ℕ
-written (Open d N directions) count o = []
-written (Quote x) count o = take count (o .bytes)
-written (Look n) count o = take count (o .cells)
-written (Watch desk n) count o = take count (o .bytes)
-written (End desk n) count o = []
-written (Past n1 n2) count o = take count (o .cells)
-written (Pair n1 n2) count o = take count (o .bytes)
-written Unpair count o = []
-written Due count o = take (count + count) (o .cells)
-written (Preview x) count o = take count (o .bytes)
+-- what was written, by the call, its count and the counts beside it: frames, positions, for each row that is due two cells, or frames and
+-- positions behind them
+abbrev pub written : Call → ℕ → List ℕ → Outputs → List ℕ
+written (Open d N directions) count counts o = []
+written (Quote x) count counts o = take count (o .bytes)
+written (Look n) count counts o = take count (o .cells)
+written (Watch desk n) count counts o = take count (o .bytes)
+written (End desk n) count counts o = []
+written (Past n1 n2) count counts o = take count (o .cells)
+written (Pair n1 n2) count counts o = take count (o .bytes)
+written Unpair count counts o = []
+written Due count counts o = take (count + count) (o .cells)
+written (Preview x) count counts o = take count (o .bytes)
+written (Both x n) count counts o = take count (o .bytes) ++ take (headOr 0 counts) (o .cells)
 
 -- the refusal of a call, the newest position, the number of live rows, and what is written, as it is seen
 abbrev pub line : Call → Seen → List ℕ
-line c s = s .outcome .number ∷ s .outcome .head .newest ∷ s .outcome .head .live ∷ written c (s .outcome .count) (s .outputs)
+line c s = s .outcome .number ∷ s .outcome .head .newest ∷ s .outcome .head .live ∷ written c (s .outcome .count) (s .counts) (s .outputs)
 
 -- a line for each call
 abbrev pub lines : List Call → List Seen → List (List ℕ)

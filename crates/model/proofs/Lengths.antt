@@ -15,9 +15,9 @@ use Rattle.refusals.specs.Refusals.{granted}
 use Rattle.head.specs.Heads.{settingsHold}
 use Rattle.refusals.proofs.Numbers.{zero-passed}
 use Rattle.model.specs.Rows.{Row, Tables, filled}
-use Rattle.model.specs.Reference.{Reference, unopened, rowsOf, isOpen, withQuote, withWatched, withPairOf, opening, tooShort, tells, foretells, referenceStep}
+use Rattle.model.specs.Reference.{Reference, unopened, rowsOf, isOpen, withQuote, withWatched, withPairOf, opening, tooShort, tells, foretells, tellsBoth, referenceStep}
 use Rattle.model.specs.Book.{shortTables, shortLoan}
-use Rattle.model.specs.Calls.{Call, Open, Quote, Look, Watch, End, Past, Pair, Unpair, Due, Preview, Outputs, Lent, lengthsOf, shown, Expected, expectedStep}
+use Rattle.model.specs.Calls.{Call, Open, Quote, Look, Watch, End, Past, Pair, Unpair, Due, Preview, Both, Outputs, Lent, lengthsOf, shown, Expected, expectedStep}
 use Rattle.model.proofs.Tables.{cells-counted}
 use Rattle.model.proofs.Records.{eight-records}
 use Rattle.model.proofs.Sound.{rows-bounded, rows-wide}
@@ -36,7 +36,7 @@ Long l s = isOpen s ≡ true → shortLoan (l .tables) (l .watches) (s .dimensio
 
 -- it still is after a call: only an accepted opening takes settings, and it is refused where something is too short
 pub long-after : (l : Lent) (o : Outputs) (c : Call) (s : Reference) → Long l s → Long l (referenceStep c (lengthsOf l o) s .next)
-unfolding referenceStep tells foretells lengthsOf opening isOpen withQuote withWatched withPairOf tooShort shortLoan shortTables
+unfolding referenceStep tells foretells tellsBoth lengthsOf opening isOpen withQuote withWatched withPairOf tooShort shortLoan shortTables
 long-after l o (Open d N directions) s h =
     either-way (Long l) _ (opening d N directions) s (λ e _. zero-passed _ _ _ (zero-passed _ _ _ e .1) .0) h
 long-after l o (Quote x) s h = either-way (Long l) _ (withQuote s x) s (λ _. h) h
@@ -48,6 +48,7 @@ long-after l o (Pair n1 n2) s h = either-way (Long l) _ (withPairOf s n1 n2) s (
 long-after l o Unpair s h = either-way (Long l) _ (withPairOf s 0 0) s (λ _. h) h
 long-after l o Due s h = either-way (Long l) _ s s (λ _. h) h
 long-after l o (Preview x) s h = h
+long-after l o (Both x n) s h = either-way (Long l) _ _ s (λ _. either-way (Long l) _ (withQuote s x) s (λ _. h) h) h
 
 module _ (s : Reference) (l kept : Lent) (o : Outputs) (f : Invariant s kept) (enough : shortLoan (l .tables) (l .watches) (s .dimensions) (s .capacity) ≡ false) where
   -- the rows are at most N

@@ -3,6 +3,7 @@ pub mod Replying
 pub mod Desks
 pub mod Records
 pub mod Quotes
+pub mod Short
 pub mod Tables
 pub mod Torn
 pub mod Sound
@@ -11,6 +12,7 @@ pub mod Opening
 pub mod Written
 pub mod Quoting
 pub mod Watching
+pub mod Both
 pub mod Pairing
 pub mod Replay
 pub mod Lengths
@@ -18,3 +20,4 @@ pub mod Reached
 pub mod ChangeFrames
 pub mod ChangesFit
 pub mod QuoteUntorn
+pub mod LookAfter

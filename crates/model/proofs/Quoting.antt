@@ -28,7 +28,7 @@ use Rattle.model.proofs.Simulation.{Invariant, Agree, referenceWith, bo
 
 module _ (s : Reference) (l : Lent) (f : Invariant s l) (x : List ℕ) where
   -- the reference model with the quote
-  abbrev s' : Reference
+  abbrev pub s' : Reference
   s' = withQuote s x
 
   -- the quotes of d columns, and one more
@@ -48,28 +48,28 @@ module _ (s : Reference) (l : Lent) (f : Invariant s l) (x : List ℕ) where
   unfolding quoteRows headOf
   rows-are = rw (rows-read s l f) (sym (rows-after-quote s x (some-capacity s l f)))
 
-  head-is : newest s < lastPosition → quoteHead (headOf s) x (l .tables) (l .watches) ≡ headOf s'
+  pub head-is : newest s < lastPosition → quoteHead (headOf s) x (l .tables) (l .watches) ≡ headOf s'
   unfolding quoteHead quoteRows headOf
   head-is h = rw (rows-read s l f) (head-after-quote s x (some-capacity s l f) h)
 
   -- the book model writes the same
-  bytes-are : newest s < lastPosition → quoteBytes (headOf s) x (l .tables) (l .watches) ≡ written s x
+  pub bytes-are : newest s < lastPosition → quoteBytes (headOf s) x (l .tables) (l .watches) ≡ written s x
   unfolding quoteBytes
   bytes-are h = rw (head-is h, rows-are, rows-read s l f, watches-read s l f) (written-is s x (f .watches) (f .pair))
 
   -- ---- what is left
 
   -- what is lent, with the book model's rows after the quote
-  abbrev relent : Lent
+  abbrev pub relent : Lent
   relent = record { tables = filled (s .dimensions) (s .capacity) (quoteRows (headOf s) x (l .tables) (l .watches)) (l .tables); watches = l .watches }
 
-  shown-after : shown s' l ≡ relent
+  pub shown-after : shown s' l ≡ relent
   unfolding withQuote isOpen
   shown-after = shown-opened s' l (f .settings) ∙ rw (f .records, rows-are)
 
   module _ (wide : length x ≡ s .dimensions) (room : newest s < lastPosition) where
     -- the invariant holds after an accepted quote
-    invariant : Invariant s' relent
+    pub invariant : Invariant s' relent
     unfolding withQuote isOpen shortLoan
     invariant =
         let bounded = rows-bounded s' (some-capacity s l f) in
@@ -89,17 +89,17 @@ module _ (s : Reference) (l : Lent) (f : Invariant s l) (x : List ℕ) where
 
   module _ (o : Outputs) where
     -- the refusals of a quote
-    abbrev refusals : List (Bool × ℕ)
+    abbrev pub refusals : List (Bool × ℕ)
     refusals =
         (not (eqb (length x) (s .dimensions)), number ColumnCount) ∷ (leb lastPosition (newest s), number TapeFull)
         ∷ (ltb (length (o .bytes)) changeRoom, number ShortOutput) ∷ []
 
     -- the reference model's answer
-    abbrev answer : ℕ
+    abbrev pub answer : ℕ
     answer = firstOf ((not (isOpen s), number Settings) ∷ refusals)
 
     -- the book model's answer is the same
-    answers : quoteAnswer (headOf s) x (l .tables) (l .watches) (length (o .bytes)) ≡ answer
+    pub answers : quoteAnswer (headOf s) x (l .tables) (l .watches) (length (o .bytes)) ≡ answer
     unfolding quoteAnswer headOf
     answers = judged-watchful s l f refusals refusals refl
 

@@ -7,20 +7,22 @@ use Rattle.lists.specs.Lists.{filter, laid}
 use Rattle.refusals.specs.Refusals.{firstOf, granted}
 use Rattle.head.specs.Heads.{settingsHold}
 use Rattle.model.specs.Rows.{liveRows}
-use Rattle.model.specs.Reference.{Reference, unopened, headOf, isOpen, tells, foretells, referenceStep}
-use Rattle.model.specs.Book.{answerOf, watchfulAnswer, replyOf, quoteAnswer, quoteReply, quoteTables, quoteOut, previewReply, previewCounts, previewOut, lookAnswer, lookReply, lookOut, pastAnswer, pastReply, pastOut, watchAnswer, watchReply, watchWatches, watchOut, endAnswer, endReply, endWatches, pairAnswer, pairReply, pairOut, unpairAnswer, unpairReply, dueAnswer, dueReply, dueOut}
-use Rattle.model.specs.Calls.{Call, Open, Quote, Look, Watch, End, Past, Pair, Unpair, Due, Preview, Outputs, Lending, Lent, Seen, World, bookSeen, headAfter, worldAfter, bookStep, lengthsOf, shown, Expected, expectedStep, runs, worldFirst, expectedFirst}
+use Rattle.model.specs.Reference.{Reference, unopened, headOf, isOpen, tells, foretells, tellsBoth, referenceStep}
+use Rattle.model.specs.Book.{answerOf, watchfulAnswer, replyOf, quoteAnswer, quoteReply, quoteTables, quoteOut, previewReply, previewCounts, previewOut, bothAnswer, bothReply, bothListed, bothTables, bothOut, bothCells, lookAnswer, lookReply, lookOut, pastAnswer, pastReply, pastOut, watchAnswer, watchReply, watchWatches, watchOut, endAnswer, endReply, endWatches, pairAnswer, pairReply, pairOut, unpairAnswer, unpairReply, dueAnswer, dueReply, dueOut}
+use Rattle.model.specs.Calls.{Call, Open, Quote, Look, Watch, End, Past, Pair, Unpair, Due, Preview, Both, Outputs, Lending, Lent, Seen, World, bookSeen, headAfter, worldAfter, bookStep, lengthsOf, shown, Expected, expectedStep, runs, worldFirst, expectedFirst}
 use Rattle.model.proofs.Sound.{rows-none}
 use Rattle.model.proofs.Simulation.{Invariant, Simulation, Agree, referenceWith, bookWith, simulation-by}
 use Rattle.model.proofs.Opening.{opens}
 use Rattle.model.proofs.Quoting.{quotes, previews}
 use Rattle.model.proofs.Watching.{looks, watches, ends, looks-back}
+use Rattle.model.proofs.Both.{both}
 use Rattle.model.proofs.Pairing.{pairs, unpairs, looks-due}
 
 -- before the first accepted opening every call but an opening is refused by both models
 unopened-agrees : (c : Call) (o : Outputs) (l : Lent) → Agree c o (referenceWith unopened l) (bookWith unopened l)
-unfolding bookSeen headAfter worldAfter bookStep expectedStep referenceStep tells foretells lengthsOf laid shown isOpen settingsHold headOf firstOf granted
+unfolding bookSeen headAfter worldAfter bookStep expectedStep referenceStep tells foretells tellsBoth lengthsOf laid shown isOpen settingsHold headOf firstOf granted
     answerOf watchfulAnswer replyOf quoteAnswer quoteReply quoteTables quoteOut previewReply previewCounts previewOut
+    bothAnswer bothReply bothListed bothTables bothOut bothCells
     lookAnswer lookReply lookOut pastAnswer pastReply pastOut
     watchAnswer watchReply watchWatches watchOut endAnswer endReply endWatches
     pairAnswer pairReply pairOut unpairAnswer unpairReply dueAnswer dueReply dueOut
@@ -34,6 +36,7 @@ unopened-agrees (Pair n1 n2) o l = (refl, record { head = refl; lent = refl; sin
 unopened-agrees Unpair o l = (refl, record { head = refl; lent = refl; since = inl refl })
 unopened-agrees Due o l = (refl, record { head = refl; lent = refl; since = inl refl })
 unopened-agrees (Preview x) o l = (refl, record { head = refl; lent = refl; since = inl refl })
+unopened-agrees (Both x n) o l = (refl, record { head = refl; lent = refl; since = inl refl })
 
 opened-agrees : (c : Call) (o : Outputs) (s : Reference) (l : Lent) → Invariant s l → Agree c o (referenceWith s l) (bookWith s l)
 opened-agrees (Open d N directions) o s l f = opens d N directions l o s (inr f)
@@ -46,6 +49,7 @@ opened-agrees (Pair n1 n2) o s l f = pairs s l f n1 n2 o
 opened-agrees Unpair o s l f = unpairs s l f o
 opened-agrees Due o s l f = looks-due s l f o
 opened-agrees (Preview x) o s l f = previews s l f x o
+opened-agrees (Both x n) o s l f = both s l f x n o
 
 -- every call on a book that simulates the reference model is seen alike, and leaves such a book
 pub call-agrees : (c : Call) (o : Outputs) (k : Expected) (w : World) → Simulation k w → Agree c o k w

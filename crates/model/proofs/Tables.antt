@@ -2,16 +2,17 @@
 use mathlib.Core.Path.{_≡_, refl, sym, ap, ap₂, _∙_}
 use Prim.Native.Nat.{ℕ, zero, suc, _*_, _≤_}
 use native.Mathlib.Nat.{zero-mul, suc-mul, add-comm, mul-le-mul-right}
+use native.Mathlib.Omega.{arith}
 use mathlib.Core.Bool.{false, _||_}
 use mathlib.Core.List.{List, [], _∷_, _++_, map, List·Memᴰ, List·Memᴰ·head, List·Memᴰ·tail, append-assoc}
 use lib.Dec.{ltb}
-use lib.ListN.{length, getD, take, length-append, length-map}
-use lib.Seq.{take-at, drop-append-add}
+use lib.ListN.{length, getD, take, drop, length-append, length-drop, length-map}
+use lib.Seq.{length-take-le, take-at, drop-append-add}
 use borrow.Author.Tests.{ltb-false}
 use Rattle.lists.specs.Lists.{flat, run, padded}
 use Rattle.lists.proofs.Booleans.{none-left, none-right}
-use Rattle.lists.proofs.Runs.{length-run}
-use Rattle.lists.proofs.Members.{map-same-mem}
+use Rattle.lists.proofs.Runs.{length-run, of-run}
+use Rattle.lists.proofs.Members.{of-map, map-same-mem}
 use Rattle.lists.proofs.Writing.{length-padded, padded-again}
 use Rattle.model.specs.Rows.{Row, Tables, rowAt, rowsIn, filled}
 use Rattle.model.specs.Book.{shortTables}
@@ -110,3 +111,13 @@ module _ (d : ℕ) where
 pub length-read : (d k : ℕ) (t : Tables) → length (rowsIn d k t) ≡ k
 unfolding rowsIn
 length-read d k t = length-map (run 0 k) (rowAt d t) ∙ length-run 0 k
+
+-- rows that are read have d columns
+pub read-fit : (d N k : ℕ) (t : Tables) → k ≤ N → N * d ≤ length (t .columns) → Fit d (rowsIn d k t)
+unfolding rowsIn rowAt
+read-fit d N k t h room r m =
+    let p = of-map (rowAt d t) r (run 0 k) m in
+    let i = p .0 in
+    let b = of-run 0 k i (p .1) in
+    let fits : suc i * d ≤ N * d = mul-le-mul-right d (omega arith) in
+    rw (p .2) (length-take-le d (drop (i * d) (t .columns)) (simp length-drop (omega (arith, fits, suc-mul i d))))

@@ -28,7 +28,7 @@ head-rewatched s ws = refl
 
 module _ (s : Reference) (l : Lent) (f : Invariant s l) (n : ℕ) where
   -- the output is too short for these positions
-  abbrev short : List ℕ → List ℕ → List (Bool × ℕ)
+  abbrev pub short : List ℕ → List ℕ → List (Bool × ℕ)
   short out cells = (ltb (length out) (length cells), number ShortOutput) ∷ []
 
   list-read : outside s n ≡ false → listOf (headOf s) (bookRows (headOf s) (l .tables)) n ≡ skylineOf s n
@@ -38,14 +38,14 @@ module _ (s : Reference) (l : Lent) (f : Invariant s l) (n : ℕ) where
 
   module _ (o : Outputs) where
     -- the reference model's answer
-    abbrev look-answer : ℕ
+    abbrev pub look-answer : ℕ
     look-answer = firstOf ((not (isOpen s), number Settings) ∷ (outside s n, number WindowSize) ∷ short (o .cells) (skylineOf s n))
 
-    look-cells : outside s n ≡ false → lookCells (headOf s) n (l .tables) ≡ skylineOf s n
+    pub look-cells : outside s n ≡ false → lookCells (headOf s) n (l .tables) ≡ skylineOf s n
     unfolding lookCells
     look-cells = list-read
 
-    look-answers : lookAnswer (headOf s) n (l .tables) (length (o .cells)) ≡ look-answer
+    pub look-answers : lookAnswer (headOf s) n (l .tables) (length (o .cells)) ≡ look-answer
     unfolding lookAnswer outOfRange headOf outside
     look-answers =
         judged s l f ((outside s n, number WindowSize) ∷ short (o .cells) (lookCells (headOf s) n (l .tables))) ((outside s n, number WindowSize) ∷ short (o .cells) (skylineOf s n))

@@ -194,6 +194,37 @@ module _ (h : Head) (n : ℕ) (t : Tables) where
   unfoldable pub lookOut : List ℕ → List ℕ
   lookOut out = granted (lookAnswer (length out)) (laid lookCells out) out
 
+-- ---- quote and look in one
+module _ (h : Head) (x : List ℕ) (n : ℕ) (t : Tables) (ws : List ℕ) where
+  -- the positions of the list of n after the quote
+  unfoldable pub bothList : ℕ → List ℕ
+  bothList room = lookCells (quoteHead h x t ws) n (quoteTables h x t ws room)
+
+  -- the answer of a quote and look with this room for changes and for positions: as the quote's, then as the look's on the book after it
+  unfoldable pub bothAnswer : ℕ → ℕ → ℕ
+  bothAnswer room space =
+      granted (quoteAnswer h x t ws room) (lookAnswer (quoteHead h x t ws) n (quoteTables h x t ws room) space) (quoteAnswer h x t ws room)
+
+  -- what they hand back: if accepted the next head and the quote's count of bytes
+  unfoldable pub bothReply : ℕ → ℕ → Outcome
+  bothReply room space = replyOf (bothAnswer room space) h (quoteHead h x t ws) (length (quoteBytes h x t ws))
+
+  -- the look's count of positions
+  unfoldable pub bothListed : ℕ → ℕ → ℕ
+  bothListed room space = granted (bothAnswer room space) (length (bothList room)) 0
+
+  -- the tables after them: the quote's, or as they were
+  unfoldable pub bothTables : ℕ → ℕ → Tables
+  bothTables room space = granted (bothAnswer room space) (quoteTables h x t ws room) t
+
+  -- the output for frames after them
+  unfoldable pub bothOut : List ℕ → ℕ → List ℕ
+  bothOut out space = granted (bothAnswer (length out) space) (quoteOut h x t ws out) out
+
+  -- the output for positions after them
+  unfoldable pub bothCells : ℕ → List ℕ → List ℕ
+  bothCells room cells = granted (bothAnswer room (length cells)) (laid (bothList room) cells) cells
+
 -- ---- past look
 module _ (h : Head) (n1 n2 : ℕ) (t : Tables) where
   -- the positions of the past list of n1 and n2

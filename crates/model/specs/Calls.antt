@@ -12,7 +12,7 @@ use Rattle.refusals.specs.Refusals.{granted}
 use Rattle.replies.specs.Replies.{Outcome}
 use Rattle.model.specs.Rows.{Row, Tables, filled, liveRows}
 use Rattle.model.specs.Reference.{Reference, unopened, Lengths, rowsOf, isOpen, referenceStep}
-pub use Rattle.model.specs.Reference.{Call, Open, Quote, Look, Watch, End, Past, Pair, Unpair, Due, Preview}
+pub use Rattle.model.specs.Reference.{Call, Open, Quote, Look, Watch, End, Past, Pair, Unpair, Due, Preview, Both}
 use Rattle.model.specs.Book
 
 -- what the outputs of a call hold: bytes for frames, cells for positions; a call writes into those that it uses, the other stays as lent
@@ -30,8 +30,8 @@ pub record Lent : Type 0 where
   pub tables : Tables
   pub watches : List ℕ
 
--- what is seen after a call: what it handed back, the row counts handed back beside it (live and held of a preview, none of any other
--- call), its outputs, and what was lent
+-- what is seen after a call: what it handed back, the counts handed back beside it (of a preview the live and the held rows, of a quote and look
+-- in one the positions, none of any other call), its outputs, and what was lent
 pub record Seen : Type 0 where
   pub outcome : Outcome
   pub counts : List ℕ
@@ -91,6 +91,14 @@ bookSeen (Preview x) o w =
     let room = length (o .bytes) in
     let outputs : Outputs = record { bytes = Book.previewOut (w .head) x t ws (o .bytes); cells = o .cells } in
     record { outcome = Book.previewReply (w .head) x t ws room; counts = Book.previewCounts (w .head) x t ws room; outputs = outputs; lent = w .lent }
+bookSeen (Both x n) o w =
+    let t = w .lent .tables in
+    let ws = w .lent .watches in
+    let room = length (o .bytes) in
+    let space = length (o .cells) in
+    let outputs : Outputs = record { bytes = Book.bothOut (w .head) x n t ws (o .bytes) space; cells = Book.bothCells (w .head) x n t ws room (o .cells) } in
+    let lent : Lent = record { tables = Book.bothTables (w .head) x n t ws room space; watches = ws } in
+    record { outcome = Book.bothReply (w .head) x n t ws room space; counts = Book.bothListed (w .head) x n t ws room space ∷ []; outputs = outputs; lent = lent }
 
 -- the head that the next call gets: the one handed back, unless by a refused opening
 unfoldable pub headAfter : Call → Outcome → Head → Head
@@ -104,6 +112,7 @@ headAfter (Pair n1 n2) outcome h = outcome .head
 headAfter Unpair outcome h = outcome .head
 headAfter Due outcome h = outcome .head
 headAfter (Preview x) outcome h = outcome .head
+headAfter (Both x n) outcome h = outcome .head
 
 -- the book after a call of which this was seen
 unfoldable pub worldAfter : Call → Seen → World → World

@@ -7,6 +7,7 @@ use Rattle.head.specs.declared.Head.{Head}
 use Rattle.head.specs.declared.Desk.{Desk}
 use Rattle.replies.specs.declared.Reply.{Reply}
 use Rattle.replies.specs.declared.Effect.{Effect}
+use Rattle.replies.specs.declared.BothReply.{BothReply}
 use Rattle.replies.specs.Replies.{outcome}
 use Rattle.model.specs.Rows.{Tables}
 use Rattle.model.specs.Book
@@ -73,3 +74,11 @@ pub record Previewed (h : Head) (x : List ℕ) (t : Tables) (ws before : List �
   pub reply : outcome (e .reply) ≡ Book.previewReply h x t ws (length before)
   pub counts : e .live ∷ e .held ∷ [] ≡ Book.previewCounts h x t ws (length before)
   pub out : after ≡ Book.previewOut h x t ws before
+
+-- what quote x and, behind it, a look at the list of n, in one, leave of tables t and of both outputs
+pub record QuotedLooked (h : Head) (x : List ℕ) (n : ℕ) (t : Tables) (ws before cells : List ℕ) (r : BothReply) (t' : Tables) (after cells' : List ℕ) : Type 0 where
+  pub reply : outcome (r .reply) ≡ Book.bothReply h x n t ws (length before) (length cells)
+  pub listed : r .listed ≡ Book.bothListed h x n t ws (length before) (length cells)
+  pub lent : t' ≡ Book.bothTables h x n t ws (length before) (length cells)
+  pub out : after ≡ Book.bothOut h x n t ws before (length cells)
+  pub positions : cells' ≡ Book.bothCells h x n t ws (length before) cells

@@ -150,7 +150,8 @@ unfoldable pub opening : ℕ → ℕ → ℕ → Reference
 opening d N directions = record { dimensions = d; capacity = N; directions = directions; quotes = []; watched = []; n1 = 0; n2 = 0 }
 
 -- a call on a book: an opening with d, N and directions; a quote with its columns; a look with its n; a desk's watch and its end with their n;
--- a look at a past list with its n1 and n2; a watch of the pair n1 and n2, its end, and what is due; a preview of a quote with its columns
+-- a look at a past list with its n1 and n2; a watch of the pair n1 and n2, its end, and what is due; a preview of a quote with its columns; a
+-- quote with its columns and, behind it, a look with its n, in one (02, 8/13)
 pub data Call : Type 0 where
   Open : ℕ → ℕ → ℕ → Call
   Quote : List ℕ → Call
@@ -162,6 +163,7 @@ pub data Call : Type 0 where
   Unpair : Call
   Due : Call
   Preview : List ℕ → Call
+  Both : List ℕ → ℕ → Call
 
 -- the lengths of what a call is lent: the four tables, the watch records, and the outputs for frames (bytes) and for positions (cells)
 pub record Lengths : Type 0 where
@@ -187,7 +189,8 @@ ample = record {
 }
 
 -- what the model tells of a call: 0 or the number of its refusal, the head and the count handed back, what is written at the start of
--- each output, the row counts handed back beside the head (live and held, of a preview), and the model after it
+-- each output, the counts handed back beside it (of a preview the live and the held rows, of a quote and look in one the positions), and the
+-- model after it
 pub record Told : Type 0 where
   pub number : ℕ
   pub head : Head
@@ -237,16 +240,35 @@ quoteTold x l s =
     ∷ (leb lastPosition (newest s), number TapeFull) ∷ (ltb (l .bytes) changeRoom, number ShortOutput) ∷ [])
     (headOf s) (length written) written [] next s
 
+-- what is told of a look, its refusals in 01's order
+abbrev lookTold : ℕ → Lengths → Reference → Told
+lookTold n l s =
+    let written = skylineOf s n in
+    tells ((not (isOpen s), number Settings) ∷ (outside s n, number WindowSize) ∷ (ltb (l .cells) (length written), number ShortOutput) ∷ [])
+    (headOf s) (length written) [] written s s
+
+-- a quote and look in one, by what is told of the quote, and of the look on the model after it: refused as the quote, then as the look, and
+-- where either is refused the model stays
+unfoldable pub tellsBoth : Told → Told → Reference → Told
+tellsBoth quoted looked s =
+    let refusal = granted (quoted .number) (looked .number) (quoted .number) in
+    record {
+      number = refusal;
+      head = granted refusal (quoted .head) (headOf s);
+      count = granted refusal (quoted .count) 0;
+      bytes = granted refusal (quoted .bytes) [];
+      cells = granted refusal (looked .cells) [];
+      counts = granted refusal (looked .count) 0 ∷ [];
+      next = granted refusal (quoted .next) s;
+    }
+
 -- one call of the reference model, its refusals in 01's order
 unfoldable pub referenceStep : Call → Lengths → Reference → Told
 referenceStep (Open d N directions) l s =
     tells ((not (settingsHold d N directions), number Settings) ∷ (tooShort l d N, number ShortLoan) ∷ [])
     (freshHead 0 0 0) 0 [] [] (opening d N directions) s
 referenceStep (Quote x) l s = quoteTold x l s
-referenceStep (Look n) l s =
-    let written = skylineOf s n in
-    tells ((not (isOpen s), number Settings) ∷ (outside s n, number WindowSize) ∷ (ltb (l .cells) (length written), number ShortOutput) ∷ [])
-    (headOf s) (length written) [] written s s
+referenceStep (Look n) l s = lookTold n l s
 referenceStep (Watch desk n) l s =
     let watch = watchOf desk n in
     let written = frames (map (join watch) (skylineOf s n)) in
@@ -275,3 +297,4 @@ referenceStep Due l s =
     tells ((not (isOpen s), number Settings) ∷ (ltb (l .cells) (length written), number ShortOutput) ∷ [])
     (headOf s) (length (dueOf s)) [] written s s
 referenceStep (Preview x) l s = foretells (quoteTold x l s) s
+referenceStep (Both x n) l s = let quoted = quoteTold x l s in tellsBoth quoted (lookTold n l (quoted .next)) s

@@ -1,14 +1,16 @@
-// The calls that write the tables, the opening and the quote, made on the parts of the buffers that are lent.
+// The calls that write the tables, the opening, the quote and the quote and look in one, made on the parts of the buffers that are lent.
 ghost use Prim.Native.Nat.{_≤_};
 use changed_by_value::RecordReply;
 use player_lines::Command;
 use player_lines::Line;
 use player_lines::quoted;
+use player_lines::quoted_behind;
 use player_state::Loan;
 use player_state::Seen;
 use player_state::State;
 use player_state::least;
 use refusals::Answer;
+use replies::BothReply;
 use replies::Reply;
 
 // Whether a reply accepts.
@@ -31,6 +33,13 @@ fn opened(state: State, made: RecordReply) -> State {
     now.showing(Seen::Bytes(reply))
 }
 
+// The state after a quote and look in one.
+fn listed(state: State, made: BothReply) -> State {
+    let reply = made.reply;
+    let now = state.replied(reply);
+    now.showing(Seen::Both(made))
+}
+
 // Makes the call of a line on the parts that are lent.
 fn write_lent(
     state: State,
@@ -40,6 +49,7 @@ fn write_lent(
     lower: &mut [u32],
     upper: &mut [u32],
     out: &mut [u8],
+    list: &mut [u32],
 ) -> State {
     let command = line.command;
     let n = line.numbers;
@@ -64,6 +74,24 @@ fn write_lent(
             let reply = by_value::quote(head, quote, columns, positions, lower, upper, held, out);
             state.replied(reply)
         }
+        Command::Both => {
+            let head = state.head;
+            let size = n[0];
+            let quote = quoted_behind(&n, line.count);
+            let made = by_value::both(
+                head,
+                quote,
+                size,
+                columns,
+                positions,
+                lower,
+                upper,
+                held,
+                out,
+                list,
+            );
+            listed(state, made)
+        }
         _ => state,
     }
 }
@@ -76,9 +104,10 @@ fn lent(
     lower: usize,
     upper: usize,
     out: usize,
+    cells: usize,
 ) -> Loan
     ensures { λ r. ⌜ (r .columns ≤ columns) × (r .positions ≤ positions) × (r .lower ≤ lower) × (r .upper ≤ upper)
-        × (r .out ≤ out) ⌝ }
+        × (r .out ≤ out) × (r .cells ≤ cells) ⌝ }
 {
     Loan {
         columns: least(loan.columns, columns),
@@ -86,6 +115,7 @@ fn lent(
         lower: least(loan.lower, lower),
         upper: least(loan.upper, upper),
         out: least(loan.out, out),
+        cells: least(loan.cells, cells),
     }
 }
 
@@ -98,6 +128,7 @@ pub fn write(
     lower: &mut [u32],
     upper: &mut [u32],
     out: &mut [u8],
+    list: &mut [u32],
 ) -> State {
     let loan = lent(
         state.loan,
@@ -106,12 +137,14 @@ pub fn write(
         lower.len(),
         upper.len(),
         out.len(),
+        list.len(),
     );
     let c = loan.columns;
     let p = loan.positions;
     let l = loan.lower;
     let u = loan.upper;
     let o = loan.out;
+    let k = loan.cells;
     write_lent(
         state,
         line,
@@ -120,5 +153,6 @@ pub fn write(
         &mut lower[..l],
         &mut upper[..u],
         &mut out[..o],
+        &mut list[..k],
     )
 }

@@ -5,6 +5,7 @@ mod words;
 use head::Desk;
 pub use words::front;
 pub use words::quoted;
+pub use words::quoted_behind;
 pub use words::read_line;
 
 // What a line asks for; of a watch and its end, whose it is. No line has come, or it is one that the player cannot take.
@@ -13,6 +14,7 @@ pub enum Command {
     Unread,
     Open,
     Quote,
+    Both,
     Preview,
     Look,
     Past,
@@ -28,7 +30,8 @@ pub enum Command {
     Show,
 }
 
-// What a line names, by number: a table, the output, the n of the records or their desks; 0 where it names none.
+// What a line names, by number: a table, the output, the cells for the look behind a quote in one, the n of the records or their desks; 0 where
+// it names none.
 pub const COLUMNS: u64 = 1;
 
 pub const POSITIONS: u64 = 2;
@@ -39,9 +42,11 @@ pub const UPPER: u64 = 4;
 
 pub const OUT: u64 = 5;
 
-pub const WATCHES: u64 = 6;
+pub const CELLS: u64 = 6;
 
-pub const DESKS: u64 = 7;
+pub const WATCHES: u64 = 7;
+
+pub const DESKS: u64 = 8;
 
 // A line as it was read: its numbers with zeros behind them, and how many there are.
 pub struct Line {

@@ -146,25 +146,26 @@ fn numbers_from(line: &[u8], place: usize) -> Numbers {
 // The command that a word says; the calls on desk two's watches have a 2 behind the word.
 fn command_of(word: &[u8]) -> Command {
     let words =
-        b"open quote preview look past watch watch2 end end2 pair unpair due audit lend cell head show ";
+        b"open quote both preview look past watch watch2 end end2 pair unpair due audit lend cell head show ";
     match find_word(word, words) {
         1 => Command::Open,
         2 => Command::Quote,
-        3 => Command::Preview,
-        4 => Command::Look,
-        5 => Command::Past,
-        6 => Command::Watch(Desk::One),
-        7 => Command::Watch(Desk::Two),
-        8 => Command::End(Desk::One),
-        9 => Command::End(Desk::Two),
-        10 => Command::Pair,
-        11 => Command::Unpair,
-        12 => Command::Due,
-        13 => Command::Audit,
-        14 => Command::Lend,
-        15 => Command::Cell,
-        16 => Command::Head,
-        17 => Command::Show,
+        3 => Command::Both,
+        4 => Command::Preview,
+        5 => Command::Look,
+        6 => Command::Past,
+        7 => Command::Watch(Desk::One),
+        8 => Command::Watch(Desk::Two),
+        9 => Command::End(Desk::One),
+        10 => Command::End(Desk::Two),
+        11 => Command::Pair,
+        12 => Command::Unpair,
+        13 => Command::Due,
+        14 => Command::Audit,
+        15 => Command::Lend,
+        16 => Command::Cell,
+        17 => Command::Head,
+        18 => Command::Show,
         _ => Command::Unread,
     }
 }
@@ -183,6 +184,7 @@ fn fits(command: Command, count: usize) -> bool {
     match command {
         Command::None | Command::Unread => false,
         Command::Quote | Command::Preview => true,
+        Command::Both => 0 < count,
         Command::Open => count == 3,
         Command::Head => count == 8,
         Command::Past | Command::Pair | Command::Cell => count == 2,
@@ -197,7 +199,7 @@ pub fn read_line(line: &[u8]) -> Line {
     let command = command_of(part(line, 0, to));
     let place = numbers_start(line, command, to);
     let behind = std::num::wrapping_add_u64(to as u64, 1) as usize;
-    let names = b"columns positions lower upper out watches desks ";
+    let names = b"columns positions lower upper out cells watches desks ";
     let name = find_word(part(line, behind, place), names);
     let said = numbers_from(line, place);
     let numbers = said.numbers;
@@ -229,4 +231,13 @@ pub fn front<'a>(numbers: &'a [u32], count: usize) -> &'a [u32] {
 // The columns that a line quotes.
 pub fn quoted<'a>(numbers: &'a [u32; 12], count: usize) -> &'a [u32] {
     front(&numbers[..], count)
+}
+
+// The columns that a line quotes behind its n.
+pub fn quoted_behind<'a>(numbers: &'a [u32; 12], count: usize) -> &'a [u32] {
+    let all = &numbers[..];
+    if 0 < count {
+        return front(&all[1..], count - 1);
+    }
+    &all[..0]
 }

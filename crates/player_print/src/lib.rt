@@ -9,6 +9,7 @@ use player_output::put_word;
 use player_state::Seen;
 use player_state::State;
 use refusals::Answer;
+use replies::BothReply;
 use replies::Effect;
 use replies::Reply;
 use replies::Verdict;
@@ -163,6 +164,15 @@ fn put_list_reply(
     put_numbers(now, b'X', list, count, gathered)
 }
 
+// Prints what a quote and look in one hands back: its reply with the bytes that it wrote, and behind them the positions.
+fn put_both(print: Print, made: BothReply, out: &[u8], list: &[u32], gathered: &mut [u8]) -> Print {
+    let now = put_bytes_reply(print, made.reply, out, gathered);
+    if made.listed == 0 {
+        return now;
+    }
+    put_numbers(now, b'X', list, made.listed, gathered)
+}
+
 // Prints what was seen of the line that was found, but for the tables; where none was found, writes out what is gathered.
 pub fn print_line(
     print: Print,
@@ -186,6 +196,7 @@ pub fn print_line(
         Seen::Bytes(reply) => put_bytes_reply(now, reply, out, gathered),
         Seen::Preview(effect) => put_preview(now, effect, out, gathered),
         Seen::List(reply, count) => put_list_reply(now, reply, list, count, gathered),
+        Seen::Both(made) => put_both(now, made, out, list, gathered),
         Seen::Verdict(verdict) => put_verdict(now, verdict, gathered),
         _ => now,
     }

@@ -7,6 +7,7 @@ use head::Head;
 use head::Watch;
 pub use poking::begin;
 pub use poking::poke;
+use replies::BothReply;
 use replies::Effect;
 use replies::Reply;
 use replies::Verdict;
@@ -15,24 +16,27 @@ use sizes::COLUMN_CELLS;
 use sizes::PLACES;
 
 // What is to be printed of a line: nothing, that it cannot be taken, a reply with bytes, what a preview hands back with
-// bytes, a reply with so many cells of a list, a verdict, or the tables.
+// bytes, a reply with so many cells of a list, what a quote and look in one hands back with both, a verdict, or the tables.
 pub enum Seen {
     Nothing,
     Unread,
     Bytes(Reply),
     Preview(Effect),
     List(Reply, usize),
+    Both(BothReply),
     Verdict(Verdict),
     Tables,
 }
 
-// How many cells of each table are lent, and how many bytes of output, or cells to a look and to what is due.
+// How many cells of each table are lent, how many bytes of output, or cells to a look and to what is due, and how many cells to the look behind a
+// quote in one.
 pub struct Loan {
     pub columns: usize,
     pub positions: usize,
     pub lower: usize,
     pub upper: usize,
     pub out: usize,
+    pub cells: usize,
 }
 
 // The lesser of what is lent of a buffer and its length.
@@ -62,6 +66,7 @@ impl State {
                 lower: PLACES,
                 upper: PLACES,
                 out: CHANGE_BYTES,
+                cells: CHANGE_BYTES,
             },
             seen: Seen::Nothing,
         }

@@ -4,6 +4,7 @@ use crate::Seen;
 use crate::State;
 use head::Head;
 use head::Watch;
+use player_lines::CELLS;
 use player_lines::COLUMNS;
 use player_lines::Command;
 use player_lines::DESKS;
@@ -22,7 +23,7 @@ fn length(name: u64) -> usize {
     if name == COLUMNS {
         return COLUMN_CELLS;
     }
-    if name == OUT {
+    if (name == OUT) | (name == CELLS) {
         return CHANGE_BYTES;
     }
     PLACES
@@ -31,7 +32,7 @@ fn length(name: u64) -> usize {
 // Whether a line names a buffer that can be lent, and no more than its length.
 fn within(line: Line) -> bool {
     let numbers = line.numbers;
-    (COLUMNS <= line.name) & (line.name <= OUT) & (numbers[0] as usize <= length(line.name))
+    (COLUMNS <= line.name) & (line.name <= CELLS) & (numbers[0] as usize <= length(line.name))
 }
 
 // How much of a buffer is lent from a line on.
@@ -55,6 +56,7 @@ fn next_loan(loan: Loan, line: Line) -> Loan {
         lower: lent(line, LOWER, loan.lower),
         upper: lent(line, UPPER, loan.upper),
         out: lent(line, OUT, loan.out),
+        cells: lent(line, CELLS, loan.cells),
     }
 }
 

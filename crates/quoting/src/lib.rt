@@ -31,7 +31,7 @@ pub struct Entered {
 }
 
 // Enters an accepted quote by what was found.
-fn enter(
+pub fn enter(
     head: Head,
     found: Finding,
     places: &[u16],

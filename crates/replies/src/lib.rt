@@ -18,6 +18,13 @@ pub struct Effect {
     pub held: u32,
 }
 
+// What a quote and look in one hands back: the quote's answer, head and count of bytes, and how many positions the look wrote; refused, 0
+// for both counts.
+pub struct BothReply {
+    pub reply: Reply,
+    pub listed: usize,
+}
+
 // What the audit says of a saved book.
 pub enum Verdict {
     Yes,

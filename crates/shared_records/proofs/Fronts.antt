@@ -10,11 +10,12 @@ use lib.Seq.{take-take, take-nil}
 use Rattle.head.specs.declared.Head.{Head}
 use Rattle.replies.specs.declared.Reply.{Reply}
 use Rattle.replies.specs.declared.Effect.{Effect}
+use Rattle.replies.specs.declared.BothReply.{BothReply}
 use Rattle.head.specs.declared.Watch.{Watch}
 use Rattle.model.specs.Rows.{Tables}
-use Rattle.model.specs.Book.{shortLoan, standing, tornWatches, watchfulAnswer, quoteRows, quoteHead, quoteBytes, quoteAnswer, quoteReply, quoteTables, quoteOut, previewReply, previewCounts, previewOut, pairBytes, pairAnswer, pairReply, pairOut, unpairAnswer, unpairReply}
+use Rattle.model.specs.Book.{shortLoan, standing, tornWatches, watchfulAnswer, quoteRows, quoteHead, quoteBytes, quoteAnswer, quoteReply, quoteTables, quoteOut, bothList, bothAnswer, bothReply, bothListed, bothTables, bothOut, bothCells, previewReply, previewCounts, previewOut, pairBytes, pairAnswer, pairReply, pairOut, unpairAnswer, unpairReply}
 use Rattle.watch_records.specs.Records.{recordNumber, watched, firstEight}
-use Rattle.model.specs.Promises.{Quoted, Previewed, Paired, Unpaired}
+use Rattle.model.specs.Promises.{Quoted, QuotedLooked, Previewed, Paired, Unpaired}
 
 -- as many numbers as there are records, of eight that are read off them
 pub lent-front : (ws : List ℕ) → take (length ws) (firstEight ws) ≡ take 8 ws
@@ -76,7 +77,20 @@ module _ (ys : List Watch) where
         out = m .out ∙ rw (front e, quote-front ws h x t, bytes-front ws h x t);
       }
 
-  -- so is a preview
+  -- so is a quote and look in one
+  pub both-records : (h : Head) (x : List ℕ) (n : ℕ) (t : Tables) {ns : List ℕ} → ns ≡ firstEight ws → {before cells : List ℕ} {r : BothReply} {t' : Tables} {after list : List ℕ}
+      → QuotedLooked h x n t (take (length ys) ns) before cells r t' after list → QuotedLooked h x n t ws before cells r t' after list
+  unfolding bothList bothAnswer bothReply bothListed bothTables bothOut bothCells quoteTables quoteOut quoteHead quoteRows
+  both-records h x n t e m =
+      record {
+        reply = m .reply ∙ rw (front e, quote-front ws h x t, bytes-front ws h x t);
+        listed = m .listed ∙ rw (front e, quote-front ws h x t);
+        lent = m .lent ∙ rw (front e, quote-front ws h x t);
+        out = m .out ∙ rw (front e, quote-front ws h x t, bytes-front ws h x t);
+        positions = m .positions ∙ rw (front e, quote-front ws h x t);
+      }
+
+  -- and a preview
   pub preview-records : (h : Head) (x : List ℕ) (t : Tables) {ns : List ℕ} → ns ≡ firstEight ws → {before : List ℕ} {r : Effect} {after : List ℕ} → Previewed h x t (take (length ys) ns) before r after → Previewed h x t ws before r after
   unfolding previewReply previewCounts previewOut quoteReply quoteOut quoteHead quoteRows
   preview-records h x t e m =

@@ -8,12 +8,15 @@ use denote.Struct.Laws as LL
 use Rattle.head.specs.declared.Head.{Head}
 use Rattle.replies.specs.declared.Reply.{Reply}
 use Rattle.replies.specs.declared.Effect.{Effect}
+use Rattle.replies.specs.declared.BothReply.{BothReply}
 use Rattle.head.proofs.Head as Hd
 use Rattle.head.proofs.Head.Laws as Hd′
 use Rattle.replies.proofs.Reply as R
 use Rattle.replies.proofs.Reply.Laws as R′
 use Rattle.replies.proofs.Effect as E
 use Rattle.replies.proofs.Effect.Laws as E′
+use Rattle.replies.proofs.BothReply as B
+use Rattle.replies.proofs.BothReply.Laws as B′
 use Rattle.lending.specs.declared.Judgement.{Judgement}
 use Rattle.lending.proofs.Judgement as J
 use Rattle.lending.proofs.Judgement.Laws as J′
@@ -27,6 +30,9 @@ machines r = LL.vals R.the-type R′.the-laws r
 abbrev pub effect-machines : Effect → List Val
 effect-machines e = LL.vals E.the-type E′.the-laws e
 
+abbrev pub both-machines : BothReply → List Val
+both-machines r = LL.vals B.the-type B′.the-laws r
+
 -- a value that a call hands back is one as it is spelled
 spelled-as : (T : Declared) (laws : LL.Laws T) (d : T .D) (c : Val) → Is (row T) d (c ∷ []) → Is (row T) d (LL.vals T laws d)
 spelled-as T laws d c has = subst (λ (us : List Val). Is (row T) d us) (LL.tells T laws d (c ∷ []) has) has
@@ -38,6 +44,10 @@ spelled = spelled-as R.the-type R′.the-laws
 -- an effect
 pub effect-spelled : (e : Effect) (c : Val) → Is E.the-row e (c ∷ []) → Is E.the-row e (effect-machines e)
 effect-spelled = spelled-as E.the-type E′.the-laws
+
+-- what a quote and look in one hands back
+pub both-spelled : (r : BothReply) (c : Val) → Is B.the-row r (c ∷ []) → Is B.the-row r (both-machines r)
+both-spelled = spelled-as B.the-type B′.the-laws
 
 -- and the reply of a judgement
 pub replied : (j : Judgement) (c : Val) → Is J.the-row j (c ∷ []) → Is R.the-row (j .reply) (machines (j .reply))

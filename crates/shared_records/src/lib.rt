@@ -1,12 +1,14 @@
-// The calls that read the lent watch records and change none: the quote, its preview, the watch of the pair and its end.
+// The calls that read the lent watch records and change none: the quote, the quote and look in one, the preview, the watch of the pair and its end.
 ghost use Rattle.watch_records.specs.Records.{watched};
-ghost use Rattle.model.specs.Promises.{tables, Quoted, Previewed, Paired, Unpaired};
+ghost use Rattle.model.specs.Promises.{tables, Quoted, Previewed, QuotedLooked, Paired, Unpaired};
 use head::Head;
 use head::Watch;
+use lending::both_lent;
 use lending::pair_lent;
 use lending::preview_lent;
 use lending::quote_lent;
 use lending::unpair_lent;
+use replies::BothReply;
 use replies::Effect;
 use replies::Reply;
 use watch_records::numbers;
@@ -41,6 +43,43 @@ pub fn quote(
         before,
         lent,
         out,
+    )
+}
+
+// Takes a quote as `quote` does and, on the book after it, writes the positions of the list of n into cells as `look` does: both, or neither
+// where either is refused. Hands back the quote's reply, and how many positions were written.
+pub fn both(
+    head: Head,
+    quote: &[u32],
+    n: u32,
+    columns: &mut [u32],
+    positions: &mut [u32],
+    lower_ends: &mut [u32],
+    upper_ends: &mut [u32],
+    watches: &[Watch],
+    out: &mut [u8],
+    cells: &mut [u32],
+) -> BothReply
+    ensures { λ r. ⌜ QuotedLooked head (now (quote .entry)) n
+        (tables (now (columns .entry)) (now (positions .entry)) (now («lower_ends» .entry)) (now («upper_ends» .entry)))
+        (watched (now (watches .entry))) (now (out .entry)) (now (cells .entry)) r
+        (tables (now (columns .exit)) (now (positions .exit)) (now («lower_ends» .exit)) (now («upper_ends» .exit)))
+        (now (out .exit)) (now (cells .exit)) ⌝ }
+{
+    let before = numbers(watches);
+    let lent = watches.len();
+    both_lent(
+        head,
+        quote,
+        n,
+        columns,
+        positions,
+        lower_ends,
+        upper_ends,
+        before,
+        lent,
+        out,
+        cells,
     )
 }
 

@@ -1,5 +1,5 @@
 -- One frame played: what it wants in its place, its call, and what the player hands back.
-use mathlib.Core.Path.{_≡_, refl, sym, ap, subst, _∙_}
+use mathlib.Core.Path.{_≡_, refl, sym, ap, _∙_}
 use Prim.Native.Nat.{ℕ}
 use mathlib.Core.Bool.{Bool, false}
 use mathlib.Core.List.{List}
@@ -7,7 +7,6 @@ use lib.Dec.{eqb}
 use Rattle.head.specs.declared.Head.{Head}
 use Rattle.frames.specs.Frames.{readAt}
 use Rattle.model.specs.Rows.{Tables}
-use Rattle.quoting.specs.Entered.{Slid}
 use Rattle.asking.specs.declared.Wanted.{Wanted}
 use Rattle.asking.specs.declared.Wanted.the-variants.{Quote, Look, Past, Watch, End, Pair, Unpair, Open, Nothing, Refused, Misplaced}
 use Rattle.asking.specs.Asking.{asked}
@@ -18,12 +17,12 @@ use Rattle.tape_model.specs.Play.{Played, playAsked, playAt, Player, bookMake, 
 use Rattle.turn_lines.specs.declared.Turn.{Turn}
 use Rattle.turn_lines.specs.Turns.{player, Effect, made, refusedWith}
 use Rattle.turn_lines.specs.declared.Step.{Step}
-use Rattle.tape_turns.specs.Making.{taken, tablesOf, Makes}
-use Rattle.tape.specs.Steps.{Stepped, tablesLeft, StepMade}
+use Rattle.tape_turns.specs.Making.{taken, Makes}
+use Rattle.tape.specs.Steps.{SteppedTo, StepMade}
 use Rattle.tape.specs.declared.SlidStep.{SlidStep}
 
 -- what is played with this effect
-abbrev playedAs : Effect → ℕ → Bool → Played Player
+abbrev pub playedAs : Effect → ℕ → Bool → Played Player
 playedAs one next over = record { number = one .number; text = one .text; state = one .state; next = next; over = over }
 
 -- what is wanted is played as it is taken
@@ -43,6 +42,30 @@ wanted-played (Refused refusal) columns next k = refl
 wanted-played Misplaced columns next k = refl
 
 -- ---- the step
+
+-- the step of a turn that was made, by what is played
+pub step-to : {one : Played Player} {effect : Effect} {next : ℕ} {over : Bool} → one ≡ playedAs effect next over → {turn : Turn} {step : Step}
+    → step ≡ record { answer = turn .answer; over = over; next = next; count = turn .count; head = turn .head; watches = turn .watches }
+    → {reachable : Bool} {by : ℕ} {before : List ℕ} {t' : Tables} {bytes' after : List ℕ} → Makes reachable effect before (record { turn = turn; by = by }) t' bytes' after
+    → StepMade reachable one before (record { step = step; by = by }) t' bytes' after
+step-to p {turn = turn} z m =
+    let u = m .turned in
+    rw (p, z) record {
+      stepped = record {
+        answer = u .answer;
+        over = refl;
+        next = refl;
+        count = u .count;
+        head = u .head;
+        watches = u .watches;
+        lent = refl;
+        bytes = u .bytes;
+        text = u .text;
+      };
+      moved = m .moved;
+      slides = m .slides;
+    }
+
 module _ (tape : List ℕ) (place : ℕ) (h : Head) (t : Tables) (ws bytes before : List ℕ) {w : Wanted} {x : List ℕ} {next : ℕ} (v : WishAt tape place h w x next) where
   -- the player before the frame
   abbrev k : Player
@@ -63,36 +86,16 @@ module _ (tape : List ℕ) (place : ℕ) (h : Head) (t : Tables) (ws bytes befor
       ∙ ap ends (sym wanted-there) in
       rw (over, ← wanted-there, ← (v .next)) (wanted-played w x next k)
 
-  -- the tables that it leaves
-  tables-played : tablesLeft tape place k ≡ tablesOf (taken w x k)
-  tables-played = ap (λ (p : Played Player). p .state .world .lent .tables) played
-
-  module _ {turn : Turn} {step : Step} {t' : Tables} {bytes' after : List ℕ}
-      (z : step ≡ record { answer = turn .answer; over = eqb next place; next = next; count = turn .count; head = turn .head; watches = turn .watches }) where
-    -- the step of what was made
-    pub step-made : {reachable : Bool} {by : ℕ} → Makes reachable (taken w x k) before (record { turn = turn; by = by }) t' bytes' after
-        → StepMade reachable tape place k before (record { step = step; by = by }) t' bytes' after
-    step-made {by = by} m =
-        let u = m .turned in
-        rw z record {
-          stepped = record {
-            answer = rw played (u .answer);
-            over = rw played;
-            next = rw played;
-            count = rw played (u .count);
-            head = rw played (u .head);
-            watches = rw played (u .watches);
-            lent = refl;
-            bytes = rw played (u .bytes);
-            text = rw played (u .text);
-          };
-          moved = λ e. m .moved e ∙ sym tables-played;
-          slides = λ e. subst (λ (q : Tables). Slid (turn .head) q t' by) (sym tables-played) (m .slides e);
-        }
+  -- the step of what was made
+  pub step-made : {turn : Turn} {step : Step} {t' : Tables} {bytes' after : List ℕ}
+      → step ≡ record { answer = turn .answer; over = eqb next place; next = next; count = turn .count; head = turn .head; watches = turn .watches }
+      → {reachable : Bool} {by : ℕ} → Makes reachable (taken w x k) before (record { turn = turn; by = by }) t' bytes' after
+      → StepMade reachable (bookPlay tape place k) before (record { step = step; by = by }) t' bytes' after
+  step-made z m = step-to played z m
 
 -- where nothing is known of the tables, they are those of the book model
-pub step-anywhere : {tape : List ℕ} {place : ℕ} {k : Player} {before : List ℕ} {s : SlidStep} {t' : Tables} {bytes' after : List ℕ}
-    → StepMade false tape place k before s t' bytes' after → Stepped tape place k before (s .step) t' bytes' after
+pub step-anywhere : {one : Played Player} {before : List ℕ} {s : SlidStep} {t' : Tables} {bytes' after : List ℕ}
+    → StepMade false one before s t' bytes' after → SteppedTo one before (s .step) t' bytes' after
 step-anywhere m =
     let u = m .stepped in
     record {

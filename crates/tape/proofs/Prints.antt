@@ -12,14 +12,14 @@ use Rattle.model.specs.Rows.{Tables}
 use Rattle.model.specs.Reference.{Reference, Lengths, isOpen, unopened}
 use Rattle.model.specs.Calls.{Lent, Outputs, lengthsOf}
 use Rattle.asking.specs.Asking.{Asked, finished, unread, misplaced, request, asked}
-use Rattle.tape_model.specs.Play.{playAsked, playAt, print, referenceMake, Player, bookMake, begun, bookPlay}
+use Rattle.tape_model.specs.Play.{Played, playAsked, playAt, print, referenceMake, Player, bookMake, begun, bookPlay}
 use Rattle.tape_model.specs.Streams.{Streams, drops, fills}
 use Rattle.tape_model.proofs.Agrees.{Alike, at-first}
 use Rattle.tape_model.proofs.Streaming.{printed-in-pieces}
 use Rattle.tape_model.proofs.Sliding.{slide-alike, plays-alike, stops-alike}
 use Rattle.turn_lines.specs.Turns.{player}
 use Rattle.turn_lines.specs.declared.Step.{Step}
-use Rattle.tape.specs.Steps.{Stepped}
+use Rattle.tape.specs.Steps.{SteppedTo}
 use Rattle.tape.specs.Prints.{left, Prints, goes-on, ends, forgets, reads, slides}
 
 -- a player keeps its cells for positions
@@ -34,26 +34,26 @@ pub cells-kept : (tape : List ℕ) (place : ℕ) (k : Player) → bookPlay tape 
 unfolding playAt
 cells-kept tape place k = let read = readAt tape place in asked-cells (asked (begun k) (read .says) (read .columns)) (read .next) k
 
--- a step that met its contract played its frame: the text that it laid, and the player that it leaves, are the definition's
-module _ {tape before after bytes' : List ℕ} {place : ℕ} {k : Player} {r : Step} {t' : Tables} (m : Stepped tape place k before r t' bytes' after) where
-  pub its-text : take (r .count) after ≡ bookPlay tape place k .text
+-- a step that met its contract played its frames: the text that it laid, and the player that it leaves, are the definition's
+module _ {one : Played Player} {before after bytes' : List ℕ} {r : Step} {t' : Tables} (m : SteppedTo one before r t' bytes' after) where
+  pub its-text : take (r .count) after ≡ one .text
   unfolding laid
-  its-text = rw (m .count, m .text) (take-append-seam (bookPlay tape place k .text) (drop (length (bookPlay tape place k .text)) before))
+  its-text = rw (m .count, m .text) (take-append-seam (one .text) (drop (length (one .text)) before))
 
-  pub its-player : left k r t' bytes' ≡ bookPlay tape place k .state
-  its-player =
-      let next = bookPlay tape place k .state in
+  pub its-player : (k : Player) → one .state .outputs .cells ≡ k .outputs .cells → left k r t' bytes' ≡ one .state
+  its-player k e =
+      let next = one .state in
       rw (m .head, m .watches, m .lent, m .bytes)
-      (ap (λ (cells : List ℕ). let p : Player = record { world = next .world; outputs = record { bytes = next .outputs .bytes; cells = cells } } in p) (sym (cells-kept tape place k)))
+      (ap (λ (cells : List ℕ). let p : Player = record { world = next .world; outputs = record { bytes = next .outputs .bytes; cells = cells } } in p) (sym e))
 
 -- what is printed by steps that were made is what the reference model prints of the same pieces, on whatever tables that agree in the places
 -- of the book the player goes on
 prints-stream : (lengths : Lengths) {piece rest text : List ℕ} {place : ℕ} {k : Player} → Prints piece place k rest text → (s : Reference) → Alike lengths s k
     → Streams isOpen (referenceMake lengths) piece place s rest text
-prints-stream lengths (goes-on {k = k} h m o more) s v =
+prints-stream lengths (goes-on {piece = piece} {place = place} {k = k} h m o more) s v =
     rw (its-text m)
     (plays-alike lengths s k v h (sym (m .over) ∙ o)
-    (λ next w. rw (← (m .next)) (prints-stream lengths more next (rw (its-player m) w))))
+    (λ next w. rw (← (m .next)) (prints-stream lengths more next (rw (its-player m k (cells-kept piece place k)) w))))
 prints-stream lengths (ends {k = k} h m o) s v = rw (its-text m) (stops-alike lengths s k v h (sym (m .over) ∙ o))
 prints-stream lengths (forgets played p) s v = drops played (prints-stream lengths p s v)
 prints-stream lengths (reads more p) s v = fills more (prints-stream lengths p s v)

@@ -28,7 +28,7 @@ module _ (k : Player) (c : Reached (k .world)) where
   frame-reached tape place = asked-reached (asked (begun k) (readAt tape place .says) (readAt tape place .columns)) (readAt tape place .next)
 
 -- what playing one frame leaves
-pub step-reached : {tape : List ℕ} {place : ℕ} {h : Head} {t t' : Tables} {ws bytes before bytes' after : List ℕ} {r : Step}
+pub step-reached : (tape : List ℕ) (place : ℕ) (h : Head) (t : Tables) (ws bytes : List ℕ) {t' : Tables} {before bytes' after : List ℕ} {r : Step}
     → Stepped tape place (player h t ws bytes) before r t' bytes' after → Reached (world h t ws) → Reached (world (r .head) t' (r .watches))
-step-reached {tape} {place} {h} {t} {t'} {ws} {bytes} s c =
+step-reached tape place h t ws bytes s c =
     rw (s .head, s .watches, s .lent) (frame-reached (player h t ws bytes) c tape place)

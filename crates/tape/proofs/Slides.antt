@@ -14,7 +14,7 @@ use Rattle.model.specs.Calls.{Reached}
 use Rattle.model.specs.Promises.{world}
 use Rattle.claims.proofs.Places.{reached-in-places}
 use Rattle.quoting.specs.Entered.{later, Slid, stayed, slid}
-use Rattle.tape_model.specs.Play.{Player}
+use Rattle.tape_model.specs.Play.{Played, Player, bookPlay}
 use Rattle.tape_model.specs.Streams.{ready}
 use Rattle.turn_lines.specs.Turns.{player}
 use Rattle.turn_lines.specs.declared.Step.{Step}
@@ -41,12 +41,13 @@ slid-holds : {h : Head} {t u : Tables} {by : ℕ} → Slid h t u by → 0 < by �
 slid-holds (stayed e) l = absurd (omega arith)
 slid-holds (slid bounded holds same) l = holds
 
-module _ {tape : List ℕ} {place : ℕ} {h : Head} {t : Tables} {ws bytes before : List ℕ} {s : SlidStep} {t' : Tables} {bytes' after : List ℕ}
-    (m : StepMade true tape place (player h t ws bytes) before s t' bytes' after) where
-  -- what playing one frame leaves
-  pub left-reached : Reached (world h t ws) → Reached (world (s .step .head) (later (s .step .head .dimensions) (s .by) t') (s .step .watches))
-  left-reached c = slid-reached (m .slides refl) (step-reached (m .stepped) c)
+-- what playing one frame leaves
+pub left-reached : (tape : List ℕ) (place : ℕ) (h : Head) (t : Tables) (ws bytes : List ℕ) {before : List ℕ} {s : SlidStep} {t' : Tables} {bytes' after : List ℕ}
+    → StepMade true (bookPlay tape place (player h t ws bytes)) before s t' bytes' after → Reached (world h t ws)
+    → Reached (world (s .step .head) (later (s .step .head .dimensions) (s .by) t') (s .step .watches))
+left-reached tape place h t ws bytes m c = slid-reached (m .slides refl) (step-reached tape place h t ws bytes (m .stepped) c)
 
+module _ {one : Played Player} {before : List ℕ} {s : SlidStep} {t' : Tables} {bytes' after : List ℕ} (m : StepMade true one before s t' bytes' after) where
   pub left-bounded : s .by ≤ 1
   left-bounded = slid-bounded (m .slides refl)
 
@@ -64,7 +65,7 @@ slid-prints k r (slid bounded holds same) p = slides holds same p
 
 -- so a step that was made while the rows slide is one by which a player prints
 pub slid-goes-on : {piece rest text before after bytes' : List ℕ} {place : ℕ} {k : Player} {s : SlidStep} {t' : Tables} → (ready piece place ≡ true) ⊎ (rest ≡ [])
-    → StepMade true piece place k before s t' bytes' after → s .step .over ≡ false
+    → StepMade true (bookPlay piece place k) before s t' bytes' after → s .step .over ≡ false
     → Prints piece (s .step .next) (left k (s .step) (later (s .step .head .dimensions) (s .by) t') bytes') rest text
     → Prints piece place k rest (take (s .step .count) after ++ text)
 slid-goes-on {k = k} {s = s} h m o p = goes-on h (m .stepped) o (slid-prints k (s .step) (m .slides refl) p)

@@ -1,4 +1,4 @@
--- One frame played on lent tables, bytes and text: what the player hands back and what it leaves.
+-- Frames played on lent tables, bytes and text: what the player hands back and what it leaves.
 use mathlib.Core.Path.{_≡_}
 use Prim.Native.Nat.{ℕ}
 use mathlib.Core.Bool.{Bool, true, false}
@@ -8,28 +8,32 @@ use Rattle.lists.specs.Lists.{laid}
 use Rattle.refusals.specs.Refusals.{numberOf}
 use Rattle.model.specs.Rows.{Tables}
 use Rattle.quoting.specs.Entered.{Slid}
-use Rattle.tape_model.specs.Play.{Player, bookPlay}
+use Rattle.tape_model.specs.Play.{Played, Player, bookPlay}
 use Rattle.turn_lines.specs.declared.Step.{Step}
 use Rattle.tape.specs.declared.SlidStep.{SlidStep}
 
+-- what playing frames that come to this hands back, and leaves of tables, bytes and text
+pub record SteppedTo (one : Played Player) (before : List ℕ) (r : Step) (t' : Tables) (bytes' after : List ℕ) : Type 0 where
+  pub answer : numberOf (r .answer) ≡ one .number
+  pub over : r .over ≡ one .over
+  pub next : r .next ≡ one .next
+  pub count : r .count ≡ length (one .text)
+  pub head : r .head ≡ one .state .world .head
+  pub watches : r .watches ≡ one .state .world .lent .watches
+  pub lent : t' ≡ one .state .world .lent .tables
+  pub bytes : bytes' ≡ one .state .outputs .bytes
+  pub text : after ≡ laid (one .text) before
+
 -- what playing the frame at a place hands back, and leaves of tables, bytes and text
-pub record Stepped (tape : List ℕ) (place : ℕ) (k : Player) (before : List ℕ) (r : Step) (t' : Tables) (bytes' after : List ℕ) : Type 0 where
-  pub answer : numberOf (r .answer) ≡ bookPlay tape place k .number
-  pub over : r .over ≡ bookPlay tape place k .over
-  pub next : r .next ≡ bookPlay tape place k .next
-  pub count : r .count ≡ length (bookPlay tape place k .text)
-  pub head : r .head ≡ bookPlay tape place k .state .world .head
-  pub watches : r .watches ≡ bookPlay tape place k .state .world .lent .watches
-  pub lent : t' ≡ bookPlay tape place k .state .world .lent .tables
-  pub bytes : bytes' ≡ bookPlay tape place k .state .outputs .bytes
-  pub text : after ≡ laid (bookPlay tape place k .text) before
+abbrev pub Stepped : List ℕ → ℕ → Player → List ℕ → Step → Tables → List ℕ → List ℕ → Type 0
+Stepped tape place k = SteppedTo (bookPlay tape place k)
 
--- the tables that a frame leaves, by the book model
-abbrev pub tablesLeft : List ℕ → ℕ → Player → Tables
-tablesLeft tape place k = bookPlay tape place k .state .world .lent .tables
+-- the tables that frames leave, by the book model
+abbrev pub tablesLeft : Played Player → Tables
+tablesLeft one = one .state .world .lent .tables
 
--- what playing the frame at a place hands back, and leaves of bytes and text; the tables likewise
-pub record StepMade (reachable : Bool) (tape : List ℕ) (place : ℕ) (k : Player) (before : List ℕ) (s : SlidStep) (t' : Tables) (bytes' after : List ℕ) : Type 0 where
-  pub stepped : Stepped tape place k before (s .step) (tablesLeft tape place k) bytes' after
-  pub moved : reachable ≡ false → t' ≡ tablesLeft tape place k
-  pub slides : reachable ≡ true → Slid (s .step .head) (tablesLeft tape place k) t' (s .by)
+-- what playing frames that come to this hands back, and leaves of bytes and text; the tables likewise
+pub record StepMade (reachable : Bool) (one : Played Player) (before : List ℕ) (s : SlidStep) (t' : Tables) (bytes' after : List ℕ) : Type 0 where
+  pub stepped : SteppedTo one before (s .step) (tablesLeft one) bytes' after
+  pub moved : reachable ≡ false → t' ≡ tablesLeft one
+  pub slides : reachable ≡ true → Slid (s .step .head) (tablesLeft one) t' (s .by)

@@ -4,6 +4,7 @@ ghost use Prim.Native.Nat.{_≤_};
 ghost use lib.ListN.{length};
 ghost use Rattle.model.specs.Promises.{tables};
 ghost use Rattle.quoting.specs.Known.{Known};
+ghost use Rattle.tape_model.specs.Play.{bookPlay};
 ghost use Rattle.turn_lines.specs.Turns.{textBytes, player};
 ghost use Rattle.tape.specs.Steps.{Stepped, StepMade};
 use crate::CHANGE_BYTES;
@@ -32,9 +33,9 @@ pub fn play_known(
     requires { ⌜ textBytes ≤ length (now text) ⌝ }
     requires { ⌜ Known reachable head (tables (now columns) (now positions) (now «lower_ends») (now «upper_ends»))
         watches ⌝ }
-    ensures { λ r. ⌜ StepMade reachable (now (tape .entry)) place
+    ensures { λ r. ⌜ StepMade reachable (bookPlay (now (tape .entry)) place
         (player head (tables (now (columns .entry)) (now (positions .entry)) (now («lower_ends» .entry))
-        (now («upper_ends» .entry))) watches (now (bytes .entry))) (now (text .entry)) r
+        (now («upper_ends» .entry))) watches (now (bytes .entry)))) (now (text .entry)) r
         (tables (now (columns .exit)) (now (positions .exit)) (now («lower_ends» .exit)) (now («upper_ends» .exit)))
         (now (bytes .exit)) (now (text .exit)) ⌝ }
 {

@@ -18,8 +18,8 @@ use Rattle.head.specs.Heads.{lastPosition}
 use Rattle.refusals.proofs.Numbers.{zero-passed}
 use Rattle.frames.specs.Frames.{Saying, told, ended, refused, readAt}
 use Rattle.model.specs.Changes.{changeRoom}
-use Rattle.model.specs.Reference.{Reference, Lengths, unopened, newest, isOpen, headOf, tells, foretells, referenceStep}
-use Rattle.model.specs.Calls.{Call, Open, Quote, Look, Watch, End, Past, Pair, Unpair, Due, Preview, Outputs, Lent, bookStep, lengthsOf, shown, expectedStep, runs, worldFirst}
+use Rattle.model.specs.Reference.{Reference, Lengths, unopened, newest, isOpen, headOf, tells, foretells, tellsBoth, referenceStep}
+use Rattle.model.specs.Calls.{Call, Open, Quote, Look, Watch, End, Past, Pair, Unpair, Due, Preview, Both, Outputs, Lent, bookStep, lengthsOf, shown, expectedStep, runs, worldFirst}
 use Rattle.claims.specs.Claims.{isOpening}
 use Rattle.model.proofs.Simulation.{Simulation, Agree, referenceWith, Bounded, bounded, in-range, in-pair-range}
 use Rattle.model.proofs.Written.{written-fits, watch-written, pair-written}
@@ -46,7 +46,7 @@ quote-fits x lengths s ok =
 
 -- nor is what any call writes
 bytes-fit : (c : Call) (lengths : Lengths) (s : Reference) → Bounded s → length (referenceStep c lengths s .bytes) ≤ lengths .bytes
-unfolding referenceStep tells foretells
+unfolding referenceStep tells foretells tellsBoth
 bytes-fit (Open d N directions) lengths s ok = either-way (λ (w : List ℕ). length w ≤ lengths .bytes) _ [] [] (λ _. zero-le) zero-le
 bytes-fit (Quote x) lengths s ok = quote-fits x lengths s ok
 bytes-fit (Look n) lengths s ok = either-way (λ (w : List ℕ). length w ≤ lengths .bytes) _ [] [] (λ _. zero-le) zero-le
@@ -73,6 +73,7 @@ bytes-fit (Pair n1 n2) lengths s ok =
 bytes-fit Unpair lengths s ok = either-way (λ (w : List ℕ). length w ≤ lengths .bytes) _ [] [] (λ _. zero-le) zero-le
 bytes-fit Due lengths s ok = either-way (λ (w : List ℕ). length w ≤ lengths .bytes) _ [] [] (λ _. zero-le) zero-le
 bytes-fit (Preview x) lengths s ok = quote-fits x lengths s ok
+bytes-fit (Both x n) lengths s ok = either-way (λ (w : List ℕ). length w ≤ lengths .bytes) _ _ [] (λ _. quote-fits x lengths s ok) zero-le
 
 -- and so no longer than the bytes that are lent
 bytes-room : (l : Lent) (o : Outputs) (c : Call) (s : Reference) → Bounded s → length (referenceStep c (lengthsOf l o) s .bytes) ≤ length (o .bytes)
@@ -141,6 +142,7 @@ module _ (lengths : Lengths) (s : Reference) where
   laid-text Unpair o = refl
   laid-text Due o = refl
   laid-text (Preview x) o = refl
+  laid-text (Both x n) o = refl
 
 -- lengths of a book's own give the answers of the reference model that is lent these: they are the same; or an opening was accepted, from
 -- when on only those of the outputs count
@@ -242,6 +244,7 @@ call-once (Pair n1 n2) = refl
 call-once Unpair = refl
 call-once Due = refl
 call-once (Preview x) = refl
+call-once (Both x n) = refl
 
 placed-once : (a : Asked) → asksOpening (placed true a) ≡ false
 unfolding placed asksOpening

@@ -4,4 +4,5 @@ pub mod Streaming
 pub mod Sliding
 pub mod Changed
 pub mod NeverShort
+pub mod InOne
 pub mod Worked

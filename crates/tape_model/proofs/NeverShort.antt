@@ -8,11 +8,8 @@ use mathlib.Core.List.{List, [], _∷_, _++_}
 use lib.Dec.{ltb, leb, eqb}
 use lib.ListN.{length}
 use borrow.Author.Tests.{le-ltb, eq-eqb, not-false}
-use Rattle.lists.specs.Lists.{any, contains, between}
+use Rattle.lists.specs.Lists.{any, contains}
 use Rattle.lists.proofs.Booleans.{clash, none-left, none-right}
-use Rattle.lists.proofs.Filters.{length-filter}
-use Rattle.lists.proofs.Runs.{length-run}
-use Rattle.skyline.specs.Skyline.{windowStart, dominatedIn, skyline}
 use Rattle.head.specs.declared.Desk.{Desk}
 use Rattle.head.specs.Desks.{watchOf}
 use Rattle.refusals.specs.declared.Refusal.the-variants.{Settings, ColumnCount, WindowSize, TapeFull, AlreadyWatched, NoFreeRecord, ShortLoan, ShortOutput, WindowOrder}
@@ -23,9 +20,10 @@ use Rattle.head.proofs.Settings.{settings-within}
 use Rattle.frames.specs.Frames.{readAt}
 use Rattle.model.specs.Changes.{changeRoom}
 use Rattle.model.specs.Shares.{deskFull}
-use Rattle.model.specs.Reference.{Reference, Lengths, unopened, newest, over, skylineOf, pastOf, paired, isOpen, outside, outsidePast, outsidePair, tooShort, tells, referenceStep}
-use Rattle.model.specs.Calls.{Call, Open, Quote, Look, Watch, End, Past, Pair, Unpair, Due, Preview, Outputs, Lent, lengthsOf, worldFirst}
+use Rattle.model.specs.Reference.{Reference, Lengths, unopened, newest, skylineOf, pastOf, paired, isOpen, outside, outsidePast, outsidePair, tooShort, tells, referenceStep}
+use Rattle.model.specs.Calls.{Call, Open, Quote, Look, Watch, End, Past, Pair, Unpair, Due, Preview, Both, Outputs, Lent, lengthsOf, worldFirst}
 use Rattle.model.proofs.Simulation.{in-range, in-past-range}
+use Rattle.model.proofs.Short.{skyline-short, past-short}
 use Rattle.asking.specs.Asking.{Asked, finished, unread, misplaced, request, asked, playable}
 use Rattle.asking.proofs.Places.{asksPlayable, asked-playable}
 use Rattle.tape_model.specs.Play.{playAsked, playAt, printFrom, print, referenceMake, bookMake, begun}
@@ -50,21 +48,6 @@ roomy lengths d N directions a e =
     )
 
 -- ---- the two looks
-
--- a skyline of positions from a to b has at most as many
-skyline-bounded : (dom : ℕ → ℕ → Bool) (a b : ℕ) → length (skyline dom a b) ≤ suc b - a
-unfolding skyline between
-skyline-bounded dom a b = omega (arith, length-filter (λ p. not (dominatedIn dom a b p)) (between a b), length-run a (suc b - a))
-
--- a skyline of a window of n has at most n positions
-skyline-short : (s : Reference) (n : ℕ) → 1 ≤ n → length (skylineOf s n) ≤ n
-unfolding skylineOf windowStart
-skyline-short s n h = omega (arith, skyline-bounded (over s) (windowStart (newest s) n) (newest s))
-
--- and so has one that begins there and ended before the newest
-past-short : (s : Reference) (n1 n2 : ℕ) → 1 ≤ n1 → n1 ≤ n2 → length (pastOf s n1 n2) ≤ n2
-unfolding pastOf windowStart
-past-short s n1 n2 h k = omega (arith, skyline-bounded (over s) (windowStart (newest s) n2) (newest s + 1 - n1))
 
 -- the list of an n in range fits into 1,024 cells
 list-short : (s : Reference) (n : ℕ) → isOpen s ≡ true → outside s n ≡ false → length (skylineOf s n) ≤ 1024
@@ -169,6 +152,7 @@ module _ (lengths : Lengths) (a : Ample lengths) where
   never-short Unpair p s = plainly _ refl refl refl
   never-short Due p s = absurd (clash false p refl)
   never-short (Preview x) p s = absurd (clash false p refl)
+  never-short (Both x n) p s = absurd (clash false p refl)
 
 -- ---- the print does not depend on ample lengths
 
@@ -186,6 +170,7 @@ module _ (lengths lengths' : Lengths) (a : Ample lengths) (a' : Ample lengths') 
   made-same Unpair p s = refl
   made-same Due p s = absurd (clash false p refl)
   made-same (Preview x) p s = absurd (clash false p refl)
+  made-same (Both x n) p s = absurd (clash false p refl)
 
   -- what is asked at a place is played alike
   asked-same : (q : Asked) → asksPlayable q ≡ true → (next : ℕ) (s : Reference) → playAsked isOpen (referenceMake lengths) q next s ≡ playAsked isOpen (referenceMake lengths') q next s

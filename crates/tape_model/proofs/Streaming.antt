@@ -4,20 +4,20 @@ use mathlib.Core.Logic.{_⊎_, inl, inr}
 use Prim.Native.Nat.{ℕ, zero, suc, _+_, _-_, _*_, _≤_, _<_}
 use native.Mathlib.Nat.{add-assoc}
 use native.Mathlib.Omega.{arith}
-use mathlib.Core.Bool.{Bool, true, false, _&&_, _||_, cond}
+use mathlib.Core.Bool.{Bool, true, false, _&&_, _||_, not, cond}
 use mathlib.Core.List.{List, [], _++_, append-nil, append-assoc}
 use lib.Dec.{ltb, leb, eqb}
 use lib.ListN.{length, getD, length-append, List·getD-append}
 use lib.Seq.{getD-append-add, drop-append-add}
 use borrow.Author.Tests.{ltb-true, lt-ltb, le-ltb, le-leb, leb-true, eqb-true, eqb-false, eq-eqb, ne-eqb}
-use Rattle.lists.proofs.Booleans.{either, agree, clash, and-left, and-right, or-cases}
+use Rattle.lists.proofs.Booleans.{either, agree, clash, both, and-left, and-right, or-cases, or-left, or-right}
 use Rattle.lists.proofs.Cells.{map-run}
 use Rattle.refusals.specs.declared.Refusal.the-variants.{UnknownKind, CutFrame}
 use Rattle.refusals.specs.Refusals.{number}
 use Rattle.octets.specs.Bytes.{number2, number4}
 use Rattle.frame_kinds.specs.declared.Shape.{Shape}
 use Rattle.frame_kinds.specs.declared.Shape.the-variants.{Columns, Size, SizePosition, SizePair, Bare, Position, Settings, Unknown}
-use Rattle.frame_kinds.specs.Kinds.{within, shapeOf, bodyLength}
+use Rattle.frame_kinds.specs.Kinds.{within, lookKind, kinds, shapeIn, shapeOf, lengthOf, bodyLength}
 use Rattle.frames.specs.Frames.{messageBy, messageAt, columnsAt, told, ended, refused, Reading, stays, readAt}
 use Rattle.frame_kinds.proofs.Shapes.{within-bounds, quote-body, size-body, change-body, pair-body, position-body, open-body, kind-known, known-body}
 use Rattle.frames.proofs.Reading.{message-drop, columns-drop, Found, beyond, at-end, unknown, cut, whole, found}
@@ -26,7 +26,7 @@ use Rattle.model.specs.Calls.{Call, Outputs, Lent, lengthsOf, worldFirst}
 use Rattle.asking.specs.Asking.{Asked, finished, unread, misplaced, request, asked}
 use Rattle.tape_model.specs.Print.{Answered}
 use Rattle.tape_model.specs.Play.{Played, playAsked, playAt, printFrom, print, referenceMake, bookMake, begun}
-use Rattle.tape_model.specs.Streams.{ready, linesFrom, further, Streams, plays, stops, drops, fills}
+use Rattle.tape_model.specs.Streams.{ready, settled, linesFrom, further, Streams, plays, stops, drops, fills}
 use Rattle.tape_model.proofs.Agrees.{print-agrees}
 
 -- ---- what is read, however the tape goes on
@@ -129,6 +129,62 @@ ready-soon piece place h = rw (lt-ltb place (length piece) (omega arith)) (go (e
     go : (eqb (bodyLength kind) 255 ≡ true) ⊎ (eqb (bodyLength kind) 255 ≡ false) → eqb (bodyLength kind) 255 || leb (place + 1 + bodyLength kind) (length piece) ≡ true
     go (inl e) = rw e
     go (inr e) = rw (e, le-leb (place + 1 + bodyLength kind) (length piece) (omega (arith, known-body kind (kind-known kind (eqb-false (bodyLength kind) 255 e)))))
+
+-- a look's body has two bytes
+look-body : bodyLength lookKind ≡ 2
+unfolding bodyLength lengthOf shapeOf shapeIn kinds
+look-body = refl
+
+-- a look is ready where its three bytes have come
+look-ready : (piece : List ℕ) (place : ℕ) → getD piece place 0 ≡ lookKind → place + 3 ≤ length piece → ready piece place ≡ true
+unfolding ready
+look-ready piece place e h = rw (lt-ltb place (length piece) (omega arith), e, look-body, le-leb (place + 1 + 2) (length piece) (omega arith))
+
+module _ (piece : List ℕ) (place : ℕ) where
+  abbrev kind : ℕ
+  kind = getD piece place 0
+
+  abbrev next : ℕ
+  next = place + 1 + bodyLength kind
+
+  -- a look's kind stands behind it
+  abbrev look : Bool
+  look = eqb (getD piece next 0) lookKind
+
+  -- it is known what follows a quote
+  abbrev known : Bool
+  known = ltb next (length piece) && (not look || ready piece next)
+
+  -- a frame that is settled is ready
+  pub settled-ready : settled piece place ≡ true → ready piece place ≡ true
+  unfolding settled
+  settled-ready e = and-left (ready piece place) (not (within 1 6 kind) || known) e
+
+  -- so a frame that is played where it is settled or nothing more comes is one where it is ready or nothing more comes
+  pub may-play : (last : Bool) → (last || settled piece place) ≡ true → (last || ready piece place) ≡ true
+  may-play last e = go (or-cases last (settled piece place) e)
+    where
+      go : (last ≡ true) ⊎ (settled piece place ≡ true) → (last || ready piece place) ≡ true
+      go (inl t) = or-left last (ready piece place) t
+      go (inr t) = or-right last (ready piece place) (settled-ready t)
+
+  -- a look that follows is ready where three bytes have come
+  follows : next + 3 ≤ length piece → (look ≡ true) ⊎ (look ≡ false) → not look || ready piece next ≡ true
+  follows u (inl t) = or-right (not look) (ready piece next) (look-ready piece next (eqb-true (getD piece next 0) lookKind t) u)
+  follows u (inr t) = rw t
+
+  -- a frame is settled where 28 bytes have come: a quote's has at most 25, and a look 3
+  pub settled-soon : place + 28 ≤ length piece → settled piece place ≡ true
+  unfolding settled
+  settled-soon h =
+      both (ready piece place) (not (within 1 6 kind) || known) (ready-soon piece place (omega arith)) (go (either (within 1 6 kind)))
+    where
+      go : (within 1 6 kind ≡ true) ⊎ (within 1 6 kind ≡ false) → not (within 1 6 kind) || known ≡ true
+      go (inl t) =
+          let r = within-bounds 1 6 kind t in
+          let u : next + 3 ≤ length piece = omega (arith, quote-body kind (r .0) (r .1), r .1) in
+          rw (t, lt-ltb next (length piece) (omega (arith, u))) (follows u (either look))
+      go (inr t) = rw t
 
 -- ---- what is read, whatever stood before
 

@@ -6,7 +6,7 @@ use Rattle.head.specs.declared.Desk.{Desk}
 use Rattle.head.specs.declared.Desk.the-variants.{One, Two}
 use Rattle.refusals.specs.Refusals.{granted}
 use Rattle.replies.specs.Replies.{Outcome}
-use Rattle.model.specs.Calls.{Call, Open, Quote, Look, Watch, End, Past, Pair, Unpair, Due, Preview, Outputs}
+use Rattle.model.specs.Calls.{Call, Open, Quote, Look, Watch, End, Past, Pair, Unpair, Due, Preview, Both, Outputs}
 use Rattle.text.specs.Text.{line, line2}
 use Rattle.printed.specs.Printed.{changesText}
 
@@ -21,8 +21,8 @@ deskLine One letter numbers = line letter numbers
 deskLine Two letter numbers = line2 letter 50 numbers
 
 -- the lines of an accepted call: O d N directions; Q position rows, the live ones, and its changes; L n positions; W n and its joins; U n;
--- P n1 n2 positions; B n1 n2 and its joins; E; of desk two W2 n and U2 n; no frame asks for what is due or for a preview, and they have
--- no line
+-- P n1 n2 positions; B n1 n2 and its joins; E; of desk two W2 n and U2 n; no frame asks for what is due, for a preview, or for a quote and
+-- look in one, and they have no line
 unfoldable pub linesOf : Call → Answered → List ℕ
 linesOf (Open d N directions) a = line 79 (d ∷ N ∷ directions ∷ [])
 linesOf (Quote x) a =
@@ -35,6 +35,7 @@ linesOf (Pair n1 n2) a = line 66 (n1 ∷ n2 ∷ []) ++ changesText (take (a .out
 linesOf Unpair a = line 69 []
 linesOf Due a = []
 linesOf (Preview x) a = []
+linesOf (Both x n) a = []
 
 -- R and the number of a refusal
 unfoldable pub refusalLine : ℕ → List ℕ

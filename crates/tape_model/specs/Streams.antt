@@ -2,11 +2,11 @@
 use mathlib.Core.Path.{_≡_}
 use mathlib.Core.Logic.{_⊎_}
 use Prim.Native.Nat.{ℕ, suc, _+_, _-_}
-use mathlib.Core.Bool.{Bool, true, false, _&&_, _||_}
+use mathlib.Core.Bool.{Bool, true, false, _&&_, _||_, not}
 use mathlib.Core.List.{List, [], _++_}
 use lib.Dec.{ltb, leb, eqb}
 use lib.ListN.{length, getD}
-use Rattle.frame_kinds.specs.Kinds.{bodyLength}
+use Rattle.frame_kinds.specs.Kinds.{within, lookKind, bodyLength}
 use Rattle.model.specs.Calls.{Call}
 use Rattle.tape_model.specs.Print.{Answered}
 use Rattle.tape_model.specs.Play.{Played, playAt, printFrom}
@@ -16,6 +16,13 @@ unfoldable pub ready : List ℕ → ℕ → Bool
 ready tape place =
     let body = bodyLength (getD tape place 0) in
     ltb place (length tape) && (eqb body 255 || leb (place + 1 + body) (length tape))
+
+-- a frame is ready, and of a quote's it is known whether a look follows: a byte has come behind it, and if it is a look's kind, the whole look
+unfoldable pub settled : List ℕ → ℕ → Bool
+settled tape place =
+    let kind = getD tape place 0 in
+    let next = place + 1 + bodyLength kind in
+    ready tape place && (not (within 1 6 kind) || (ltb next (length tape) && (not (eqb (getD tape next 0) lookKind) || ready tape next)))
 
 module _ {S : Type 0} (begun : S → Bool) (make : Call → S → Answered × S) where
   -- the lines of all frames from a place on

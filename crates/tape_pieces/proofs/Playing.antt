@@ -1,4 +1,4 @@
--- The frames of a piece of a tape: what holds from one to the next, and whether one is played.
+-- The steps along a piece of a tape: what holds from one to the next, and whether one is played.
 use mathlib.Core.Path.{_≡_, refl, sym, ap, _∙_}
 use Prim.Native.Nat.{ℕ, _-_, _≤_, _<_}
 use native.Mathlib.Omega.{arith}
@@ -8,22 +8,24 @@ use lib.Dec.{leb}
 use lib.ListN.{length}
 use borrow.Author.Tests.{leb-true, le-leb, lt-leb}
 use Rattle.lists.proofs.Booleans.{and-left, and-right}
-use Rattle.turn_lines.specs.Turns.{textBytes}
-use Rattle.tape_model.specs.Play.{Played, Player, bookPlay}
-use Rattle.tape_model.specs.Streams.{ready}
+use Rattle.tape_model.specs.Play.{Played, Player}
+use Rattle.tape_model.specs.Streams.{settled}
+use Rattle.tape_model.proofs.Streaming.{may-play}
 use Rattle.model.specs.Rows.{Tables}
 use Rattle.model.specs.Calls.{Reached}
+use Rattle.tape_both.specs.Tried.{stepBytes}
+use Rattle.tape_steps.specs.Stepping.{playStep}
 use Rattle.tape_playback.specs.declared.Playback.{Playback}
 use Rattle.row_starts.specs.declared.Start.{Start}
 use Rattle.row_starts.specs.Starts.{Long, Within, onward, Moved}
 use Rattle.row_starts.proofs.Rewinding.{long-same}
-use Rattle.tape_playback.specs.Played.{playerOf, Resumes, resumes, Gathered, SameInput, FramePlayed, Plays, none, frame, moved}
-use Rattle.tape_playback.proofs.Advancing.{left, advanced, plays-inside}
+use Rattle.tape_playback.specs.Played.{playerOf, Resumes, resumes, Gathered, SameInput, StepPlayed, Plays, none, moved}
+use Rattle.tape_playback.proofs.Advancing.{left, step-advanced, step-frames, plays-inside}
 use Rattle.tape_playback.proofs.Gathering.{gathered-none, gathered-more, gathered-fits}
 use Rattle.tape_playback.proofs.Starting.{plays-reached}
 use Rattle.tape_pieces.specs.Pieces.{GoesOn, PiecePlayed}
 
--- what holds from frame to frame: the tables and the text are as long as they were, and the frames that were played left what is promised once
+-- what holds from step to step: the tables and the text are as long as they were, and the frames that were played left what is promised once
 -- the piece is played
 pub record Playing (piece : List ℕ) (t₀ : Tables) (bytes₀ text₀ : List ℕ) (now₀ : Playback) (t : Tables) (bytes text : List ℕ) (now : Playback) : Type 0 where
   pub columns : length (t .columns) ≡ length (t₀ .columns)
@@ -41,7 +43,7 @@ pub record Playing (piece : List ℕ) (t₀ : Tables) (bytes₀ text₀ : List �
   pub same : SameInput now₀ now
   pub starts : Within 1023 (now .start)
 
--- before the first frame
+-- before the first step
 pub start : (piece : List ℕ) (t : Tables) (bytes text : List ℕ) (now : Playback) → (now .used ≤ length text) × (now .place ≤ length piece) → Long t → Within 1023 (now .start)
     → Reached (playerOf now t bytes .world) → Playing piece t bytes text now t bytes text now
 start piece t bytes text now h k w c = record {
@@ -61,54 +63,54 @@ start piece t bytes text now h k w c = record {
   starts = w;
 }
 
--- ---- whether a frame is played
+-- ---- whether a step is played
 
 -- one whose lines may find no room is not
-pub no-room : {over ready : Bool} {room : ℕ} → over ≡ false → room < textBytes → GoesOn over room ready false
-no-room {room = room} e h = record { is = rw (e, lt-leb textBytes room h) }
+pub no-room : {over may : Bool} {room : ℕ} → over ≡ false → room < stepBytes → GoesOn over room may false
+no-room {room = room} e h = record { is = rw (e, lt-leb stepBytes room h) }
 
--- where they find room, it is played if it is ready
-pub some-room : {over ready result : Bool} {room : ℕ} → over ≡ false → textBytes ≤ room → result ≡ ready → GoesOn over room ready result
-some-room {room = room} e h r = record { is = r ∙ rw (e, le-leb textBytes room h) }
+-- where they find room, it is played if it may be
+pub some-room : {over may result : Bool} {room : ℕ} → over ≡ false → stepBytes ≤ room → result ≡ may → GoesOn over room may result
+some-room {room = room} e h r = record { is = r ∙ rw (e, le-leb stepBytes room h) }
 
 -- nor is one where the tape is over
-pub none-over : {over ready : Bool} {room : ℕ} → over ≡ true → GoesOn over room ready false
+pub none-over : {over may : Bool} {room : ℕ} → over ≡ true → GoesOn over room may false
 none-over e = record { is = rw e }
 
-module _ {over ready result : Bool} {room : ℕ} (g : GoesOn over room ready result) (t : result ≡ true) where
+module _ {over may result : Bool} {room : ℕ} (g : GoesOn over room may result) (t : result ≡ true) where
   -- the tape is not over where one is played
   pub not-over : over ≡ false
   not-over = go over (g .is)
     where
-      go : (o : Bool) → result ≡ (not o && (leb textBytes room && ready)) → o ≡ false
+      go : (o : Bool) → result ≡ (not o && (leb stepBytes room && may)) → o ≡ false
       go true e = absurd (true≢false (sym t ∙ e))
       go false e = refl
 
-  rest-true : leb textBytes room && ready ≡ true
-  rest-true = and-right (not over) (leb textBytes room && ready) (sym (g .is) ∙ t)
+  rest-true : leb stepBytes room && may ≡ true
+  rest-true = and-right (not over) (leb stepBytes room && may) (sym (g .is) ∙ t)
 
   -- its lines have room
-  pub lines-room : textBytes ≤ room
-  lines-room = leb-true textBytes room (and-left (leb textBytes room) ready rest-true)
+  pub lines-room : stepBytes ≤ room
+  lines-room = leb-true stepBytes room (and-left (leb stepBytes room) may rest-true)
 
-  -- and it is ready
-  pub is-ready : ready ≡ true
-  is-ready = and-right (leb textBytes room) ready rest-true
+  -- and it may be played
+  pub may-be : may ≡ true
+  may-be = and-right (leb stepBytes room) may rest-true
 
--- ---- a frame is played, and its rows are moved to the front where they find no place more
+-- ---- a step is played, and its rows are moved to the front where they find no place more
 
--- one frame more
-frame-plays : {piece : List ℕ} {ended : Bool} {place : ℕ} {k : Player} {over : Bool} {lines : List ℕ} {now : Playback} {t : Tables} {bytes text : List ℕ} {r : Playback} {t' : Tables}
-    {bytes' text' : List ℕ} → Plays piece ended place k over lines (now .place) (playerOf now t bytes) (now .over) → now .over ≡ false → (ended || ready piece (now .place)) ≡ true
-    → FramePlayed piece now t bytes text r t' bytes' text'
-    → Plays piece ended place k over (lines ++ bookPlay piece (now .place) (playerOf now t bytes) .text) (r .place) (playerOf r t' bytes') (r .over)
-frame-plays {piece} {ended} {place} {k} {over} {lines} {now} {t} {bytes} p o h f = rw (f .place, f .over) (go (f .book))
+-- one step more
+step-more : {piece : List ℕ} {ended : Bool} {place : ℕ} {k : Player} {over : Bool} {lines : List ℕ} {now : Playback} {t : Tables} {bytes text : List ℕ} {r : Playback} {t' : Tables}
+    {bytes' text' : List ℕ} → Plays piece ended place k over lines (now .place) (playerOf now t bytes) (now .over) → now .over ≡ false → (ended || settled piece (now .place)) ≡ true
+    → StepPlayed piece now t bytes text r t' bytes' text'
+    → Plays piece ended place k over (lines ++ playStep piece (now .place) (playerOf now t bytes) .text) (r .place) (playerOf r t' bytes') (r .over)
+step-more {piece} {ended} {place} {k} {over} {lines} {now} {t} {bytes} p o h f = rw (f .place, f .over) (go (f .book))
   where
     one : Played Player
-    one = bookPlay piece (now .place) (playerOf now t bytes)
+    one = playStep piece (now .place) (playerOf now t bytes)
 
     go : {q : Player} → Resumes (one .state) q → Plays piece ended place k over (lines ++ one .text) (one .next) q (one .over)
-    go (resumes m) = moved (frame (rw o at p) h) m
+    go (resumes m) = moved (step-frames (rw o at p) (may-play piece (now .place) ended h)) m
 
 module _ {piece : List ℕ} {t₀ : Tables} {bytes₀ text₀ : List ℕ} {now₀ : Playback} {t : Tables} {bytes text : List ℕ} {now : Playback}
     (i : Playing piece t₀ bytes₀ text₀ now₀ t bytes text now) where
@@ -123,26 +125,26 @@ module _ {piece : List ℕ} {t₀ : Tables} {bytes₀ text₀ : List ℕ} {now�
   pub reached : Reached (playerOf now t bytes .world)
   reached = plays-reached (i .plays) (i .first-reached)
 
-  -- what a piece leaves where the next frame is not played
-  pub finish : {result : Bool} → GoesOn (now .over) (length text - now .used) (now .ended || ready piece (now .place)) result → result ≡ false
+  -- what a piece leaves where the next step is not played
+  pub finish : {result : Bool} → GoesOn (now .over) (length text - now .used) (now .ended || settled piece (now .place)) result → result ≡ false
       → PiecePlayed piece now₀ t₀ bytes₀ text₀ now t bytes text
   finish g e = record { lines = i .lines; plays = i .plays; gathered = i .gathered; same = i .same; starts = i .starts; stops = rw e at g }
 
-  module _ {room : ℕ} {result : Bool} (g : GoesOn (now .over) room (now .ended || ready piece (now .place)) result) (e : result ≡ true)
-      {r : Playback} {t' : Tables} {bytes' text' : List ℕ} (f : FramePlayed piece now t bytes text r t' bytes' text') where
+  module _ {room : ℕ} {result : Bool} (g : GoesOn (now .over) room (now .ended || settled piece (now .place)) result) (e : result ≡ true)
+      {r : Playback} {t' : Tables} {bytes' text' : List ℕ} (f : StepPlayed piece now t bytes text r t' bytes' text') where
     -- less is left of the piece
     pub less : left piece (r .place) (r .over) < left piece (now .place) (now .over)
     unfolding left
-    less = rw (f .place, f .over, not-over g e) (advanced piece (now .place) (playerOf now t bytes) inside .less)
+    less = rw (f .place, f .over, not-over g e) (step-advanced piece (now .place) (playerOf now t bytes) inside .less)
 
-    -- the frame is played, and the player goes on where its rows were moved to
+    -- the step is played, and the player goes on where its rows were moved to
     pub more : length text' ≡ length text → {t'' : Tables} → length (t'' .columns) ≡ length (t .columns) → length (t'' .positions) ≡ length (t .positions)
         → length (t'' .lowerEnds) ≡ length (t .lowerEnds) → length (t'' .upperEnds) ≡ length (t .upperEnds) → {s : Start} → Within 1023 s
         → Moved (r .head) (onward (r .start) t') (onward s t'')
         → Playing piece t₀ bytes₀ text₀ now₀ t'' bytes' text'
         (record { head = r .head; watches = r .watches; start = s; place = r .place; end = r .end; used = r .used; ended = r .ended; over = r .over })
     more long c p l u w m =
-        let ready-there = rw (i .same .ended) at (is-ready g e) in
+        let may = rw (i .same .ended) at (may-be g e) in
         let all = gathered-more (i .gathered) (i .begun) (f .gathered) in
         record {
           columns = c ∙ i .columns;
@@ -155,7 +157,7 @@ module _ {piece : List ℕ} {t₀ : Tables} {bytes₀ text₀ : List ℕ} {now�
           first-inside = i .first-inside;
           first-reached = i .first-reached;
           lines = _;
-          plays = moved (frame-plays (i .plays) (not-over g e) ready-there f) m;
+          plays = moved (step-more (i .plays) (not-over g e) may f) m;
           gathered = record { used = all .used; text = all .text };
           same = record { end = f .same .end ∙ i .same .end; ended = f .same .ended ∙ i .same .ended };
           starts = w;

@@ -1,35 +1,36 @@
-// What has come of a tape, played: frame by frame, each with its lines behind those that are gathered, on a book that calls left.
+// What has come of a tape, played: step by step, each with its lines behind those that are gathered, on a book that calls left.
 ghost use Prim.Native.Nat.{_-_, _≤_};
 ghost use mathlib.Core.Bool.{_||_};
 ghost use lib.ListN.{length};
 ghost use Rattle.model.specs.Calls.{Reached};
 ghost use Rattle.model.specs.Promises.{tables, world};
-ghost use Rattle.tape_model.specs.Streams.{ready};
+ghost use Rattle.tape_model.specs.Streams.{settled};
 ghost use Rattle.row_starts.specs.Starts.{Long, Within, onward};
 ghost use Rattle.tape_pieces.specs.Pieces.{GoesOn, PiecePlayed};
 use row_starts::rewind;
 use tape_playback::Playback;
-use tape_playback::play_frame;
+use tape_playback::play_next;
 
-// Whether a frame is played: its lines have room behind those that are gathered, and it has come whole, or nothing more comes.
+// Whether a step is played: its lines have room behind those that are gathered, and its frame has come whole, of a quote with what tells whether a
+// look follows, or nothing more comes.
 fn plays(playback: Playback, tape: &[u8], room: usize) -> bool
     requires { ⌜ playback .used ≤ room ⌝ }
     ensures { λ r. ⌜ GoesOn (playback .over) (room - playback .used)
-        (playback .ended || ready (now (tape .entry)) (playback .place)) r ⌝ }
+        (playback .ended || settled (now (tape .entry)) (playback .place)) r ⌝ }
 {
     if playback.over {
         return false;
     }
-    if room - playback.used < tape::TEXT_BYTES {
+    if room - playback.used < tape_steps::STEP_BYTES {
         return false;
     }
     if playback.ended {
         return true;
     }
-    waiting::ready(tape, playback.place)
+    waiting::settled(tape, playback.place)
 }
 
-// Plays the frames of this piece of the tape, until one has not come whole or its lines may find no room.
+// Plays the frames of this piece of the tape, until one is not settled or its lines may find no room.
 pub fn play_piece(
     playback: Playback,
     tape: &[u8],
@@ -53,7 +54,7 @@ pub fn play_piece(
 {
     let mut now = playback;
     while plays(now, tape, text.len()) {
-        now = play_frame(
+        now = play_next(
             now,
             tape,
             columns,

@@ -16,8 +16,8 @@ use Rattle.model.specs.Calls.{Reached}
 use Rattle.model.specs.Promises.{tables, world}
 use Rattle.quoting.specs.Known.{Roomy}
 use Rattle.quoting.specs.Entered.{later, Slid, stayed, slid}
-use Rattle.tape_model.specs.Play.{Player, bookPlay}
-use Rattle.turn_lines.specs.Turns.{player}
+use Rattle.tape_model.specs.Play.{Played, Player}
+use Rattle.tape.specs.Prints.{left}
 use Rattle.tape.proofs.Prints.{its-player}
 use Rattle.tape.proofs.Reached.{frame-reached}
 use Rattle.tape.specs.declared.SlidStep.{SlidStep}
@@ -104,8 +104,8 @@ slid-cells : {by d : ℕ} → by ≤ 1 → Dec (0 < by) → (0 < by → d ≤ 6)
 slid-cells {by} {d} k (yes l) h = omega (arith, bounded-cells d k, h l)
 slid-cells {by} {d} k (no n) h = let z : by ≡ 0 = omega arith in omega (arith, bounded-cells d k, ap (λ (j : ℕ). j * d) z, zero-mul d)
 
-module _ {tape : List ℕ} {place : ℕ} {h : Head} {t : Tables} {ws bytes before : List ℕ} {z : SlidStep} {t' : Tables} {bytes' after : List ℕ}
-    (m : StepMade true tape place (player h t ws bytes) before z t' bytes' after) {s s' : Start} (w : Within 1023 s)
+module _ {one : Played Player} {before : List ℕ} {z : SlidStep} {t' : Tables} {bytes' after : List ℕ}
+    (m : StepMade true one before z t' bytes' after) {s s' : Start} (w : Within 1023 s)
     (e : s' ≡ record { row = s .row + z .by; cell = s .cell + z .by * z .step .head .dimensions }) where
   -- only a book that was opened slides
   six : 0 < z .by → z .step .head .dimensions ≤ 6
@@ -128,11 +128,13 @@ slid-moved {h} (stayed e) = rw (e, zero-mul (h .dimensions)) stays
 slid-moved (slid bounded holds same) = moves holds same
 
 -- and the book stands there
-pub start-resumes : (s : Start) (t : Tables) {tape : List ℕ} {place : ℕ} {h : Head} {ws bytes before : List ℕ} {z : SlidStep} {t' : Tables} {bytes' after : List ℕ} {s' : Start}
-    → StepMade true tape place (player h (onward s t) ws bytes) before z t' bytes' after → Within 1023 s → s' ≡ record { row = s .row + z .by; cell = s .cell + z .by * z .step .head .dimensions }
-    → Long t → Resumes (bookPlay tape place (player h (onward s t) ws bytes) .state) (player (z .step .head) (onward s' (backs s t t')) (z .step .watches) bytes')
-start-resumes s t {z = z} {t' = t'} {bytes' = bytes'} {s' = s'} m w e k =
-    subst (λ (q : Player). Resumes q (player (z .step .head) (onward s' (backs s t t')) (z .step .watches) bytes')) (its-player (m .stepped)) (resumes {u = onward s' (backs s t t')} (rw (e, backs-later s t k w t' (z .by) (z .step .head .dimensions)) (slid-moved (m .slides refl))))
+pub start-resumes : (s : Start) (t : Tables) (k : Player) {one : Played Player} {before : List ℕ} {z : SlidStep} {t' : Tables} {bytes' after : List ℕ} {s' : Start}
+    → StepMade true one before z t' bytes' after → one .state .outputs .cells ≡ k .outputs .cells → Within 1023 s
+    → s' ≡ record { row = s .row + z .by; cell = s .cell + z .by * z .step .head .dimensions } → Long t
+    → Resumes (one .state) (left k (z .step) (onward s' (backs s t t')) bytes')
+start-resumes s t k {z = z} {t' = t'} {bytes' = bytes'} {s' = s'} m same w e l =
+    subst (λ (q : Player). Resumes q (left k (z .step) (onward s' (backs s t t')) bytes')) (its-player (m .stepped) k same)
+    (resumes {u = onward s' (backs s t t')} (rw (e, backs-later s t l w t' (z .by) (z .step .head .dimensions)) (slid-moved (m .slides refl))))
 
 -- frames that are played on a book that calls left leave such a book
 pub plays-reached : {tape : List ℕ} {ended : Bool} {place : ℕ} {k : Player} {over : Bool} {lines : List ℕ} {next : ℕ} {now : Player} {over' : Bool}

@@ -1,4 +1,4 @@
--- Where a player of a tape stands: the book that it plays on, what is gathered of its text, and what a frame, and then any number of frames of
+-- Where a player of a tape stands: the book that it plays on, what is gathered of its text, and what a step, and then any number of frames of
 -- what has come of the tape, leave of both.
 use mathlib.Core.Path.{_≡_}
 use Prim.Native.Nat.{ℕ, _+_}
@@ -12,6 +12,7 @@ use Rattle.tape_model.specs.Play.{Player, on, bookPlay}
 use Rattle.tape_model.specs.Streams.{ready}
 use Rattle.turn_lines.specs.Turns.{player}
 use Rattle.row_starts.specs.Starts.{Within, FullOpened, onward, Moved}
+use Rattle.tape_steps.specs.Stepping.{playStep}
 use Rattle.tape_playback.specs.declared.Playback.{Playback}
 
 -- the player that stands there: its book in tables t, from where its rows start on
@@ -38,13 +39,13 @@ pub record SameInput (s r : Playback) : Type 0 where
   pub end : r .end ≡ s .end
   pub ended : r .ended ≡ s .ended
 
--- what a player that stands at s leaves once it played the frame there: its lines, its place and whether the tape is over are those of the book
+-- what a player that stands at s leaves once it played the step there: its lines, its place and whether the tape is over are those of the book
 -- model's play, and so is its book
-pub record FramePlayed (tape : List ℕ) (s : Playback) (t : Tables) (bytes before : List ℕ) (r : Playback) (t' : Tables) (bytes' after : List ℕ) : Type 0 where
-  pub gathered : Gathered s r (bookPlay tape (s .place) (playerOf s t bytes) .text) before after
-  pub place : r .place ≡ bookPlay tape (s .place) (playerOf s t bytes) .next
-  pub over : r .over ≡ bookPlay tape (s .place) (playerOf s t bytes) .over
-  pub book : Resumes (bookPlay tape (s .place) (playerOf s t bytes) .state) (playerOf r t' bytes')
+pub record StepPlayed (tape : List ℕ) (s : Playback) (t : Tables) (bytes before : List ℕ) (r : Playback) (t' : Tables) (bytes' after : List ℕ) : Type 0 where
+  pub gathered : Gathered s r (playStep tape (s .place) (playerOf s t bytes) .text) before after
+  pub place : r .place ≡ playStep tape (s .place) (playerOf s t bytes) .next
+  pub over : r .over ≡ playStep tape (s .place) (playerOf s t bytes) .over
+  pub book : Resumes (playStep tape (s .place) (playerOf s t bytes) .state) (playerOf r t' bytes')
   pub same : SameInput s r
   pub starts : Within maxCapacity (r .start)
   pub opened : FullOpened (r .start) (r .head)

@@ -1,16 +1,16 @@
-// Where a player of a tape stands: one frame played from there, on a book that calls left, whose rows slide through tables of twice the
+// Where a player of a tape stands: one step played from there, on a book that calls left, whose rows slide through tables of twice the
 // places that it needs.
 ghost use Prim.Native.Nat.{_+_, _≤_};
 ghost use lib.ListN.{length};
 ghost use Rattle.model.specs.Calls.{Reached};
 ghost use Rattle.model.specs.Promises.{tables, world};
-ghost use Rattle.turn_lines.specs.Turns.{textBytes};
 ghost use Rattle.row_starts.specs.Starts.{Long, Within, onward};
-ghost use Rattle.tape_playback.specs.Played.{FramePlayed};
+ghost use Rattle.tape_both.specs.Tried.{stepBytes};
+ghost use Rattle.tape_playback.specs.Played.{StepPlayed};
 use head::Head;
 use row_starts::Start;
 use row_starts::slid;
-use tape::play_known;
+use tape_steps::play_step;
 
 // Where a player of a tape stands: the head and the watches of the book, where its rows start, the place of the next frame and the end of
 // what has come of the tape, how many bytes of text are gathered, whether the input has ended, and whether the tape is over.
@@ -25,8 +25,8 @@ pub struct Playback {
     pub over: bool,
 }
 
-// Plays the frame at which a player stands.
-pub fn play_frame(
+// Plays the frame at which a player stands, a quote's with the look's directly behind it if one call takes both.
+pub fn play_next(
     playback: Playback,
     tape: &[u8],
     columns: &mut [u32],
@@ -36,12 +36,12 @@ pub fn play_frame(
     bytes: &mut [u8; tape::CHANGE_BYTES],
     text: &mut [u8],
 ) -> Playback
-    requires { ⌜ (playback .used + textBytes ≤ length (now text)) × (playback .place ≤ length (now tape)) ⌝ }
+    requires { ⌜ (playback .used + stepBytes ≤ length (now text)) × (playback .place ≤ length (now tape)) ⌝ }
     requires { ⌜ Long (tables (now columns) (now positions) (now «lower_ends») (now «upper_ends»)) ⌝ }
     requires { ⌜ Within 1023 (playback .start) ⌝ }
     requires { ⌜ Reached (world (playback .head) (onward (playback .start)
         (tables (now columns) (now positions) (now «lower_ends») (now «upper_ends»))) (playback .watches)) ⌝ }
-    ensures { λ r. ⌜ FramePlayed (now (tape .entry)) playback
+    ensures { λ r. ⌜ StepPlayed (now (tape .entry)) playback
         (tables (now (columns .entry)) (now (positions .entry)) (now («lower_ends» .entry)) (now («upper_ends» .entry)))
         (now (bytes .entry)) (now (text .entry)) r
         (tables (now (columns .exit)) (now (positions .exit)) (now («lower_ends» .exit)) (now («upper_ends» .exit)))
@@ -53,8 +53,7 @@ pub fn play_frame(
     let start = playback.start;
     let row = start.row;
     let cell = start.cell;
-    let played = play_known(
-        true,
+    let played = play_step(
         tape,
         playback.place,
         head,

@@ -21,7 +21,7 @@ pub record Printing (t : Tables) (tape text : List ℕ) (playback : Playback) : 
   pub lowerEnds : length (t .lowerEnds) ≡ 2048
   pub upperEnds : length (t .upperEnds) ≡ 2048
   pub tape-long : length tape ≡ 65536
-  pub text-long : length text ≡ 300100
+  pub text-long : length text ≡ 311378
   pub fits : playback .used ≤ length text
   pub inside : playback .place ≤ playback .end
   pub come : playback .end ≤ length tape

@@ -21,7 +21,7 @@ fn main() {
     let mut upper_ends = [0u32; SLIDING_PLACES];
     let mut bytes = [0u8; tape::CHANGE_BYTES];
     let mut tape = [0u8; PIECE];
-    let mut text = [0u8; GATHERED + tape::TEXT_BYTES];
+    let mut text = [0u8; GATHERED + tape_steps::STEP_BYTES];
     let mut playback = Playback {
         head: Head::fresh(0, 0, 0),
         watches: [0; 8],

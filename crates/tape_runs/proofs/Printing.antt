@@ -14,7 +14,7 @@ use Rattle.lists.proofs.Filters.{flat-append}
 use Rattle.model.specs.Rows.{Tables}
 use Rattle.model.specs.Reference.{Reference, Lengths, isOpen, unopened}
 use Rattle.tape_model.specs.Play.{Played, Player, playAt, print, referenceMake, bookPlay}
-use Rattle.tape_model.specs.Streams.{ready, linesFrom}
+use Rattle.tape_model.specs.Streams.{ready, settled, linesFrom}
 use Rattle.tape_model.proofs.Agrees.{Alike, at-first, frame-agrees}
 use Rattle.tape_model.proofs.Sliding.{slide-alike}
 use Rattle.tape_model.proofs.Streaming.{ready-same, print-lines, lines-play, lines-drop}
@@ -135,7 +135,7 @@ module _ (lengths : Lengths) where
         -- once the input has ended nothing comes
         nothing : (more : List ℕ) → (r .ended ≡ true → more ≡ []) → p .playback .ended ≡ true → f .came ++ more ≡ []
         nothing more z e =
-            let q = f .quiet (or-left (p .playback .over || p .playback .ended) (ready (take (p .playback .end) (p .tape)) (p .playback .place)) (or-right (p .playback .over) (p .playback .ended) e)) in
+            let q = f .quiet (or-left (p .playback .over || p .playback .ended) (settled (take (p .playback .end) (p .tape)) (p .playback .place)) (or-right (p .playback .over) (p .playback .ended) e)) in
             rw (q .0) (z (q .1 ∙ e))
 
     -- a piece is played

@@ -17,8 +17,9 @@ use Rattle.lists.proofs.Writing.{length-laid}
 use Rattle.lists.proofs.Filters.{flat-append}
 use Rattle.model.specs.Reference.{isOpen, unopened}
 use Rattle.tape_model.specs.Play.{Played, Player, print, referenceMake, bookPlay}
-use Rattle.tape_model.specs.Streams.{ready}
-use Rattle.turn_lines.specs.Turns.{textBytes}
+use Rattle.tape_model.specs.Streams.{settled}
+use Rattle.tape_model.proofs.Streaming.{may-play}
+use Rattle.tape_both.specs.Tried.{stepBytes}
 use Rattle.tape.proofs.Prints.{cells-kept}
 use Rattle.row_starts.specs.Starts.{Within, onward, Moved, stays}
 use Rattle.tape_playback.specs.declared.Playback.{Playback}
@@ -83,7 +84,7 @@ laid-longer : (l before : List ℕ) → length before ≤ length (laid l before)
 unfolding laid
 laid-longer l before = simp (length-append, length-drop) (omega arith)
 
-got-more : (piece : List ℕ) (p q : Printer) → Got piece p q → p .playback .used ≤ length (p .text) → q .playback .over ≡ false → (q .playback .ended || ready piece (q .playback .place)) ≡ true
+got-more : (piece : List ℕ) (p q : Printer) → Got piece p q → p .playback .used ≤ length (p .text) → q .playback .over ≡ false → (q .playback .ended || settled piece (q .playback .place)) ≡ true
     → Got piece p (stepped piece q)
 got-more piece p q g h o r = record {
   lines = g .lines ++ played piece q .text;
@@ -96,7 +97,7 @@ got-more piece p q g h o r = record {
   where
     go : {k : Player} → Resumes (played piece q .state) k
         → Plays piece (p .playback .ended) (p .playback .place) (playing p) (p .playback .over) (g .lines ++ played piece q .text) (played piece q .next) k (played piece q .over)
-    go (resumes m) = moved (frame (rw o at (g .plays)) (rw (g .same .ended) at r)) m
+    go (resumes m) = moved (frame (rw o at (g .plays)) (may-play piece (q .playback .place) (p .playback .ended) (rw (g .same .ended) at r))) m
 
 -- ---- a piece
 
@@ -108,7 +109,7 @@ leftOf piece p = left piece (p .playback .place) (p .playback .over)
 record Done (piece : List ℕ) (p q : Printer) : Type 0 where
   r : Printer
   got : Got piece p r
-  stops : GoesOn (r .playback .over) (length (r .text) - r .playback .used) (r .playback .ended || ready piece (r .playback .place)) false
+  stops : GoesOn (r .playback .over) (length (r .text) - r .playback .used) (r .playback .ended || settled piece (r .playback .place)) false
   less : leftOf piece r ≤ leftOf piece q
 
 -- less is left behind a frame
@@ -119,23 +120,23 @@ stepped-less piece q i o = rw o (advanced piece (q .playback .place) (playing q)
 module _ (piece : List ℕ) (p q : Printer) (n : ℕ) (g : Got piece p q) (h : p .playback .used ≤ length (p .text)) (i : q .playback .place ≤ length piece) (b : leftOf piece q ≤ suc n)
     (on : Got piece p (stepped piece q) → leftOf piece (stepped piece q) ≤ n → Done piece p (stepped piece q)) where
   -- nothing more is played
-  rests : GoesOn (q .playback .over) (length (q .text) - q .playback .used) (q .playback .ended || ready piece (q .playback .place)) false → Done piece p q
+  rests : GoesOn (q .playback .over) (length (q .text) - q .playback .used) (q .playback .ended || settled piece (q .playback .place)) false → Done piece p q
   rests s = record { r = q; got = g; stops = s; less = omega arith }
 
   -- a frame is played, if there is one and its lines find room
-  by-ready : q .playback .over ≡ false → textBytes ≤ length (q .text) - q .playback .used → (r : Bool) → (q .playback .ended || ready piece (q .playback .place)) ≡ r → Done piece p q
-  by-ready o t true e =
+  by-settled : q .playback .over ≡ false → stepBytes ≤ length (q .text) - q .playback .used → (r : Bool) → (q .playback .ended || settled piece (q .playback .place)) ≡ r → Done piece p q
+  by-settled o t true e =
       let d = on (got-more piece p q g h o e) (omega (arith, stepped-less piece q i o)) in
       record { r = d .r; got = d .got; stops = d .stops; less = omega (arith, d .less, stepped-less piece q i o) }
-  by-ready o t false e = rests (some-room o t (sym e))
+  by-settled o t false e = rests (some-room o t (sym e))
 
-  by-room : q .playback .over ≡ false → Dec (textBytes ≤ length (q .text) - q .playback .used) → Done piece p q
-  by-room o (yes t) = by-ready o t (q .playback .ended || ready piece (q .playback .place)) refl
+  by-room : q .playback .over ≡ false → Dec (stepBytes ≤ length (q .text) - q .playback .used) → Done piece p q
+  by-room o (yes t) = by-settled o t (q .playback .ended || settled piece (q .playback .place)) refl
   by-room o (no t) = rests (no-room o (omega (arith, t)))
 
   plays-next : (o : Bool) → q .playback .over ≡ o → Done piece p q
   plays-next true e = rests (none-over e)
-  plays-next false e = by-room e (decLe textBytes (length (q .text) - q .playback .used))
+  plays-next false e = by-room e (decLe stepBytes (length (q .text) - q .playback .used))
 
 -- nothing is left only where the tape is over
 over-left : (piece : List ℕ) (place : ℕ) (over : Bool) → left piece place over ≤ 0 → over ≡ true
@@ -175,7 +176,7 @@ record State (first : Printer) (came : List (List ℕ)) (p : Printer) : Type 0 w
   inside : p .playback .place ≤ p .playback .end
   within : p .playback .end ≤ length (p .tape)
   start : p .playback .start ≡ front
-  room : textBytes ≤ length (p .text)
+  room : stepBytes ≤ length (p .text)
   long : length (p .tape) ≡ length (first .tape)
 
 -- the printer at r once what is gathered is handed on
@@ -237,7 +238,7 @@ module _ {first : Printer} {came : List (List ℕ)} (p : Printer) (st : State fi
     text = p .text;
   }
 
-  module _ (c : List ℕ) (e : supplied (p .playback) (p .tape) ≡ false) (b : 24 + length c ≤ length (p .tape)) where
+  module _ (c : List ℕ) (e : supplied (p .playback) (p .tape) ≡ false) (b : 27 + length c ≤ length (p .tape)) where
     -- there is room for them
     read-fits : length (pending (p .playback) (p .tape) ++ c) ≤ length (p .tape)
     read-fits = omega (arith, length-append (pending (p .playback) (p .tape)) c, reads-short (p .playback) (p .tape) (st .inside, st .within) e)
@@ -271,16 +272,16 @@ module _ {first : Printer} {came : List (List ℕ)} (p : Printer) (st : State fi
       long = refilled .long ∙ st .long;
     }
 
--- all that has come is played: the tape is over, or more of it is wanted
-record Settled (first : Printer) (came : List (List ℕ)) (p : Printer) : Type 0 where
+-- nothing more of what has come is played: the tape is over, or more of it is wanted
+record Idle (first : Printer) (came : List (List ℕ)) (p : Printer) : Type 0 where
   q : Printer
   state : State first came q
   ended : q .playback .ended ≡ p .playback .ended
   rest : (q .playback .over ≡ true) ⊎ (supplied (q .playback) (q .tape) ≡ false)
 
 module _ {first : Printer} {came : List (List ℕ)} (p : Printer) (st : State first came p) (n : ℕ) (b : leftOf (pieceOf p) p ≤ suc n)
-    (on : (q : Printer) → State first came q → leftOf (pieceOf q) q ≤ n → Settled first came q) where
-  by-supply : p .playback .over ≡ false → (r : Bool) → (p .playback .ended || ready (pieceOf p) (p .playback .place)) ≡ r → Settled first came p
+    (on : (q : Printer) → State first came q → leftOf (pieceOf q) q ≤ n → Idle first came q) where
+  by-supply : p .playback .over ≡ false → (r : Bool) → (p .playback .ended || settled (pieceOf p) (p .playback .place)) ≡ r → Idle first came p
   by-supply o true r =
       let g = got-more (pieceOf p) p p (got-none (pieceOf p) p (fits p st) (st .start)) (fits p st) o r in
       let d = play-on (leftOf (pieceOf p) (stepped (pieceOf p) p)) (pieceOf p) p (stepped (pieceOf p) p) g (fits p st) (place-inside p st) (omega arith) in
@@ -290,13 +291,13 @@ module _ {first : Printer} {came : List (List ℕ)} (p : Printer) (st : State fi
       record { q = s .q; state = s .state; ended = s .ended ∙ d .got .same .ended; rest = s .rest }
   by-supply o false r = record { q = p; state = st; ended = refl; rest = inr (rw o r) }
 
-  settle-next : (o : Bool) → p .playback .over ≡ o → Settled first came p
-  settle-next true e = record { q = p; state = st; ended = refl; rest = inl e }
-  settle-next false e = by-supply e (p .playback .ended || ready (pieceOf p) (p .playback .place)) refl
+  idle-next : (o : Bool) → p .playback .over ≡ o → Idle first came p
+  idle-next true e = record { q = p; state = st; ended = refl; rest = inl e }
+  idle-next false e = by-supply e (p .playback .ended || settled (pieceOf p) (p .playback .place)) refl
 
-settle : (fuel : ℕ) {first : Printer} {came : List (List ℕ)} (p : Printer) → State first came p → leftOf (pieceOf p) p ≤ fuel → Settled first came p
-settle zero p st b = record { q = p; state = st; ended = refl; rest = inl (over-left (pieceOf p) (p .playback .place) (p .playback .over) b) }
-settle (suc n) p st b = settle-next p st n b (λ q st' b'. settle n q st' b') (p .playback .over) refl
+idles : (fuel : ℕ) {first : Printer} {came : List (List ℕ)} (p : Printer) → State first came p → leftOf (pieceOf p) p ≤ fuel → Idle first came p
+idles zero p st b = record { q = p; state = st; ended = refl; rest = inl (over-left (pieceOf p) (p .playback .place) (p .playback .over) b) }
+idles (suc n) p st b = idle-next p st n b (λ q st' b'. idles n q st' b') (p .playback .over) refl
 
 -- ---- all pieces
 
@@ -307,17 +308,17 @@ ran {came = came} rest {q} st o e = record { p = q; came = came; rest = rest; te
 
 -- a printer whose input has ended goes on without reading
 is-supplied : (q : Printer) → q .playback .ended ≡ true → supplied (q .playback) (q .tape) ≡ true
-is-supplied q e = or-left (q .playback .over || q .playback .ended) (ready (pieceOf q) (q .playback .place)) (or-right (q .playback .over) (q .playback .ended) e)
+is-supplied q e = or-left (q .playback .over || q .playback .ended) (settled (pieceOf q) (q .playback .place)) (or-right (q .playback .over) (q .playback .ended) e)
 
 -- nothing more comes
-ran-ended : {first : Printer} {came : List (List ℕ)} {p : Printer} → p .playback .ended ≡ true → Settled first came p → Ran first (came ++ [])
+ran-ended : {first : Printer} {came : List (List ℕ)} {p : Printer} → p .playback .ended ≡ true → Idle first came p → Ran first (came ++ [])
 ran-ended {first} {came} {p} e s = go (s .rest)
   where
     go : (s .q .playback .over ≡ true) ⊎ (supplied (s .q .playback) (s .q .tape) ≡ false) → Ran first (came ++ [])
     go (inl o) = ran [] (s .state) o (λ _. refl)
     go (inr n) = absurd (clash (supplied (s .q .playback) (s .q .tape)) (is-supplied (s .q) (s .ended ∙ e)) n)
 
-ran-last : {first : Printer} {came : List (List ℕ)} {p : Printer} → 24 ≤ length (first .tape) → Settled first came p → Ran first (came ++ [])
+ran-last : {first : Printer} {came : List (List ℕ)} {p : Printer} → 27 ≤ length (first .tape) → Idle first came p → Ran first (came ++ [])
 unfolding behind
 ran-last {first} {came} {p} b s = go (s .rest)
   where
@@ -325,10 +326,10 @@ ran-last {first} {came} {p} b s = go (s .rest)
     go (inl o) = ran [] (s .state) o (λ _. refl)
     go (inr n) =
         let st = fill (s .q) (s .state) [] n (omega (arith, b, s .state .long)) in
-        ran-ended refl (settle (leftOf (pieceOf (filled (s .q) (s .state) [])) (filled (s .q) (s .state) [])) (filled (s .q) (s .state) []) st (omega arith))
+        ran-ended refl (idles (leftOf (pieceOf (filled (s .q) (s .state) [])) (filled (s .q) (s .state) [])) (filled (s .q) (s .state) []) st (omega arith))
 
-ran-more : {first : Printer} {came : List (List ℕ)} {p : Printer} (byte : ℕ) (bytes : List ℕ) (pieces : List (List ℕ)) → 24 + length (byte ∷ bytes) ≤ length (first .tape)
-    → p .playback .ended ≡ false → Settled first came p
+ran-more : {first : Printer} {came : List (List ℕ)} {p : Printer} (byte : ℕ) (bytes : List ℕ) (pieces : List (List ℕ)) → 27 + length (byte ∷ bytes) ≤ length (first .tape)
+    → p .playback .ended ≡ false → Idle first came p
     → ((q : Printer) → State first (came ++ ((byte ∷ bytes) ∷ [])) q → q .playback .ended ≡ false → Ran first ((came ++ ((byte ∷ bytes) ∷ [])) ++ pieces))
     → Ran first (came ++ ((byte ∷ bytes) ∷ pieces))
 unfolding behind
@@ -341,13 +342,13 @@ ran-more {first} {came} byte bytes pieces b e s on = go (s .rest)
 
 run-on : {first : Printer} {pieces : List (List ℕ)} → Cut (length (first .tape)) pieces → {came : List (List ℕ)} (p : Printer) → State first came p → p .playback .ended ≡ false
     → Ran first (came ++ pieces)
-run-on (no-piece b) p st e = ran-last b (settle (leftOf (pieceOf p) p) p st (omega arith))
+run-on (no-piece b) p st e = ran-last b (idles (leftOf (pieceOf p) p) p st (omega arith))
 run-on (piece-more {byte = byte} {bytes = bytes} {pieces = pieces} b k) p st e =
-    ran-more byte bytes pieces b e (settle (leftOf (pieceOf p) p) p st (omega arith)) (λ q st' e'. run-on k q st' e')
+    ran-more byte bytes pieces b e (idles (leftOf (pieceOf p) p) p st (omega arith)) (λ q st' e'. run-on k q st' e')
 
 module _ {first : Printer} (f : Fresh first) where
   -- of every tape, cut in every way, there is a run
-  pub printer-runs : textBytes ≤ length (first .text) → {pieces : List (List ℕ)} → Cut (length (first .tape)) pieces → Ran first pieces
+  pub printer-runs : stepBytes ≤ length (first .text) → {pieces : List (List ℕ)} → Cut (length (first .tape)) pieces → Ran first pieces
   printer-runs h k =
       run-on k first
       (record { texts = []; run = begins; used = f .used; inside = omega (arith, f .place); within = omega (arith, f .end); start = f .start; room = h; long = refl })

@@ -44,10 +44,11 @@ pub record Fresh (p : Printer) : Type 0 where
   pub ended : p .playback .ended ≡ false
   pub over : p .playback .over ≡ false
 
--- a tape cut into pieces that come one after the other into a buffer of this length: each has a byte, and leaves 24 for the beginning of a frame
+-- a tape cut into pieces that come one after the other into a buffer of this length: each has a byte, and leaves 27 for what is held,
+-- a quote of 25 bytes and two of a look
 pub data Cut (room : ℕ) : List (List ℕ) → Type 0 where
-  no-piece : 24 ≤ room → Cut room []
-  piece-more : {byte : ℕ} {bytes : List ℕ} {pieces : List (List ℕ)} → 24 + length (byte ∷ bytes) ≤ room → Cut room pieces → Cut room ((byte ∷ bytes) ∷ pieces)
+  no-piece : 27 ≤ room → Cut room []
+  piece-more : {byte : ℕ} {bytes : List ℕ} {pieces : List (List ℕ)} → 27 + length (byte ∷ bytes) ≤ room → Cut room pieces → Cut room ((byte ∷ bytes) ∷ pieces)
 
 -- a piece behind those that came before; a read that gave nothing brought none
 unfoldable pub behind : List (List ℕ) → List ℕ → List (List ℕ)

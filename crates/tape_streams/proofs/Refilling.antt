@@ -12,8 +12,8 @@ use borrow.Rule.Slice.PartMut.{midOf, putMid, same-len-mid}
 use Rattle.lists.specs.Lists.{laid}
 use Rattle.lists.proofs.Booleans.{clash, none-right}
 use Rattle.lists.proofs.Writing.{length-laid}
-use Rattle.tape_model.specs.Streams.{ready}
-use Rattle.tape_model.proofs.Streaming.{ready-soon}
+use Rattle.tape_model.specs.Streams.{settled}
+use Rattle.tape_model.proofs.Streaming.{settled-soon}
 use Rattle.tape_playback.specs.declared.Playback.{Playback}
 use Rattle.tape_streams.specs.Streams.{pending, supplied, Refilled}
 
@@ -31,21 +31,21 @@ module _ (s : Playback) (tape : List ℕ) (h : (s .place ≤ s .end) × (s .end 
   pending-long : length (pending s tape) ≡ rest
   pending-long = simp (length-drop, length-take) (omega arith)
 
-  -- what is kept when the tape is read on is shorter than 25 bytes: in a longer buffer there is room to read into, so that nothing comes only where
+  -- what is kept when the tape is read on is shorter than 28 bytes: in a longer buffer there is room to read into, so that nothing comes only where
   -- nothing more does
-  pub reads-short : supplied s tape ≡ false → length (pending s tape) < 25
-  reads-short e = go (decLe (s .place + 25) (length (take (s .end) tape)))
+  pub reads-short : supplied s tape ≡ false → length (pending s tape) < 28
+  reads-short e = go (decLe (s .place + 28) (length (take (s .end) tape)))
     where
-      go : Dec (s .place + 25 ≤ length (take (s .end) tape)) → length (pending s tape) < 25
-      go (yes t) = absurd (clash (ready (take (s .end) tape) (s .place)) (ready-soon (take (s .end) tape) (s .place) t) (none-right (s .over || s .ended) (ready (take (s .end) tape) (s .place)) e))
+      go : Dec (s .place + 28 ≤ length (take (s .end) tape)) → length (pending s tape) < 28
+      go (yes t) = absurd (clash (settled (take (s .end) tape) (s .place)) (settled-soon (take (s .end) tape) (s .place) t) (none-right (s .over || s .ended) (settled (take (s .end) tape) (s .place)) e))
       go (no n) = omega (arith, pending-long, n, length-take-le (s .end) tape (h .1))
 
   -- by the test that the code makes
-  tested : {test result : Bool} → test ≡ ready (take (s .end) tape) (s .place) → (s .over || s .ended) || test ≡ result → supplied s tape ≡ result
+  tested : {test result : Bool} → test ≡ settled (take (s .end) tape) (s .place) → (s .over || s .ended) || test ≡ result → supplied s tape ≡ result
   tested r e = rw r at e
 
   -- nothing is read
-  pub refill-quiet : {test : Bool} → test ≡ ready (take (s .end) tape) (s .place) → (s .over || s .ended) || test ≡ true → Refilled s tape s tape
+  pub refill-quiet : {test : Bool} → test ≡ settled (take (s .end) tape) (s .place) → (s .over || s .ended) || test ≡ true → Refilled s tape s tape
   refill-quiet r e = record {
     came = [];
     kept = sym (append-nil (pending s tape));
@@ -60,7 +60,7 @@ module _ (s : Playback) (tape : List ℕ) (h : (s .place ≤ s .end) × (s .end 
   }
 
   -- what is not played is moved to the front, and these bytes are read behind it
-  pub refill-read : 25 ≤ length tape → (last : List ℕ) {test : Bool} {front : List ℕ} {count : ℕ} {more : Bool} → test ≡ ready (take (s .end) tape) (s .place) → (s .over || s .ended) || test ≡ false → front ≡ laid (take rest (drop (s .place) tape)) tape
+  pub refill-read : 28 ≤ length tape → (last : List ℕ) {test : Bool} {front : List ℕ} {count : ℕ} {more : Bool} → test ≡ settled (take (s .end) tape) (s .place) → (s .over || s .ended) || test ≡ false → front ≡ laid (take rest (drop (s .place) tape)) tape
       → count ≤ length last → length last ≡ length (midOf rest (length front - rest) front) → (0 < length last → more ≡ ltb 0 count)
       → Refilled s tape
       (record { head = s .head; watches = s .watches; start = s .start; place = 0; end = rest + count; used = s .used; ended = not more; over = s .over })

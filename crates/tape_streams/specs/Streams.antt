@@ -5,7 +5,7 @@ use mathlib.Core.Bool.{Bool, true, false, _||_, not}
 use mathlib.Core.List.{List, [], _++_}
 use lib.Dec.{ltb}
 use lib.ListN.{length, take, drop}
-use Rattle.tape_model.specs.Streams.{ready}
+use Rattle.tape_model.specs.Streams.{settled}
 use Rattle.tape_playback.specs.declared.Playback.{Playback}
 use Rattle.tape_playback.specs.Played.{SameBook, SameInput}
 
@@ -13,9 +13,9 @@ use Rattle.tape_playback.specs.Played.{SameBook, SameInput}
 abbrev pub pending : Playback → List ℕ → List ℕ
 pending s tape = drop (s .place) (take (s .end) tape)
 
--- the printer goes on without reading: the tape is over, the input has ended, or a frame is ready
+-- the printer goes on without reading: the tape is over, the input has ended, or a frame is settled
 abbrev pub supplied : Playback → List ℕ → Bool
-supplied s tape = (s .over || s .ended) || ready (take (s .end) tape) (s .place)
+supplied s tape = (s .over || s .ended) || settled (take (s .end) tape) (s .place)
 
 -- what is gathered was handed on, and nothing else changed; where that failed the tape is over
 pub record Flushed (s r : Playback) : Type 0 where

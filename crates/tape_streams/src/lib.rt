@@ -27,16 +27,16 @@ pub fn flush(playback: Playback, text: &[u8]) -> Playback
     now
 }
 
-// Reads on behind a frame that has not come whole, which is moved to the front of what has come of the tape; nothing once the input has
-// ended or the tape is over.
+// Reads on behind a frame that is not settled, which is moved to the front of what has come of the tape; nothing once the input has ended or
+// the tape is over.
 pub fn refill(playback: Playback, tape: &mut [u8]) -> Playback
     requires { ⌜ (playback .place ≤ playback .end) × (playback .end ≤ length (now tape)) ⌝ }
-    requires { ⌜ 25 ≤ length (now tape) ⌝ }
+    requires { ⌜ 28 ≤ length (now tape) ⌝ }
     ensures { λ r. ⌜ Refilled playback (now (tape .entry)) r (now (tape .exit)) ⌝ }
 {
     let mut now = playback;
     let end = now.end;
-    if now.over | now.ended | waiting::ready(&tape[..end], now.place) {
+    if now.over | now.ended | waiting::settled(&tape[..end], now.place) {
         return now;
     }
     let rest = end - now.place;

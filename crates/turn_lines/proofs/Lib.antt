@@ -1,3 +1,4 @@
 -- The laws of the crate.
 pub mod Behind
 pub mod Turning
+pub mod InOne

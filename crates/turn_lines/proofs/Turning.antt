@@ -63,7 +63,7 @@ same-head zero h = refl
 same-head (suc k) h = refl
 
 -- the same lines laid
-laid-as : {lines lines' before after : List ℕ} {count : ℕ} → lines ≡ lines' → Laid lines before count after → Laid lines' before count after
+pub laid-as : {lines lines' before after : List ℕ} {count : ℕ} → lines ≡ lines' → Laid lines before count after → Laid lines' before count after
 laid-as e l = rw (← e) l
 
 -- the line of an answer laid with the lines of its changes behind it, as what the call promises says them

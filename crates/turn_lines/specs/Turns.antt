@@ -1,16 +1,19 @@
 -- A call of a tape made by the book model on what is lent: its number, its lines, and what it leaves.
 use mathlib.Core.Path.{_≡_}
 use Prim.Native.Nat.{ℕ, _+_, _*_, _/_}
-use mathlib.Core.List.{List}
-use lib.ListN.{length, replicate}
+use mathlib.Core.List.{List, [], _∷_, _++_}
+use lib.ListN.{length, take, replicate}
 use Rattle.lists.specs.Lists.{laid}
 use Rattle.head.specs.declared.Head.{Head}
 use Rattle.head.specs.Heads.{maxCapacity}
 use Rattle.refusals.specs.Refusals.{numberOf, granted}
+use Rattle.replies.specs.declared.BothReply.{BothReply}
 use Rattle.model.specs.Rows.{Tables}
 use Rattle.model.specs.Changes.{changeLength, changeRoom}
 use Rattle.model.specs.Calls.{Call}
 use Rattle.model.specs.Promises.{world}
+use Rattle.text.specs.Text.{line}
+use Rattle.printed.specs.Printed.{changesText}
 use Rattle.tape_model.specs.Print.{refusalLine, textOf}
 use Rattle.tape_model.specs.Play.{Player, bookMake}
 use Rattle.turn_lines.specs.declared.Turn.{Turn}
@@ -37,6 +40,11 @@ player h t ws bytes = record { world = world h t ws; outputs = record { bytes = 
 unfoldable pub answerLine : ℕ → List ℕ → List ℕ
 answerLine number accepted = granted number accepted (refusalLine number)
 
+-- the lines of an accepted quote and look in one, from what it handed back, its bytes and its cells: those of the quote, and that of the look
+abbrev pub bothText : ℕ → BothReply → List ℕ → List ℕ → List ℕ
+bothText n r bytes cells =
+    (line 81 (r .reply .head .newest ∷ r .reply .head .live ∷ []) ++ changesText (take (r .reply .count) bytes)) ++ line 76 (n ∷ take (r .listed) cells)
+
 -- what a frame comes to: its number (0: accepted), its lines, and the player after it
 pub record Effect : Type 0 where
   pub number : ℕ
@@ -46,6 +54,13 @@ pub record Effect : Type 0 where
 -- a call of the book model
 unfoldable pub made : Call → Player → Effect
 made c k = let one = bookMake c k in record { number = one .0 .outcome .number; text = textOf c (one .0); state = one .1 }
+
+-- a quote and, directly behind it, a look: the lines of both, and what the look comes to
+unfoldable pub madeTwo : List ℕ → ℕ → Player → Effect
+madeTwo x n k =
+    let one = made (Call.Quote x) k in
+    let two = made (Call.Look n) (one .state) in
+    record { number = two .number; text = one .text ++ two .text; state = two .state }
 
 -- what is refused with this number before any call
 unfoldable pub refusedWith : ℕ → Player → Effect

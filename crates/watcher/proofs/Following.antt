@@ -1,5 +1,6 @@
 -- A watcher that reads what the reference model writes holds, after each call, what the reference model says.
 use mathlib.Core.Path.{_≡_, refl, sym, ap, _∙_}
+use mathlib.Core.Logic.{_⊎_, inl, inr}
 use Prim.Native.Nat.{ℕ, zero, suc, _+_, _-_, _≤_, _<_}
 use native.Mathlib.Nat.{le-refl}
 use native.Mathlib.Omega.{arith}
@@ -24,8 +25,9 @@ use Rattle.frames.specs.Frames.{messagesFrom}
 use Rattle.model.specs.Changes.{join, pairJoin, allChanges, pairChanges, frames}
 use Rattle.model.specs.Reference.{Reference, newest, over, skylineOf, pastOf, paired, pairOf, outside, outsidePair, withQuote, withWatched, withPairOf, opening, tells, foretells, referenceStep}
 use Rattle.model.specs.Book.{isWatch}
-use Rattle.model.specs.Calls.{Call, Open, Quote, Look, Watch, End, Past, Pair, Unpair, Due, Preview, Outputs, Lent, Seen, lengthsOf, expectedStep}
+use Rattle.model.specs.Calls.{Call, Open, Quote, Look, Watch, End, Past, Pair, Unpair, Due, Preview, Both, Outputs, Lent, Seen, lengthsOf, expectedStep}
 use Rattle.watcher.specs.Watcher.{Follower, OfSize, OfPair, Held, Nothing, Holding, appliedAll, reads, sizedFor, pairedFor, watcherStep, watchedFor, listFor, heldBy}
+use Rattle.model.proofs.Both.{Taken, Left, both-told}
 use Rattle.model.proofs.Desks.{size-of-watch, watch-parts, watch-is}
 use Rattle.model.proofs.Simulation.{Bounded, in-range, in-unit, in-pair-range}
 use Rattle.watcher.proofs.Applying.{PutsIn, Ignores, first-applied, unapplied, same-size, size-puts, size-keeps-join, sized-once, size-keeps-pair-join, pair-keeps-join, pair-puts, size-led, pair-led}
@@ -54,6 +56,13 @@ module _ (f : Follower) where
   unfolding reads messagesFrom appliedAll
   reads-nothing seen c Nothing = refl
   reads-nothing seen c (Holding held) = rw c
+
+  -- calls that wrote the same are read alike
+  reads-alike : (one other : Seen) → one .outcome .count ≡ other .outcome .count → one .outputs .bytes ≡ other .outputs .bytes
+      → (held : Held) → reads f one held ≡ reads f other held
+  unfolding reads
+  reads-alike one other c b Nothing = refl
+  reads-alike one other c b (Holding held) = rw (c, b)
 
   -- messages that lead from the list before to the list after
   held-on : (s next : Reference) (ms : List Message) → watchedFor f next ≡ watchedFor f s
@@ -334,6 +343,15 @@ module _ (f : Follower) (s : Reference) (l : Lent) (ok : Bounded s) (o : Outputs
           rw e (reads-frames f (messages s ok x room) (sent-quote s ok x room) _ (o .bytes) refl refl (heldBy f s) ∙ quote-moves s ok x room f)
       go (suc k) e = rw e (reads-nothing f _ refl (heldBy f s))
 
+  -- and those of one with a look behind it, in one, which are the quote's
+  two-in-one : (x : List ℕ) (n : ℕ) → Follows (Both x n)
+  unfolding expectedStep watcherStep
+  two-in-one x n = go (both-told x n (lengthsOf l o) s)
+    where
+      go : Taken x n (lengthsOf l o) s ⊎ Left x n (lengthsOf l o) s → Follows (Both x n)
+      go (inl t) = rw (t .next) (reads-alike f _ _ (t .count) (ap (λ (bs : List ℕ). laid bs (o .bytes)) (t .bytes)) (heldBy f s) ∙ (rw (t .quote-next) at (quotes x)))
+      go (inr t) = rw (t .next) (reads-nothing f _ (t .count) (heldBy f s))
+
   -- after each call the watcher holds what it is to hold
   pub follows : (c : Call) → Follows c
   follows (Open d N directions) = opens d N directions
@@ -346,3 +364,4 @@ module _ (f : Follower) (s : Reference) (l : Lent) (ok : Bounded s) (o : Outputs
   follows Unpair = unpairs
   follows Due = looks-due
   follows (Preview x) = previews x
+  follows (Both x n) = two-in-one x n

@@ -90,6 +90,7 @@ watcherStep f (Call.Pair n1 n2) seen held = reads f seen (granted (seen .outcome
 watcherStep f Call.Unpair seen held = granted (seen .outcome .number) (cond (pairedFor f) Nothing held) held
 watcherStep f Call.Due seen held = held
 watcherStep f (Call.Preview x) seen held = held
+watcherStep f (Call.Both x n) seen held = reads f seen held
 
 -- what a watcher holds after a list of calls of which this was seen
 unfoldable pub watcher : Follower → List Lending → List Seen → Held → Held

@@ -50,17 +50,20 @@ slice-aggregate-poke c =
 
 slice-aggregate-poke-2 : tie.Need-slice-aggregate-poke-2 Inv-loop μ-loop
 slice-aggregate-poke-2 c =
-    let at-loop = c .before .before .before .before .before .before .before .before .before .before in
+    let at-loop-test = c .before .before .before .before .before .before .before .before .before in
+    let at-loop = at-loop-test .before in
     sym (at-loop .loop .inv .1)
 
 slice-aggregate-poke-3 : tie.Need-slice-aggregate-poke-3 Inv-loop μ-loop
 slice-aggregate-poke-3 c =
-    let at-loop = c .before .before .before .before .before .before .before .before .before .before .before in
+    let at-next-line = c .before .before .before .before .before in
+    let at-loop = at-next-line .before .before .before .before .before .before in
     sym (at-loop .loop .inv .2)
 
 slice-aggregate-poke-4 : tie.Need-slice-aggregate-poke-4 Inv-loop μ-loop
 slice-aggregate-poke-4 c =
-    let at-loop = c .before .before .before .before .before .before .before .before .before .before .before .before in
+    let at-next-line = c .before .before .before .before .before .before in
+    let at-loop = at-next-line .before .before .before .before .before .before in
     sym (at-loop .loop .inv .3)
 
 poke-requires : tie.Need-poke-requires Inv-loop μ-loop
@@ -72,39 +75,58 @@ begin-requires c κs = search needs
 slice-aggregate-write : tie.Need-slice-aggregate-write Inv-loop μ-loop
 slice-aggregate-write c =
     let at-poke = c .before .before .before .before .before .before in
-    let at-loop = at-poke .before .before .before .before .before .before .before .before .before .before .before .before .before in
+    let at-next-line = at-poke .before .before .before .before .before .before .before in
+    let at-loop = at-next-line .before .before .before .before .before .before in
     omega (arith, at-loop .loop .inv .0, at-poke .poke .kept .1 .0)
 
 slice-aggregate-write-2 : tie.Need-slice-aggregate-write-2 Inv-loop μ-loop
 slice-aggregate-write-2 c =
     let at-poke = c .before .before .before .before .before .before .before in
-    let at-loop = at-poke .before .before .before .before .before .before .before .before .before .before .before .before .before in
+    let at-next-line = at-poke .before .before .before .before .before .before .before in
+    let at-loop = at-next-line .before .before .before .before .before .before in
     omega (arith, at-loop .loop .inv .1, at-poke .poke .kept .1 .1 .0)
 
 slice-aggregate-write-3 : tie.Need-slice-aggregate-write-3 Inv-loop μ-loop
 slice-aggregate-write-3 c =
     let at-poke = c .before .before .before .before .before .before .before .before in
-    let at-loop = at-poke .before .before .before .before .before .before .before .before .before .before .before .before .before in
+    let at-next-line = at-poke .before .before .before .before .before .before .before in
+    let at-loop = at-next-line .before .before .before .before .before .before in
     omega (arith, at-loop .loop .inv .2, at-poke .poke .kept .1 .1 .1 .0)
 
 slice-aggregate-write-4 : tie.Need-slice-aggregate-write-4 Inv-loop μ-loop
 slice-aggregate-write-4 c =
     let at-poke = c .before .before .before .before .before .before .before .before .before in
-    let at-loop = at-poke .before .before .before .before .before .before .before .before .before .before .before .before .before in
+    let at-next-line = at-poke .before .before .before .before .before .before .before in
+    let at-loop = at-next-line .before .before .before .before .before .before in
     omega (arith, at-loop .loop .inv .3, at-poke .poke .kept .1 .1 .1 .1 .0)
 
 slice-aggregate-write-5 : tie.Need-slice-aggregate-write-5 Inv-loop μ-loop
 slice-aggregate-write-5 c =
-    let at-loop = c .before .before .before .before .before .before .before .before .before .before .before .before .before .before .before .before .before .before .before .before .before .before .before in
+    let at-begin = c .before .before .before .before .before in
+    let at-poke = at-begin .before .before .before .before .before in
+    let at-next-line = at-poke .before .before .before .before .before .before .before in
+    let at-loop = at-next-line .before .before .before .before .before .before in
     sym (at-loop .loop .inv .4)
+
+slice-aggregate-write-6 : tie.Need-slice-aggregate-write-6 Inv-loop μ-loop
+slice-aggregate-write-6 c =
+    let at-begin = c .before .before .before .before .before .before in
+    let at-poke = at-begin .before .before .before .before .before in
+    let at-next-line = at-poke .before .before .before .before .before .before .before in
+    let at-loop = at-next-line .before .before .before .before .before .before in
+    sym (at-loop .loop .inv .5)
 
 write-requires : tie.Need-write-requires Inv-loop μ-loop
 write-requires c κs = search needs
 
 slice-aggregate-set : tie.Need-slice-aggregate-set Inv-loop μ-loop
 slice-aggregate-set c =
-    let at-write = c .before .before .before .before .before .before .before .before .before .before in
-    let at-loop = at-write .before .before .before .before .before .before .before .before .before .before .before .before .before .before .before .before .before .before .before .before .before .before .before .before in
+    let at-list2 = c .before .before .before .before .before in
+    let at-write = at-list2 .before .before .before .before .before .before in
+    let at-begin = at-write .before .before .before .before .before .before .before in
+    let at-poke = at-begin .before .before .before .before .before in
+    let at-next-line = at-poke .before .before .before .before .before .before .before in
+    let at-loop = at-next-line .before .before .before .before .before .before in
     omega (arith, at-loop .loop .inv .4, at-write .write .kept .1 .1 .1 .1 .1 .1 .0)
 
 set-requires : tie.Need-set-requires Inv-loop μ-loop
@@ -112,15 +134,28 @@ set-requires c κs = search needs
 
 slice-aggregate-read : tie.Need-slice-aggregate-read Inv-loop μ-loop
 slice-aggregate-read c =
-    let at-loop = c .before .before .before .before .before .before .before .before .before .before .before .before .before .before .before .before .before .before .before .before .before .before .before .before .before .before .before .before .before .before .before .before .before .before .before .before .before .before .before .before .before in
-    sym (at-loop .loop .inv .5)
+    let at-set = c .before .before .before .before .before .before in
+    let at-list2 = at-set .before .before .before .before .before .before in
+    let at-write = at-list2 .before .before .before .before .before .before in
+    let at-begin = at-write .before .before .before .before .before .before .before in
+    let at-poke = at-begin .before .before .before .before .before in
+    let at-next-line = at-poke .before .before .before .before .before .before .before in
+    let at-loop = at-next-line .before .before .before .before .before .before in
+    omega (arith, at-loop .loop .inv .5, at-write .write .kept .1 .1 .1 .1 .1 .1 .1 .0)
 
 read-requires : tie.Need-read-requires Inv-loop μ-loop
 read-requires c κs = search needs
 
 slice-aggregate-print-line : tie.Need-slice-aggregate-print-line Inv-loop μ-loop
 slice-aggregate-print-line c =
-    let at-loop = c .before .before .before .before .before .before .before .before .before .before .before .before .before .before .before .before .before .before .before .before .before .before .before .before .before .before .before .before .before .before .before .before .before .before .before .before .before .before .before .before .before .before .before .before .before .before in
+    let at-read = c .before .before .before .before in
+    let at-set = at-read .before .before .before .before .before .before .before in
+    let at-list2 = at-set .before .before .before .before .before .before in
+    let at-write = at-list2 .before .before .before .before .before .before in
+    let at-begin = at-write .before .before .before .before .before .before .before in
+    let at-poke = at-begin .before .before .before .before .before in
+    let at-next-line = at-poke .before .before .before .before .before .before .before in
+    let at-loop = at-next-line .before .before .before .before .before .before in
     sym (at-loop .loop .inv .7)
 
 print-line-requires : tie.Need-print-line-requires Inv-loop μ-loop
@@ -129,7 +164,14 @@ print-line-requires c κs = search needs
 slice-aggregate-print-tables : tie.Need-slice-aggregate-print-tables Inv-loop μ-loop
 slice-aggregate-print-tables c =
     let at-print-line = c .before .before .before .before .before .before in
-    let at-loop = at-print-line .before .before .before .before .before .before .before .before .before .before .before .before .before .before .before .before .before .before .before .before .before .before .before .before .before .before .before .before .before .before .before .before .before .before .before .before .before .before .before .before .before .before .before .before .before .before .before in
+    let at-read = at-print-line .before .before .before .before .before in
+    let at-set = at-read .before .before .before .before .before .before .before in
+    let at-list2 = at-set .before .before .before .before .before .before in
+    let at-write = at-list2 .before .before .before .before .before .before in
+    let at-begin = at-write .before .before .before .before .before .before .before in
+    let at-poke = at-begin .before .before .before .before .before in
+    let at-next-line = at-poke .before .before .before .before .before .before .before in
+    let at-loop = at-next-line .before .before .before .before .before .before in
     omega (arith, at-loop .loop .inv .7, at-print-line .print-line .kept)
 
 print-tables-requires : tie.Need-print-tables-requires Inv-loop μ-loop
@@ -137,7 +179,15 @@ print-tables-requires c κs = search needs
 
 loop-less : tie.Need-loop-less Inv-loop μ-loop
 loop-less c =
-    let at-loop-test = c .before .before .before .before .before .before .before .before .before .before .before .before .before .before .before .before .before .before .before .before .before .before .before .before .before .before .before .before .before .before .before .before .before .before .before .before .before .before .before .before .before .before .before .before .before .before .before .before .before .before .before .before .before .before in
+    let at-print-line = c .before .before .before .before .before .before .before .before in
+    let at-read = at-print-line .before .before .before .before .before in
+    let at-set = at-read .before .before .before .before .before .before .before in
+    let at-list2 = at-set .before .before .before .before .before .before in
+    let at-write = at-list2 .before .before .before .before .before .before in
+    let at-begin = at-write .before .before .before .before .before .before .before in
+    let at-poke = at-begin .before .before .before .before .before in
+    let at-next-line = at-poke .before .before .before .before .before .before .before in
+    let at-loop-test = at-next-line .before .before .before .before .before in
     omega (arith, at-loop-test .loop-test .taken)
 
 loop-again : tie.Need-loop-again Inv-loop μ-loop
@@ -145,8 +195,10 @@ loop-again c =
     let at-print-line = c .before .before .before .before .before .before .before .before in
     let at-read = at-print-line .before .before .before .before .before in
     let at-set = at-read .before .before .before .before .before .before .before in
-    let at-write = at-set .before .before .before .before .before .before .before .before .before .before .before in
-    let at-poke = at-write .before .before .before .before .before .before .before .before .before .before .before in
+    let at-list2 = at-set .before .before .before .before .before .before in
+    let at-write = at-list2 .before .before .before .before .before .before in
+    let at-begin = at-write .before .before .before .before .before .before .before in
+    let at-poke = at-begin .before .before .before .before .before in
     let at-next-line = at-poke .before .before .before .before .before .before .before in
     let at-loop = at-next-line .before .before .before .before .before .before in
     let i = at-loop .loop .inv in let p = at-poke .poke .kept .1 in let w = at-write .write .kept .1 .1 in (
@@ -155,7 +207,7 @@ loop-again c =
       omega (arith, i .2, p .1 .1 .0, w .1 .1 .0),
       omega (arith, i .3, p .1 .1 .1 .0, w .1 .1 .1 .0),
       omega (arith, i .4, w .1 .1 .1 .1 .0, at-set .set .kept),
-      omega (arith, i .5, at-read .read .kept),
+      omega (arith, i .5, w .1 .1 .1 .1 .1 .0, at-read .read .kept),
       omega (arith, i .6, at-next-line .next-line .kept),
       omega (arith, i .7, at-print-line .print-line .kept, c .before .print-tables .kept),
     )
@@ -190,6 +242,7 @@ main-spec =
     slice-aggregate-write-3
     slice-aggregate-write-4
     slice-aggregate-write-5
+    slice-aggregate-write-6
     write-requires
     slice-aggregate-set
     set-requires

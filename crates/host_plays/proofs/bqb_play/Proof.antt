@@ -54,7 +54,7 @@ returns c =
       turned = turned-is (at-flag-of .flag-of .ensures);
       hands = at-store-head .store-head .ensures;
       records = at-store-numbers .store-numbers .ensures;
-      stepped = step-at (at-head-of .head-of .ensures) (at-numbers-of .numbers-of .ensures) (at-play .play .ensures);
+      stepped = step-at _ _ _ _ (at-head-of .head-of .ensures) (at-numbers-of .numbers-of .ensures) (at-play .play .ensures);
     }
 
 pub bqb-play-spec : {M : Type 1} → statement M

@@ -38,6 +38,12 @@ slice-relend-prefix-write-lent-5 c = search needs
 slice-aggregate-write-lent-5 : tie.Need-slice-aggregate-write-lent-5
 slice-aggregate-write-lent-5 c = simp length-take (omega arith)
 
+slice-relend-prefix-write-lent-6 : tie.Need-slice-relend-prefix-write-lent-6
+slice-relend-prefix-write-lent-6 c = search needs
+
+slice-aggregate-write-lent-6 : tie.Need-slice-aggregate-write-lent-6
+slice-aggregate-write-lent-6 c = simp length-take (omega arith)
+
 write-lent-requires : tie.Need-write-lent-requires
 write-lent-requires c κs = search needs
 
@@ -55,6 +61,9 @@ same-length-4 c = search needs
 
 same-length-5 : tie.Need-same-length-5
 same-length-5 c = search needs
+
+same-length-6 : tie.Need-same-length-6
+same-length-6 c = search needs
 
 returns : tie.Need-returns
 returns c = search needs
@@ -74,10 +83,13 @@ write-spec =
     slice-aggregate-write-lent-4
     slice-relend-prefix-write-lent-5
     slice-aggregate-write-lent-5
+    slice-relend-prefix-write-lent-6
+    slice-aggregate-write-lent-6
     write-lent-requires
     same-length
     same-length-2
     same-length-3
     same-length-4
     same-length-5
+    same-length-6
     returns)

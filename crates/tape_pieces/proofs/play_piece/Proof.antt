@@ -1,4 +1,4 @@
--- `play_piece` meets its contract: frame by frame, each on what the one before left.
+-- `play_piece` meets its contract: step by step, each on what the one before left.
 use mathlib.Core.Path.{refl, _∙_}
 use native.Mathlib.Omega.{arith}
 use Rattle.model.specs.Promises.{tables}
@@ -23,8 +23,8 @@ loop-holds c =
 plays-requires : tie.Need-plays-requires Inv-loop μ-loop
 plays-requires c κs = fits (c .loop .inv)
 
-play-frame-requires : tie.Need-play-frame-requires Inv-loop μ-loop
-play-frame-requires c κs =
+play-next-requires : tie.Need-play-next-requires Inv-loop μ-loop
+play-next-requires c κs =
     let at-if1 = c .before .before .before .before .before .before in
     let at-plays = at-if1 .before in
     let i = at-plays .before .loop .inv in
@@ -33,26 +33,26 @@ play-frame-requires c κs =
 
 rewind-requires : tie.Need-rewind-requires Inv-loop μ-loop
 rewind-requires c κs =
-    let at-play-frame = c .before .before .before .before .before .before .before .before .before .before .before .before .before .before .before .before in
-    let at-loop = at-play-frame .before .before .before .before .before .before .before .before .before in
+    let at-play-next = c .before .before .before .before .before .before .before .before .before .before .before .before .before .before .before .before in
+    let at-loop = at-play-next .before .before .before .before .before .before .before .before .before in
     let i = at-loop .loop .inv in
-    let made = at-play-frame .play-frame in
+    let made = at-play-next .play-next in
     (long-same (made .kept .1 .1 .0) (made .kept .1 .1 .1 .0) (made .kept .1 .1 .1 .1 .0) (made .kept .1 .1 .1 .1 .1 .0) (i .tables-long), (made .ensures .starts, made .ensures .opened))
 
 loop-less : tie.Need-loop-less Inv-loop μ-loop
 loop-less c =
-    let at-play-frame = c .before .before .before .before .before .before .before .before .before .before .before .before .before .before .before .before .before .before .before .before .before .before .before .before .before in
-    let at-if1 = at-play-frame .before .before .before .before .before .before .before in
+    let at-play-next = c .before .before .before .before .before .before .before .before .before .before .before .before .before .before .before .before .before .before .before .before .before .before .before .before .before in
+    let at-if1 = at-play-next .before .before .before .before .before .before .before in
     let at-plays = at-if1 .before in
-    less (at-plays .before .loop .inv) (at-plays .plays .ensures) (at-if1 .if1 .taken) (at-play-frame .play-frame .ensures)
+    less (at-plays .before .loop .inv) (at-plays .plays .ensures) (at-if1 .if1 .taken) (at-play-next .play-next .ensures)
 
 loop-again : tie.Need-loop-again Inv-loop μ-loop
 loop-again c =
     let at-rewind = c .before .before .before .before .before .before .before .before in
-    let at-play-frame = at-rewind .before .before .before .before .before .before .before .before .before .before .before .before .before .before .before .before .before in
-    let at-if1 = at-play-frame .before .before .before .before .before .before .before in
+    let at-play-next = at-rewind .before .before .before .before .before .before .before .before .before .before .before .before .before .before .before .before .before in
+    let at-if1 = at-play-next .before .before .before .before .before .before .before in
     let at-plays = at-if1 .before in
-    let made = at-play-frame .play-frame in
+    let made = at-play-next .play-next in
     let wound = at-rewind .rewind in
     more (at-plays .before .loop .inv) (at-plays .plays .ensures) (at-if1 .if1 .taken) (made .ensures) (made .kept .1 .1 .1 .1 .1 .1 .1 .0) (wound .kept .1 .1 .0 ∙ made .kept .1 .1 .0)
     (wound .kept .1 .1 .1 .0 ∙ made .kept .1 .1 .1 .0) (wound .kept .1 .1 .1 .1 .0 ∙ made .kept .1 .1 .1 .1 .0) (wound .kept .1 .1 .1 .1 .1 .0 ∙ made .kept .1 .1 .1 .1 .1 .0) (wound .ensures .0) (wound .ensures .1)
@@ -83,7 +83,7 @@ play-piece-spec =
     μ-loop
     loop-holds
     plays-requires
-    play-frame-requires
+    play-next-requires
     rewind-requires
     loop-less
     loop-again

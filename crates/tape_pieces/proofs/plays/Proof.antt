@@ -18,14 +18,14 @@ returns-3 c =
     let at-if1 = c .before .before .before in
     some-room (at-if1 .if1 .left) (c .before .if2 .left) (rw (c .if3 .taken))
 
-ready-requires : tie.Need-ready-requires
-ready-requires c κs = search needs
+settled-requires : tie.Need-settled-requires
+settled-requires c κs = search needs
 
 returns-4 : tie.Need-returns-4
 returns-4 c =
     let at-if2 = c .before .before in
     let at-if1 = at-if2 .before .before in
-    some-room (at-if1 .if1 .left) (at-if2 .if2 .left) (rw (c .before .if3 .left) (c .ready .ensures))
+    some-room (at-if1 .if1 .left) (at-if2 .if2 .left) (rw (c .before .if3 .left) (c .settled .ensures))
 
 pub plays-spec : {M : Type 1} → statement M
-plays-spec = tie.close (tie.spec returns sub-if2 returns-2 returns-3 ready-requires returns-4)
+plays-spec = tie.close (tie.spec returns sub-if2 returns-2 returns-3 settled-requires returns-4)

@@ -6,25 +6,25 @@ use borrow.Author.Needs.{needs}
 use Rattle.tape_streams.proofs.refill.Statement.{statement}
 use Rattle.tape_streams.proofs.refill.Tie as tie
 
-slice-reshare-prefix-ready : tie.Need-slice-reshare-prefix-ready
-slice-reshare-prefix-ready c = search needs
+slice-reshare-prefix-settled : tie.Need-slice-reshare-prefix-settled
+slice-reshare-prefix-settled c = search needs
 
-slice-aggregate-ready : tie.Need-slice-aggregate-ready
-slice-aggregate-ready c =
+slice-aggregate-settled : tie.Need-slice-aggregate-settled
+slice-aggregate-settled c =
     let at-start = c .before .before .before in
     simp length-take (omega (arith, at-start .pre))
 
-ready-requires : tie.Need-ready-requires
-ready-requires c κs = search needs
+settled-requires : tie.Need-settled-requires
+settled-requires c κs = search needs
 
 same-length : tie.Need-same-length
 same-length c = search needs
 
 returns : tie.Need-returns
 returns c =
-    let at-ready = c .before in
-    let at-start = at-ready .before .before .before .before in
-    refill-quiet _ _ (at-start .pre .0) (at-ready .ready .ensures) (c .if1 .taken)
+    let at-settled = c .before in
+    let at-start = at-settled .before .before .before .before in
+    refill-quiet _ _ (at-start .pre .0) (at-settled .settled .ensures) (c .if1 .taken)
 
 sub-rest : tie.Need-sub-rest
 sub-rest c = search needs
@@ -58,18 +58,18 @@ returns-2 c =
     let at-read-in = c .before .before .before .before in
     let at-to-front = at-read-in .before .before .before .before .before in
     let at-if1 = at-to-front .before .before .before in
-    let at-ready = at-if1 .before in
-    let at-start = at-ready .before .before .before .before in
+    let at-settled = at-if1 .before in
+    let at-start = at-settled .before .before .before .before in
     let came = at-read-in .read-in in
-    refill-read _ _ (at-start .pre .0) (at-start .pre .1) (came .last .0) (at-ready .ready .ensures) (at-if1 .if1 .left) (at-to-front .to-front .ensures) (came .ensures .0 .0) (came .kept .0) (came .ensures .1)
+    refill-read _ _ (at-start .pre .0) (at-start .pre .1) (came .last .0) (at-settled .settled .ensures) (at-if1 .if1 .left) (at-to-front .to-front .ensures) (came .ensures .0 .0) (came .kept .0) (came .ensures .1)
 
 pub refill-spec : {M : Type 1} → statement M
 refill-spec =
     tie.close
     (tie.spec
-    slice-reshare-prefix-ready
-    slice-aggregate-ready
-    ready-requires
+    slice-reshare-prefix-settled
+    slice-aggregate-settled
+    settled-requires
     same-length
     returns
     sub-rest
