@@ -15,7 +15,9 @@ slice-aggregate-settle : tie.Need-slice-aggregate-settle
 slice-aggregate-settle c = search needs
 
 settle-requires : tie.Need-settle-requires
-settle-requires c κs = (ready-same (c .before .before .before .before .before .before .before .pre .0) (c .before .before .before .before .rename .kept .0), refl)
+settle-requires c κs = let at-rename = c .before .before .before .before in
+    let at-start = at-rename .before .before .before in
+    (ready-same (at-start .pre .0) (at-rename .rename .kept .0), refl)
 
 same-length : tie.Need-same-length
 same-length c = search needs

@@ -17,7 +17,9 @@ slice-aggregate-settle : tie.Need-slice-aggregate-settle
 slice-aggregate-settle c = search needs
 
 settle-requires : tie.Need-settle-requires
-settle-requires c κs = (ready-same (c .before .before .before .before .before .before .before .before .before .pre .0) (c .before .before .before .before .store-at .kept .0), refl)
+settle-requires c κs = let at-store-at = c .before .before .before .before in
+    let at-start = at-store-at .before .before .before .before .before in
+    (ready-same (at-start .pre .0) (at-store-at .store-at .kept .0), refl)
 
 same-length : tie.Need-same-length
 same-length c = search needs
