@@ -70,12 +70,15 @@ next-equal-requires-2 c κs =
     let at-start = at-loop-test .before .before .before .before .before .before .before in
     let v = at-start .pre .0 in (omega (arith, at-loop-test .loop-test .taken), omega (arith, v .starts, v .forth, v .near, v .upper-room))
 
+-- the turn of the loop in which a row leaves
+abbrev turn : tie.Then1 Inv-loop μ-loop → tie.At-loop Inv-loop μ-loop
+turn c = c .before .before .before .before .before
+
 -- a row that leaves has room for its leave
-fits : (c : tie.Then1 Inv-loop μ-loop) → c .before .before .before .before .before .loop .at + 5 ≤ length (c .before .before .before .before .before .loop .out)
+fits : (c : tie.Then1 Inv-loop μ-loop) → turn c .loop .at + 5 ≤ length (turn c .loop .out)
 fits c =
     let at-loop-test = c .before .before .before .before in
-    let at-loop = at-loop-test .before in
-    seeking-fits (position-length pairLeaveKind) (at-loop .loop .inv) (at-loop-test .loop-test .taken) (c .before .next-equal2 .ensures) refl (c .if1 .taken)
+    seeking-fits (position-length pairLeaveKind) (turn c .loop .inv) (at-loop-test .loop-test .taken) (c .before .next-equal2 .ensures) refl (c .if1 .taken)
 
 sub-lay-position : tie.Need-sub-lay-position Inv-loop μ-loop
 sub-lay-position c = omega (arith, fits c)
