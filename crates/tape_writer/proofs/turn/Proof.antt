@@ -42,7 +42,9 @@ same-length-2 c = search needs
 returns : tie.Need-returns
 returns c =
     let at-write-on = c .before .before in
-    let at-start = at-write-on .before .before .before .before .before .before .before .before .before .before in
+    let at-if1 = at-write-on .before .before .before in
+    let at-line-end = at-if1 .before .before .before in
+    let at-start = at-line-end .before .before .before .before in
     let wrote = at-write-on .«write-on» .ensures in
     let inside = rw length-take at (wrote .0 .1) in
     ((omega (arith, inside, wrote .1, at-start .pre .0), omega (arith, wrote .1, at-start .pre .0)), wrote .0 .0)
