@@ -48,7 +48,8 @@ cast-d c = search needs
 
 add-next-equal : tie.Need-add-next-equal Inv-loop μ-loop
 add-next-equal c =
-    let at-start = c .before .before .before .before .before .before .before .before .before in
+    let at-if1 = c .before .before in
+    let at-start = at-if1 .before .before .before .before .before .before .before in
     omega (arith, at-start .pre .0 .cell, at-start .pre .0 .starts, at-start .pre .0 .by-one, at-start .pre .0 .ends, at-start .pre .1 .0)
 
 next-equal-requires : tie.Need-next-equal-requires Inv-loop μ-loop
@@ -88,14 +89,17 @@ next-equal-requires-2 c κs =
     let at-start = start (c .before .before) in
     (omega (arith, c .before .loop-test .taken), at-start .pre .0 .lower-room)
 
+-- the turn of the loop in which a row joins
+abbrev turn : tie.Then2 Inv-loop μ-loop → tie.At-loop Inv-loop μ-loop
+turn c = c .before .before .before .before
+
 -- a row that joins has room for its join
-fits : (c : tie.Then2 Inv-loop μ-loop) → c .before .before .before .before .loop .at + 7 ≤ length (c .before .before .before .before .loop .out)
+fits : (c : tie.Then2 Inv-loop μ-loop) → turn c .loop .at + 7 ≤ length (turn c .loop .out)
 fits c =
     let at-stands = c .before .before in
     let at-loop-test = at-stands .before in
-    let at-loop = at-loop-test .before in
-    let at-start = start at-loop in
-    joining-fits (at-start .pre .0) (at-loop .loop .inv) (at-loop-test .loop-test .taken) (c .before .next-equal2 .ensures) (at-stands .stands .ensures) (c .if2 .taken)
+    let at-start = start (turn c) in
+    joining-fits (at-start .pre .0) (turn c .loop .inv) (at-loop-test .loop-test .taken) (c .before .next-equal2 .ensures) (at-stands .stands .ensures) (c .if2 .taken)
 
 sub-lay-change : tie.Need-sub-lay-change Inv-loop μ-loop
 sub-lay-change c = omega (arith, fits c)
@@ -111,7 +115,7 @@ lay-change-requires c κs = simp (length-take, length-drop) (omega (arith, fits 
 
 add-at : tie.Need-add-at Inv-loop μ-loop
 add-at c =
-    let at-loop = c .before .before .before .before .before .before .before .before in
+    let at-loop = turn (c .before .before .before .before) in
     let at-start = start at-loop in
     omega (arith, fits (c .before .before .before .before), at-loop .loop .inv .writing .laying .front .long, at-start .good)
 
