@@ -115,7 +115,7 @@ lay-position-requires c κs = simp (length-take, length-drop) (omega (arith, fit
 
 add-at : tie.Need-add-at Inv-loop μ-loop
 add-at c =
-    let at-loop = c .before .before .before .before .before .before .before .before .before in
+    let at-loop = turn (c .before .before .before .before) in
     let at-start = begin at-loop in
     omega (arith, fits (c .before .before .before .before), at-loop .loop .inv .writing .laying .front .long, at-start .good)
 

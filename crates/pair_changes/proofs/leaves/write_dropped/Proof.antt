@@ -58,8 +58,9 @@ mul-leaves c =
 
 shared-slice-read-leaves : tie.Need-shared-slice-read-leaves Inv-loop μ-loop
 shared-slice-read-leaves c =
-    let at-start = c .before .before .before .before .before .before .before .before in
-    let v = at-start .pre .0 in omega (arith, v .starts, v .forth, v .near, v .lower-room, c .before .loop-test .taken)
+    let at-loop-test = c .before in
+    let at-start = at-loop-test .before .before .before .before .before .before .before in
+    let v = at-start .pre .0 in omega (arith, v .starts, v .forth, v .near, v .lower-room, at-loop-test .loop-test .taken)
 
 add-next-equal : tie.Need-add-next-equal Inv-loop μ-loop
 add-next-equal c = search needs
@@ -94,7 +95,7 @@ lay-position-requires c κs = simp (length-take, length-drop) (omega (arith, fit
 
 add-at : tie.Need-add-at Inv-loop μ-loop
 add-at c =
-    let at-loop = c .before .before .before .before .before .before .before .before .before in
+    let at-loop = turn (c .before .before .before .before) in
     let at-good = at-loop .before .before .before .before .before .before in
     omega (arith, fits (c .before .before .before .before), at-loop .loop .inv .writing .laying .front .long, at-good .good)
 
