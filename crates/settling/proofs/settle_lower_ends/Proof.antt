@@ -24,7 +24,9 @@ same-length c = search needs
 
 returns : tie.Need-returns
 unfolding lowersSettled
-returns c = rw (c .before .before .before .before .before .before .before .rename .ensures) at (c .before .before .settle .ensures)
+returns c = let at-settle = c .before .before in
+    let at-rename = at-settle .before .before .before .before .before in
+    rw (at-rename .rename .ensures) at (at-settle .settle .ensures)
 
 pub settle-lower-ends-spec : {M : Type 1} → statement M
 settle-lower-ends-spec =

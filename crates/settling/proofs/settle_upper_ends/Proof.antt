@@ -26,7 +26,9 @@ same-length c = search needs
 
 returns : tie.Need-returns
 unfolding uppersSettled
-returns c = rw (c .before .before .before .before .before .before .before .store-at .ensures) at (c .before .before .settle .ensures)
+returns c = let at-settle = c .before .before in
+    let at-store-at = at-settle .before .before .before .before .before in
+    rw (at-store-at .store-at .ensures) at (at-settle .settle .ensures)
 
 pub settle-upper-ends-spec : {M : Type 1} → statement M
 settle-upper-ends-spec =
