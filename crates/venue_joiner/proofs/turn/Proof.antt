@@ -13,8 +13,9 @@ same-length c = search needs
 
 returns : tie.Need-returns
 returns c =
-    let f = c .before .flush .ensures in
-    let p = c .before .before .before .before .before .before .before .before .pre in (
+    let at-flush = c .before in
+    let f = at-flush .flush .ensures in
+    let p = at-flush .before .before .before .before .before .before .before .pre in (
       omega (arith, f .0),
       omega (arith, f .1, f .2, p .1 .0 .0),
       omega (arith, f .2, p .1 .0 .1),
@@ -24,8 +25,9 @@ returns c =
 
 refill-requires : tie.Need-refill-requires
 refill-requires c κs =
-    let f = c .before .before .flush .ensures in
-    let p = c .before .before .before .before .before .before .before .before .before .pre in
+    let at-flush = c .before .before in
+    let f = at-flush .flush .ensures in
+    let p = at-flush .before .before .before .before .before .before .before .pre in
     (omega (arith, f .1, f .2, p .1 .0 .0), omega (arith, f .2, p .1 .0 .1))
 
 refill-requires-2 : tie.Need-refill-requires-2
