@@ -22,7 +22,8 @@ slice-reshare-prefix-write-on c = search needs
 
 slice-aggregate-write-on : tie.Need-slice-aggregate-write-on
 slice-aggregate-write-on c =
-    let at-start = c .before .before .before .before .before .before .before .before in
+    let at-line-end = c .before .before .before .before in
+    let at-start = at-line-end .before .before .before .before in
     simp length-take (omega (arith, at-start .pre))
 
 write-on-requires : tie.Need-write-on-requires
