@@ -46,17 +46,20 @@ all-zero-requires c κs = search needs
 
 all-zero-requires-2 : tie.Need-all-zero-requires-2
 all-zero-requires-2 c κs =
-    let at-start = c .before .before .before .before .before .before .before .before .before .before .before in
+    let at-if1 = c .before .before .before .before .before in
+    let at-start = at-if1 .before .before .before .before .before .before in
     at-start .pre .1 .1 .0
 
 all-zero-requires-3 : tie.Need-all-zero-requires-3
 all-zero-requires-3 c κs =
-    let at-start = c .before .before .before .before .before .before .before .before .before .before .before .before in
+    let at-if1 = c .before .before .before .before .before .before in
+    let at-start = at-if1 .before .before .before .before .before .before in
     at-start .pre .1 .1 .1 .0
 
 all-zero-requires-4 : tie.Need-all-zero-requires-4
 all-zero-requires-4 c κs =
-    let at-start = c .before .before .before .before .before .before .before .before .before .before .before .before .before in
+    let at-if1 = c .before .before .before .before .before .before .before in
+    let at-start = at-if1 .before .before .before .before .before .before in
     at-start .pre .1 .1 .1 .1
 
 returns-2 : tie.Need-returns-2
@@ -65,7 +68,7 @@ returns-2 c =
     let at-all-zero = at-all-zero2 .before in
     let at-right-ends = at-all-zero .before in
     let at-if1 = at-right-ends .before .before .before .before in
-    let passed = c .before .before .before .before .before .before .before .before .before in
+    let passed = at-if1 .before in
     let untorn = sym (passed .torn-rows .ensures) ∙ at-if1 .if1 .left in
     let some = passed .before .before .before .before .before .pre .0 in
     by-parts _ _ _ _ some untorn _ _ (at-right-ends .right-ends .ensures) _ _ _ _ (at-all-zero .all-zero .ensures) (at-all-zero2 .all-zero2 .ensures) (c .before .all-zero3 .ensures) (c .all-zero4 .ensures)

@@ -64,14 +64,21 @@ is-listed-requires c κs = search needs
 add-i : tie.Need-add-i Inv-loop μ-loop
 add-i c = search needs
 
+-- the turn of the loop in which a position is listed
+abbrev turn : tie.Then1 Inv-loop μ-loop → tie.At-loop Inv-loop μ-loop
+turn c = c .before .before .before .before .before
+
+-- the function's start, from a turn of the loop
+abbrev start : tie.At-loop Inv-loop μ-loop → tie.Start Inv-loop μ-loop
+start c = c .before .before .before .before
+
 -- a position that is listed has room for its frame
 fits : (c : tie.Then1 Inv-loop μ-loop)
-    → c .before .before .before .before .before .loop .at + length (frame (joinOf (c .before .before .before .before .before .before .before .before .before .args .follower) (c .before .before .before .before .before .before .before .before .before .args .first + c .before .before .before .before .before .loop .i)) []) ≤ length (c .before .before .before .before .before .loop .out)
+    → turn c .loop .at + length (frame (joinOf (start (turn c) .args .follower) (start (turn c) .args .first + turn c .loop .i)) []) ≤ length (turn c .loop .out)
 fits c =
     let at-loop-test = c .before .before .before .before in
-    let at-loop = at-loop-test .before in
-    let turn = at-loop .loop in
-    writing-fits (turn .inv .writing) (at-loop-test .loop-test .taken) (listed-inside _ _ _ _ _ _ (at-loop .loop .inv .reached) (omega arith) (c .before .is-listed .ensures)) (c .if1 .taken)
+    let i = turn c .loop .inv in
+    writing-fits (i .writing) (at-loop-test .loop-test .taken) (listed-inside _ _ _ _ _ _ (i .reached) (omega arith) (c .before .is-listed .ensures)) (c .if1 .taken)
 
 sub-lay-join : tie.Need-sub-lay-join Inv-loop μ-loop
 sub-lay-join c = omega (arith, fits c)

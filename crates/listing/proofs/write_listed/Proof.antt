@@ -60,12 +60,16 @@ is-listed-requires c κs = search needs
 add-i : tie.Need-add-i Inv-loop μ-loop
 add-i c = search needs
 
+-- the turn of the loop in which a position is listed
+abbrev turn : tie.Then1 Inv-loop μ-loop → tie.At-loop Inv-loop μ-loop
+turn c = c .before .before .before .before .before
+
 -- a position that is listed has room for its cell
-fits : (c : tie.Then1 Inv-loop μ-loop) → c .before .before .before .before .before .loop .at + 1 ≤ length (c .before .before .before .before .before .loop .out)
+fits : (c : tie.Then1 Inv-loop μ-loop) → turn c .loop .at + 1 ≤ length (turn c .loop .out)
 fits c =
     let at-loop-test = c .before .before .before .before in
-    let at-loop = at-loop-test .before in
-    writing-fits (at-loop .loop .inv .writing) (at-loop-test .loop-test .taken) (listed-inside _ _ _ _ _ _ (at-loop .loop .inv .reached) (omega arith) (c .before .is-listed .ensures)) (c .if1 .taken)
+    let i = turn c .loop .inv in
+    writing-fits (i .writing) (at-loop-test .loop-test .taken) (listed-inside _ _ _ _ _ _ (i .reached) (omega arith) (c .before .is-listed .ensures)) (c .if1 .taken)
 
 mul-out : tie.Need-mul-out Inv-loop μ-loop
 mul-out c = omega (arith, fits c)

@@ -49,7 +49,9 @@ add-shift-3 c = search needs
 
 shift-requires-3 : tie.Need-shift-requires-3
 shift-requires-3 c κs =
-    let at-if1 = c .before .before .before .before .before .before .before .before .before .before .before in
+    let at-shift2 = c .before .before .before in
+    let at-shift = at-shift2 .before .before .before .before in
+    let at-if1 = at-shift .before .before .before .before in
     let at-start = at-if1 .before .before .before .before .before in
     let p = at-start .pre in let i = rows-inside (p .0) (p .1 .0) (p .1 .1) (at-if1 .if1 .left) in (omega arith, omega (arith, i .1, p .0 .lowerEnds))
 
@@ -58,7 +60,10 @@ add-shift-4 c = search needs
 
 shift-requires-4 : tie.Need-shift-requires-4
 shift-requires-4 c κs =
-    let at-if1 = c .before .before .before .before .before .before .before .before .before .before .before .before .before .before .before in
+    let at-shift3 = c .before .before .before in
+    let at-shift2 = at-shift3 .before .before .before .before in
+    let at-shift = at-shift2 .before .before .before .before in
+    let at-if1 = at-shift .before .before .before .before in
     let at-start = at-if1 .before .before .before .before .before in
     let p = at-start .pre in let i = rows-inside (p .0) (p .1 .0) (p .1 .1) (at-if1 .if1 .left) in (omega arith, omega (arith, i .1, p .0 .upperEnds))
 

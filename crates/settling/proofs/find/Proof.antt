@@ -15,7 +15,7 @@ expired-places-requires c κs = counts (c .before .before .before .before .befor
 
 find-rows-requires : tie.Need-find-rows-requires
 find-rows-requires c κs = let at-expired-places = c .before .before .before in
-    let at-start = c .before .before .before .before .before .before .before .before .before .before in
+    let at-start = at-expired-places .before .before .before .before .before .before .before in
     let p = at-start .pre in
     let e = at-expired-places .expired-places .ensures in
     (rw e (counts (p .0) .1), (p .0 .fits, (p .0 .room, λ t. rw e (p .1 .1 t))))

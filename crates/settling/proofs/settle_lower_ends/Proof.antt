@@ -15,14 +15,18 @@ slice-aggregate-settle : tie.Need-slice-aggregate-settle
 slice-aggregate-settle c = search needs
 
 settle-requires : tie.Need-settle-requires
-settle-requires c κs = (ready-same (c .before .before .before .before .before .before .before .pre .0) (c .before .before .before .before .rename .kept .0), refl)
+settle-requires c κs = let at-rename = c .before .before .before .before in
+    let at-start = at-rename .before .before .before in
+    (ready-same (at-start .pre .0) (at-rename .rename .kept .0), refl)
 
 same-length : tie.Need-same-length
 same-length c = search needs
 
 returns : tie.Need-returns
 unfolding lowersSettled
-returns c = rw (c .before .before .before .before .before .before .before .rename .ensures) at (c .before .before .settle .ensures)
+returns c = let at-settle = c .before .before in
+    let at-rename = at-settle .before .before .before .before .before in
+    rw (at-rename .rename .ensures) at (at-settle .settle .ensures)
 
 pub settle-lower-ends-spec : {M : Type 1} → statement M
 settle-lower-ends-spec =

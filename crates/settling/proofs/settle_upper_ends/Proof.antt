@@ -17,14 +17,18 @@ slice-aggregate-settle : tie.Need-slice-aggregate-settle
 slice-aggregate-settle c = search needs
 
 settle-requires : tie.Need-settle-requires
-settle-requires c κs = (ready-same (c .before .before .before .before .before .before .before .before .before .pre .0) (c .before .before .before .before .store-at .kept .0), refl)
+settle-requires c κs = let at-store-at = c .before .before .before .before in
+    let at-start = at-store-at .before .before .before .before .before in
+    (ready-same (at-start .pre .0) (at-store-at .store-at .kept .0), refl)
 
 same-length : tie.Need-same-length
 same-length c = search needs
 
 returns : tie.Need-returns
 unfolding uppersSettled
-returns c = rw (c .before .before .before .before .before .before .before .store-at .ensures) at (c .before .before .settle .ensures)
+returns c = let at-settle = c .before .before in
+    let at-store-at = at-settle .before .before .before .before .before in
+    rw (at-store-at .store-at .ensures) at (at-settle .settle .ensures)
 
 pub settle-upper-ends-spec : {M : Type 1} → statement M
 settle-upper-ends-spec =

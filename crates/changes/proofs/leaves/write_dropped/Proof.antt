@@ -52,12 +52,15 @@ shared-slice-read-leaves c =
 add-k : tie.Need-add-k Inv-loop μ-loop
 add-k c = search needs
 
+-- the turn of the loop in which a row is dropped
+abbrev turn : tie.Then1 Inv-loop μ-loop → tie.At-loop Inv-loop μ-loop
+turn c = c .before .before .before .before .before .before
+
 -- a row that is dropped has room for its leave
-fits : (c : tie.Then1 Inv-loop μ-loop) → c .before .before .before .before .before .before .loop .at + 7 ≤ length (c .before .before .before .before .before .before .loop .out)
+fits : (c : tie.Then1 Inv-loop μ-loop) → turn c .loop .at + 7 ≤ length (turn c .loop .out)
 fits c =
     let at-loop-test = c .before .before .before .before .before in
-    let at-loop = at-loop-test .before in
-    leaving-fits _ _ _ _ _ (at-loop .loop .inv) (at-loop-test .loop-test .taken) refl (c .if1 .taken)
+    leaving-fits _ _ _ _ _ (turn c .loop .inv) (at-loop-test .loop-test .taken) refl (c .if1 .taken)
 
 sub-lay-change : tie.Need-sub-lay-change Inv-loop μ-loop
 sub-lay-change c = omega (arith, fits c)

@@ -48,7 +48,7 @@ abbrev start : tie.After-write-leaves → tie.Start
 start c = c .before .before .before .before .before .before .before .before .before
 
 abbrev start2 : tie.After-write-row-joins → tie.Start
-start2 c = c .before .before .before .before .before .before .before .before .before .before .before .before .before
+start2 c = start (c .before .before .before .before)
 
 -- the output behind each call
 abbrev out1 : tie.After-write-leaves → List ℕ
@@ -114,8 +114,9 @@ part-write-row-joins-end c = search needs
 
 write-row-joins-requires : tie.Need-write-row-joins-requires
 write-row-joins-requires c κs =
-    let at-start = c .before .before .before .before .before .before .before .before .before .before .before .before in
-    (at-start .pre .0, (refl, (at-start .pre .1 .1 .0, front-rest (front (c .before .before .before)) (J (start (c .before .before .before))) (rows-room (start (c .before .before .before))))))
+    let at-write-leaves = c .before .before .before in
+    let at-start = start at-write-leaves in
+    (at-start .pre .0, (refl, (at-start .pre .1 .1 .0, front-rest (front at-write-leaves) (J at-start) (rows-room at-start))))
 
 add-at : tie.Need-add-at
 add-at c =
@@ -129,9 +130,7 @@ returns : tie.Need-returns
 returns c = let b = (c .before .before .before .before) in rw (unlisted-frames (start2 b) (c .if1 .taken)) (second b .place, second b .cells)
 
 add-lay-change : tie.Need-add-lay-change
-add-lay-change c =
-    let at-start = c .before .before .before .before .before .before .before .before .before .before .before .before .before .before .before .before .before .before in
-    omega (arith, at-start .pre .0 .cell)
+add-lay-change c = omega (arith, start2 (both (c .before)) .pre .0 .cell)
 
 sub-lay-change : tie.Need-sub-lay-change
 sub-lay-change c = omega (arith, fits (c .before))

@@ -23,6 +23,12 @@ Inv-loop kind n head columns lower-ends upper-ends quote first place shift sound
 abbrev μ-loop : tie.MeasureT-loop
 μ-loop kind n head columns lower-ends upper-ends quote first place shift sound out₀ count d at₀ i₀ out at i = count - i
 
+-- the function's start, from a turn of the loop
+abbrev start : tie.At-loop Inv-loop μ-loop → tie.Start Inv-loop μ-loop
+start c =
+    let at-if1 = c .before .before .before .before in
+    at-if1 .before .before .before .before .before .before .before
+
 may-gain-requires : tie.Need-may-gain-requires Inv-loop μ-loop
 may-gain-requires c κs =
     let at-start = c .before .before .before .before .before in
@@ -42,7 +48,8 @@ cast-d c = search needs
 
 add-next-equal : tie.Need-add-next-equal Inv-loop μ-loop
 add-next-equal c =
-    let at-start = c .before .before .before .before .before .before .before .before .before in
+    let at-if1 = c .before .before in
+    let at-start = at-if1 .before .before .before .before .before .before .before in
     omega (arith, at-start .pre .0 .cell, at-start .pre .0 .starts, at-start .pre .0 .by-one, at-start .pre .0 .ends, at-start .pre .1 .0)
 
 next-equal-requires : tie.Need-next-equal-requires Inv-loop μ-loop
@@ -61,17 +68,17 @@ loop-holds c =
 
 cast-position : tie.Need-cast-position Inv-loop μ-loop
 cast-position c =
-    let at-start = c .before .before .before .before .before .before .before .before .before .before .before .before in
+    let at-start = start (c .before) in
     let small = at-start .pre .0 .cell in search needs
 
 add-position : tie.Need-add-position Inv-loop μ-loop
 add-position c =
-    let at-start = c .before .before .before .before .before .before .before .before .before .before .before .before in
+    let at-start = start (c .before) in
     omega (arith, at-start .pre .0 .cell, c .loop-test .taken)
 
 stands-requires : tie.Need-stands-requires Inv-loop μ-loop
 stands-requires c κs =
-    let at-start = c .before .before .before .before .before .before .before .before .before .before .before .before in
+    let at-start = start (c .before) in
     fits-less _ (c .loop-test .taken) (at-start .pre .0 .fits)
 
 add-next-equal-2 : tie.Need-add-next-equal-2 Inv-loop μ-loop
@@ -79,17 +86,20 @@ add-next-equal-2 c = search needs
 
 next-equal-requires-2 : tie.Need-next-equal-requires-2 Inv-loop μ-loop
 next-equal-requires-2 c κs =
-    let at-start = c .before .before .before .before .before .before .before .before .before .before .before .before .before in
+    let at-start = start (c .before .before) in
     (omega (arith, c .before .loop-test .taken), at-start .pre .0 .lower-room)
 
+-- the turn of the loop in which a row joins
+abbrev turn : tie.Then2 Inv-loop μ-loop → tie.At-loop Inv-loop μ-loop
+turn c = c .before .before .before .before
+
 -- a row that joins has room for its join
-fits : (c : tie.Then2 Inv-loop μ-loop) → c .before .before .before .before .loop .at + 7 ≤ length (c .before .before .before .before .loop .out)
+fits : (c : tie.Then2 Inv-loop μ-loop) → turn c .loop .at + 7 ≤ length (turn c .loop .out)
 fits c =
     let at-stands = c .before .before in
     let at-loop-test = at-stands .before in
-    let at-loop = at-loop-test .before in
-    let at-start = at-loop .before .before .before .before .before .before .before .before .before .before .before in
-    joining-fits (at-start .pre .0) (at-loop .loop .inv) (at-loop-test .loop-test .taken) (c .before .next-equal2 .ensures) (at-stands .stands .ensures) (c .if2 .taken)
+    let at-start = start (turn c) in
+    joining-fits (at-start .pre .0) (turn c .loop .inv) (at-loop-test .loop-test .taken) (c .before .next-equal2 .ensures) (at-stands .stands .ensures) (c .if2 .taken)
 
 sub-lay-change : tie.Need-sub-lay-change Inv-loop μ-loop
 sub-lay-change c = omega (arith, fits c)
@@ -105,9 +115,9 @@ lay-change-requires c κs = simp (length-take, length-drop) (omega (arith, fits 
 
 add-at : tie.Need-add-at Inv-loop μ-loop
 add-at c =
-    let at-loop = c .before .before .before .before .before .before .before .before in
-    let at-good = at-loop .before .before .before .before .before .before .before .before .before .before .before in
-    omega (arith, fits (c .before .before .before .before), at-loop .loop .inv .writing .laying .front .long, at-good .good)
+    let at-loop = turn (c .before .before .before .before) in
+    let at-start = start at-loop in
+    omega (arith, fits (c .before .before .before .before), at-loop .loop .inv .writing .laying .front .long, at-start .good)
 
 loop-less : tie.Need-loop-less Inv-loop μ-loop
 loop-less c =
@@ -124,7 +134,7 @@ loop-again c =
     let at-stands = at-next-equal2 .before in
     let at-loop-test = at-stands .before in
     let at-loop = at-loop-test .before in
-    let at-start = at-loop .before .before .before .before .before .before .before .before .before .before .before in
+    let at-start = start at-loop in
     joining-more (at-start .pre .0) (at-loop .loop .inv) (at-loop-test .loop-test .taken) (at-next-equal2 .next-equal2 .ensures) (at-stands .stands .ensures) (at-lay-change .lay-change .ensures) (at-if2 .if2 .taken)
 
 loop-less-2 : tie.Need-loop-less-2 Inv-loop μ-loop
@@ -137,7 +147,7 @@ loop-again-2 c =
     let at-stands = c .before .before in
     let at-loop-test = at-stands .before in
     let at-loop = at-loop-test .before in
-    let at-start = at-loop .before .before .before .before .before .before .before .before .before .before .before in
+    let at-start = start at-loop in
     joining-pass (at-start .pre .0) (at-loop .loop .inv) (at-loop-test .loop-test .taken) (c .before .next-equal2 .ensures) (at-stands .stands .ensures) (c .if2 .left)
 
 same-length : tie.Need-same-length Inv-loop μ-loop
@@ -145,7 +155,7 @@ same-length c = c .before .loop .inv .writing .laying .front .long
 
 returns-2 : tie.Need-returns-2 Inv-loop μ-loop
 returns-2 c =
-    let at-start = c .before .before .before .before .before .before .before .before .before .before .before .before in
+    let at-start = start (c .before) in
     joining-all (at-start .pre .0) (c .before .loop .inv) (c .loop-test .left)
 
 pub write-row-joins-spec : {M : Type 1} → statement M

@@ -23,6 +23,12 @@ Inv-loop lower-ends upper-ends first start end gains out₀ to at₀ i₀ out at
 abbrev μ-loop : tie.MeasureT-loop
 μ-loop lower-ends upper-ends first start end gains out₀ to at₀ i₀ out at i = to - i
 
+-- the function's start, from a turn of the loop
+abbrev begin : tie.At-loop Inv-loop μ-loop → tie.Start Inv-loop μ-loop
+begin c =
+    let at-if1 = c .before .before .before .before in
+    at-if1 .before .before .before .before .before
+
 returns : tie.Need-returns Inv-loop μ-loop
 unfolding laid frames flat
 returns c =
@@ -58,22 +64,22 @@ loop-holds c =
 
 cast-position : tie.Need-cast-position Inv-loop μ-loop
 cast-position c =
-    let at-start = c .before .before .before .before .before .before .before .before .before .before in
+    let at-start = begin (c .before) in
     let small = at-start .pre .0 .cell in search needs
 
 add-position : tie.Need-add-position Inv-loop μ-loop
 add-position c =
-    let at-start = c .before .before .before .before .before .before .before .before .before .before in
+    let at-start = begin (c .before) in
     let v = at-start .pre .0 in omega (arith, v .starts, v .forth, v .near, v .cell, c .loop-test .taken)
 
 mul-upper : tie.Need-mul-upper Inv-loop μ-loop
 mul-upper c =
-    let at-start = c .before .before .before .before .before .before .before .before .before .before in
+    let at-start = begin (c .before) in
     let v = at-start .pre .0 in omega (arith, v .cell, c .loop-test .taken)
 
 shared-slice-read-upper : tie.Need-shared-slice-read-upper Inv-loop μ-loop
 shared-slice-read-upper c =
-    let at-start = c .before .before .before .before .before .before .before .before .before .before .before in
+    let at-start = begin (c .before .before) in
     let v = at-start .pre .0 in omega (arith, v .starts, v .forth, v .near, v .upper-room, c .before .loop-test .taken)
 
 add-next-equal : tie.Need-add-next-equal Inv-loop μ-loop
@@ -82,15 +88,18 @@ add-next-equal c = search needs
 next-equal-requires-2 : tie.Need-next-equal-requires-2 Inv-loop μ-loop
 next-equal-requires-2 c κs =
     let at-loop-test = c .before .before in
-    let at-start = at-loop-test .before .before .before .before .before .before .before .before .before .before in
+    let at-start = begin (at-loop-test .before) in
     let v = at-start .pre .0 in (omega (arith, at-loop-test .loop-test .taken), omega (arith, v .starts, v .forth, v .near, v .lower-room))
 
+-- the turn of the loop in which a row joins
+abbrev turn : tie.Then2 Inv-loop μ-loop → tie.At-loop Inv-loop μ-loop
+turn c = c .before .before .before .before .before
+
 -- a row that joins has room for its join
-fits : (c : tie.Then2 Inv-loop μ-loop) → c .before .before .before .before .before .loop .at + 5 ≤ length (c .before .before .before .before .before .loop .out)
+fits : (c : tie.Then2 Inv-loop μ-loop) → turn c .loop .at + 5 ≤ length (turn c .loop .out)
 fits c =
     let at-loop-test = c .before .before .before .before in
-    let at-loop = at-loop-test .before in
-    seeking-fits (position-length pairJoinKind) (at-loop .loop .inv) (at-loop-test .loop-test .taken) (c .before .next-equal2 .ensures) refl (c .if2 .taken)
+    seeking-fits (position-length pairJoinKind) (turn c .loop .inv) (at-loop-test .loop-test .taken) (c .before .next-equal2 .ensures) refl (c .if2 .taken)
 
 sub-lay-position : tie.Need-sub-lay-position Inv-loop μ-loop
 sub-lay-position c = omega (arith, fits c)
@@ -106,9 +115,9 @@ lay-position-requires c κs = simp (length-take, length-drop) (omega (arith, fit
 
 add-at : tie.Need-add-at Inv-loop μ-loop
 add-at c =
-    let at-loop = c .before .before .before .before .before .before .before .before .before in
-    let at-good = at-loop .before .before .before .before .before .before .before .before .before in
-    omega (arith, fits (c .before .before .before .before), at-loop .loop .inv .writing .laying .front .long, at-good .good)
+    let at-loop = turn (c .before .before .before .before) in
+    let at-start = begin at-loop in
+    omega (arith, fits (c .before .before .before .before), at-loop .loop .inv .writing .laying .front .long, at-start .good)
 
 loop-less : tie.Need-loop-less Inv-loop μ-loop
 loop-less c =

@@ -58,8 +58,9 @@ mul-leaves c =
 
 shared-slice-read-leaves : tie.Need-shared-slice-read-leaves Inv-loop μ-loop
 shared-slice-read-leaves c =
-    let at-start = c .before .before .before .before .before .before .before .before in
-    let v = at-start .pre .0 in omega (arith, v .starts, v .forth, v .near, v .lower-room, c .before .loop-test .taken)
+    let at-loop-test = c .before in
+    let at-start = at-loop-test .before .before .before .before .before .before .before in
+    let v = at-start .pre .0 in omega (arith, v .starts, v .forth, v .near, v .lower-room, at-loop-test .loop-test .taken)
 
 add-next-equal : tie.Need-add-next-equal Inv-loop μ-loop
 add-next-equal c = search needs
@@ -70,12 +71,15 @@ next-equal-requires-2 c κs =
     let at-start = at-loop-test .before .before .before .before .before .before .before in
     let v = at-start .pre .0 in (omega (arith, at-loop-test .loop-test .taken), omega (arith, v .starts, v .forth, v .near, v .upper-room))
 
+-- the turn of the loop in which a row leaves
+abbrev turn : tie.Then1 Inv-loop μ-loop → tie.At-loop Inv-loop μ-loop
+turn c = c .before .before .before .before .before
+
 -- a row that leaves has room for its leave
-fits : (c : tie.Then1 Inv-loop μ-loop) → c .before .before .before .before .before .loop .at + 5 ≤ length (c .before .before .before .before .before .loop .out)
+fits : (c : tie.Then1 Inv-loop μ-loop) → turn c .loop .at + 5 ≤ length (turn c .loop .out)
 fits c =
     let at-loop-test = c .before .before .before .before in
-    let at-loop = at-loop-test .before in
-    seeking-fits (position-length pairLeaveKind) (at-loop .loop .inv) (at-loop-test .loop-test .taken) (c .before .next-equal2 .ensures) refl (c .if1 .taken)
+    seeking-fits (position-length pairLeaveKind) (turn c .loop .inv) (at-loop-test .loop-test .taken) (c .before .next-equal2 .ensures) refl (c .if1 .taken)
 
 sub-lay-position : tie.Need-sub-lay-position Inv-loop μ-loop
 sub-lay-position c = omega (arith, fits c)
@@ -91,7 +95,7 @@ lay-position-requires c κs = simp (length-take, length-drop) (omega (arith, fit
 
 add-at : tie.Need-add-at Inv-loop μ-loop
 add-at c =
-    let at-loop = c .before .before .before .before .before .before .before .before .before in
+    let at-loop = turn (c .before .before .before .before) in
     let at-good = at-loop .before .before .before .before .before .before in
     omega (arith, fits (c .before .before .before .before), at-loop .loop .inv .writing .laying .front .long, at-good .good)
 
