@@ -59,7 +59,8 @@ module _ (bytes : List ℕ) (place : ℕ) where
     end-found known e h = e ∙ end-whole known (omega arith)
 
 -- the frame of a desk's change has seven bytes
-pub end-changed : (bytes : List ℕ) (place : ℕ) → place < length bytes → leb leaveKind (getD bytes place 0) && leb (getD bytes place 0) joinTwoKind && leb 7 (length bytes - place) ≡ true
+pub end-changed : (bytes : List ℕ) (place : ℕ) → place < length bytes
+    → leb leaveKind (getD bytes place 0) && leb (getD bytes place 0) joinTwoKind && leb 7 (length bytes - place) ≡ true
     → place + 7 ≡ readAt bytes place .next
 unfolding shapeOf shapeIn kinds run
 end-changed bytes place inside t =

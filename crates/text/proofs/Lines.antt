@@ -121,7 +121,8 @@ module _ (letter : ℕ) (numbers : List ℕ) where
 
 -- ---- a line of two numbers
 
-module _ (letter a b : ℕ) (before : List ℕ) {last : List ℕ} {used : ℕ} (h : 24 ≤ length before) (l : Laid (field a) (midOf 1 (length (set before 0 letter) - 1) (set before 0 letter)) used last) where
+module _ (letter a b : ℕ) (before : List ℕ) {last : List ℕ} {used : ℕ} (h : 24 ≤ length before)
+    (l : Laid (field a) (midOf 1 (length (set before 0 letter) - 1) (set before 0 letter)) used last) where
   -- the text with the first field behind the letter
   abbrev one-in : List ℕ
   one-in = putMid 1 (length (set before 0 letter) - 1) (set before 0 letter) last

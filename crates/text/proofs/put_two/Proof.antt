@@ -44,7 +44,8 @@ put-field-requires-2 : tie.Need-put-field-requires-2
 put-field-requires-2 c κs =
     let at-start = c .before .before .before .before .before .before in
     let a = at-start .args in
-    simp (length-take, length-drop) (omega (arith, one-room (a .letter) (a .first) (a .second) (now (a .text)) (at-start .pre) (c .before .before .before .put-field .ensures)))
+    let one = c .before .before .before .put-field .ensures in
+    simp (length-take, length-drop) (omega (arith, one-room (a .letter) (a .first) (a .second) (now (a .text)) (at-start .pre) one))
 
 add-end : tie.Need-add-end
 add-end c =
