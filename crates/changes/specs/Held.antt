@@ -42,6 +42,11 @@ dropped first lowers w places = map (λ i. first + i) (filter (λ i. ltb (getD l
 unfoldable pub mayGain : ℕ → List ℕ → Shift → Bool → Bool
 mayGain place uppers w sound = ltb (w .before) (w .after) && (not sound || live uppers place)
 
+-- no row joins, and only rows that the quote retires may leave: the new row, with this lower end, is not listed, and the window does not move or,
+-- where lower ends of live rows are known to name live rows, moves past a row that is not live, at this place
+unfoldable pub still : ℕ → List ℕ → Shift → ℕ → Bool → Bool
+still place uppers w lower sound = leb (w .after) lower && (leb (w .after) (w .before) || (sound && not (live uppers place)))
+
 -- w says how the window moves at the quote
 module _ (s : Held) (w : Shift) where
   -- the row at place i is on the list before

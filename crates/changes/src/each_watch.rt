@@ -12,6 +12,8 @@ ghost use Rattle.changes.specs.Held.{LiveNamed};
 ghost use Rattle.changes.specs.Watches.{shiftOf, heldIn, Full, Outdone, Sized, watchFrames, allFrames};
 use crate::Shift;
 use crate::kinds::kinds_of;
+use crate::leaves::write_dropped;
+use crate::moves::still;
 use crate::moves::write_changes;
 use desk_shares::size_of;
 use head::Head;
@@ -68,6 +70,18 @@ fn write_watch(
     let n = size_of(watch);
     let shift = shift_of(head, n);
     let kinds = kinds_of(watch);
+    let place = (shift.before - first) as usize;
+    if still(upper_ends, place, shift, lower, sound) {
+        return write_dropped(
+            kinds.leave,
+            n as u16,
+            retired,
+            lower_ends,
+            first,
+            shift,
+            out,
+        );
+    }
     write_changes(
         kinds,
         n as u16,

@@ -46,7 +46,7 @@ fn write_fallen(
 
 // Writes the leave of each row at these places that is in the window after and whose lower end is before the window's old start. Returns
 // how many bytes.
-fn write_dropped(
+pub fn write_dropped(
     kind: u8,
     n: u16,
     retired: &[u16],

@@ -8,7 +8,7 @@ ghost use Rattle.lists.specs.Lists.{laid};
 ghost use Rattle.frames.specs.declared.Message.the-variants.{Change};
 ghost use Rattle.model.specs.Changes.{frames};
 ghost use Rattle.finding.specs.Found.{rows, Fits};
-ghost use Rattle.changes.specs.Held.{held, stands, moving, changed, mayGain, Ready, Retired, LiveNamed};
+ghost use Rattle.changes.specs.Held.{held, stands, moving, changed, mayGain, still, Ready, Retired, LiveNamed};
 use crate::Shift;
 use crate::kinds::Kinds;
 use crate::leaves::write_leaves;
@@ -47,6 +47,21 @@ fn may_gain(upper_ends: &[u32], place: usize, shift: Shift, sound: bool) -> bool
         return false;
     }
     !sound | (upper_ends[place] == 0)
+}
+
+// Whether no row joins the list at a quote whose row has this lower end, and only rows that the quote retires may leave it: the new row is not
+// listed, and the window does not move or, where lower ends of live rows name live rows, moves past a row that is not live, at this place.
+pub fn still(upper_ends: &[u32], place: usize, shift: Shift, lower: u32, sound: bool) -> bool
+    requires { ⌜ (shift .before < shift .after → place < length (now «upper_ends»)) ⌝ }
+    ensures { λ r. ⌜ r ≡ still place (now («upper_ends» .entry)) shift lower sound ⌝ }
+{
+    if lower < shift.after {
+        return false;
+    }
+    if shift.after <= shift.before {
+        return true;
+    }
+    sound & (upper_ends[place] != 0)
 }
 
 // Writes a frame of a kind and n for each row that joins the list of a watch at a quote: its lower end is the window's old start, whose row stands

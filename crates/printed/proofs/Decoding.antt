@@ -4,13 +4,15 @@ use mathlib.Core.Logic.{_⊎_, inl, inr}
 use Prim.Native.Nat.{ℕ, _+_, _-_, _*_, _≤_, _<_}
 use native.Mathlib.Nat.{add-assoc}
 use native.Mathlib.Omega.{arith}
-use mathlib.Core.Bool.{Bool, true, false, _||_, cond}
+use mathlib.Core.Bool.{Bool, true, false, _&&_, _||_, cond}
 use mathlib.Core.List.{List, [], _∷_}
-use lib.Dec.{eqb}
-use lib.ListN.{length, getD}
-use borrow.Author.Tests.{eqb-true}
-use Rattle.lists.specs.Lists.{laid}
-use Rattle.lists.proofs.Booleans.{or-cases}
+use lib.Dec.{leb, eqb}
+use lib.ListN.{length, getD, set}
+use borrow.Author.Tests.{leb-true, eqb-true}
+use borrow.Rule.Slice.PartMut.{midOf, putMid}
+use Rattle.lists.specs.Lists.{run, laid}
+use Rattle.lists.proofs.Booleans.{and-left, and-right, or-cases}
+use Rattle.lists.proofs.Laying.{Front}
 use Rattle.lists.proofs.Runs.{order}
 use Rattle.octets.specs.Bytes.{number2, number4}
 use Rattle.frame_kinds.specs.declared.Shape.{Shape}
@@ -18,12 +20,12 @@ use Rattle.frame_kinds.specs.declared.Shape.the-variants.{Columns, Size, SizePo
 use Rattle.frames.specs.declared.Message.{Message}
 use Rattle.frame_kinds.specs.Kinds.{leaveKind, joinKind, leaveTwoKind, joinTwoKind, pairLeaveKind, pairJoinKind, kinds, shapeIn, shapeOf, bodyLength}
 use Rattle.frames.specs.Frames.{messageBy, messageAt, Reading, stays, readAt}
-use Rattle.frame_kinds.proofs.Shapes.{change-body, position-body}
+use Rattle.frame_kinds.proofs.Shapes.{in-row, change-body, position-body}
 use Rattle.frames.proofs.ReadCases as cases
 use Rattle.frames.proofs.ReadCases.{whole-next}
 use Rattle.frames.proofs.Reading.{told-at}
 use Rattle.text.specs.Text.{line, line2, Laid}
-use Rattle.text.proofs.Lines.{line-short, line2-short}
+use Rattle.text.proofs.Lines.{behind-first, line-short, line2-short}
 use Rattle.printed.specs.Printed.{letterOf, changeLine}
 
 -- ---- where a frame ends
@@ -56,9 +58,34 @@ module _ (bytes : List ℕ) (place : ℕ) where
     pub end-found : (bodyLength (getD bytes place 0) ≡ 255 → ⊥) → {next : ℕ} → next ≡ place + 1 + bodyLength (getD bytes place 0) → next ≤ length bytes → next ≡ readAt bytes place .next
     end-found known e h = e ∙ end-whole known (omega arith)
 
+-- the frame of a desk's change has seven bytes
+pub end-changed : (bytes : List ℕ) (place : ℕ) → place < length bytes
+    → leb leaveKind (getD bytes place 0) && leb (getD bytes place 0) joinTwoKind && leb 7 (length bytes - place) ≡ true
+    → place + 7 ≡ readAt bytes place .next
+unfolding shapeOf shapeIn kinds run
+end-changed bytes place inside t =
+    let k = getD bytes place 0 in
+    let within = and-left (leb leaveKind k && leb k joinTwoKind) (leb 7 (length bytes - place)) t in
+    let low = leb-true leaveKind k (and-left (leb leaveKind k) (leb k joinTwoKind) within) in
+    let high = leb-true k joinTwoKind (and-right (leb leaveKind k) (leb k joinTwoKind) within) in
+    let room = leb-true 7 (length bytes - place) (and-right (leb leaveKind k && leb k joinTwoKind) (leb 7 (length bytes - place)) t) in
+    let six = change-body k (sym (in-row SizePosition 32 4 refl k low (omega arith))) in
+    end-found bytes place inside (λ e. omega (arith, six)) (omega (arith, six)) (omega arith)
+
 -- where a frame ends behind its place, the place is within the bytes
 pub place-inside : (bytes : List ℕ) (place : ℕ) → place < readAt bytes place .next → place < length bytes
 place-inside bytes place h = let t = told-at bytes place h in omega (arith, t .next, t .inside)
+
+-- a line of two numbers that was laid has at most 24 bytes
+pub laid-two : (letter a b : ℕ) {before after : List ℕ} {used : ℕ} → Laid (line letter (a ∷ b ∷ [])) before used after → used ≤ 24
+laid-two letter a b l = omega (arith, l .counted, line-short letter (a ∷ b ∷ []))
+
+-- such a line with a 2 for its letter, laid behind a letter
+pub two-in : (letter a b : ℕ) (before : List ℕ) {last : List ℕ} {used : ℕ} → 25 ≤ length before
+    → Laid (line 50 (a ∷ b ∷ [])) (midOf 1 (length (set before 0 letter) - 1) (set before 0 letter)) used last
+    → Front (line2 letter 50 (a ∷ b ∷ [])) before (putMid 1 (length (set before 0 letter) - 1) (set before 0 letter) last) (used + 1)
+unfolding line2
+two-in letter a b before h l = behind-first letter (line 50 (a ∷ b ∷ [])) (omega (arith, line-short 50 (a ∷ b ∷ []))) l
 
 -- ---- its line
 

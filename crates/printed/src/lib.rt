@@ -16,8 +16,8 @@ use frames::PAIR_LEAVE;
 use frames::body_length;
 use octets::four_at;
 use octets::two_at;
-use text::put_line;
 use text::put_line2;
+use text::put_two;
 
 // The place behind the frame at a place; the place itself where none is read.
 fn frame_end(bytes: &[u8], place: usize) -> usize
@@ -37,6 +37,19 @@ fn frame_end(bytes: &[u8], place: usize) -> usize
     next
 }
 
+// The same, by one decision where a change of a desk's watch stands.
+fn change_end(bytes: &[u8], place: usize) -> usize
+    ensures { λ r. ⌜ r ≡ readAt (now (bytes .entry)) place .next ⌝ }
+{
+    if place < bytes.len() {
+        let kind = bytes[place];
+        if (LEAVE <= kind) & (kind <= JOIN_TWO) & (7 <= bytes.len() - place) {
+            return place + 7;
+        }
+    }
+    frame_end(bytes, place)
+}
+
 // Lays the line of n and a position, which stand in the frame at a place, behind a letter. Returns how many bytes.
 fn put_numbers(letter: u8, bytes: &[u8], place: usize, text: &mut [u8]) -> usize
     requires { ⌜ place + 7 ≤ length (now bytes) ⌝ }
@@ -46,7 +59,7 @@ fn put_numbers(letter: u8, bytes: &[u8], place: usize, text: &mut [u8]) -> usize
 {
     let n = two_at(bytes, place + 1) as u32;
     let position = four_at(bytes, place + 3);
-    put_line(letter, &[n, position], text)
+    put_two(letter, n, position, text)
 }
 
 // Lays the same line with a 2 behind the letter. Returns how many bytes.
@@ -58,7 +71,9 @@ fn put_numbers_two(letter: u8, bytes: &[u8], place: usize, text: &mut [u8]) -> u
 {
     let n = two_at(bytes, place + 1) as u32;
     let position = four_at(bytes, place + 3);
-    put_line2(letter, 50, &[n, position], text)
+    text[0] = letter;
+    let used = put_two(50, n, position, &mut text[1..]);
+    used + 1
 }
 
 // Lays the line of a position, which stands in the frame at a place, behind a letter that stands twice. Returns how many bytes.
@@ -112,12 +127,12 @@ fn put_frames(bytes: &[u8], text: &mut [u8]) -> usize
 {
     let mut at = 0;
     let mut place = 0;
-    let mut next = frame_end(bytes, 0);
+    let mut next = change_end(bytes, 0);
     while place < next {
         let used = put_change(bytes, place, &mut text[at..]);
         at += used;
         place = next;
-        next = frame_end(bytes, place);
+        next = change_end(bytes, place);
     }
     at
 }

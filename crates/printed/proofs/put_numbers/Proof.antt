@@ -18,21 +18,18 @@ add-four-at c = search needs
 four-at-requires : tie.Need-four-at-requires
 four-at-requires c κs = search needs
 
-slice-aggregate-put-line : tie.Need-slice-aggregate-put-line
-slice-aggregate-put-line c = search needs
-
-put-line-requires : tie.Need-put-line-requires
-put-line-requires c κs = search needs
+put-two-requires : tie.Need-put-two-requires
+put-two-requires c κs = search needs
 
 same-length : tie.Need-same-length
 same-length c = search needs
 
 returns : tie.Need-returns
 returns c =
-    let at-put-line = c .before .before in
-    let at-four-at = at-put-line .before .before .before in
+    let at-put-two = c .before .before in
+    let at-four-at = at-put-two .before .before in
     let at-two-at = at-four-at .before in
-    rw (← at-two-at .two-at .ensures, ← at-four-at .four-at .ensures) (at-put-line .put-line .ensures)
+    rw (← at-two-at .two-at .ensures, ← at-four-at .four-at .ensures) (at-put-two .put-two .ensures)
 
 pub put-numbers-spec : {M : Type 1} → statement M
 put-numbers-spec =
@@ -43,7 +40,6 @@ put-numbers-spec =
     cast-n
     add-four-at
     four-at-requires
-    slice-aggregate-put-line
-    put-line-requires
+    put-two-requires
     same-length
     returns)

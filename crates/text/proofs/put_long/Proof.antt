@@ -1,9 +1,9 @@
--- `put_number` meets its contract: the digits are written from the last to the first, each in its place.
+-- `put_long` meets its contract: the digits are written from the last to the first, each in its place.
 use native.Mathlib.Omega.{arith}
 use borrow.Author.Needs.{needs}
 use Rattle.text.proofs.Digits.{Putting, put-start, put-more, put-finish, at-most-ten}
-use Rattle.text.proofs.put_number.Statement.{statement}
-use Rattle.text.proofs.put_number.Tie as tie
+use Rattle.text.proofs.put_long.Statement.{statement}
+use Rattle.text.proofs.put_long.Tie as tie
 
 abbrev Inv-loop : tie.InvT-loop
 Inv-loop n text₀ count rest₀ i₀ text rest i = Putting n text₀ count text rest i
@@ -41,8 +41,8 @@ same-length c = c .before .loop .inv .long
 returns : tie.Need-returns Inv-loop μ-loop
 returns c = put-finish _ _ _ _ _ _ (c .before .before .digit-count .ensures) (c .loop-test .left) (c .before .loop .inv)
 
-pub put-number-spec : {M : Type 1} → statement M
-put-number-spec =
+pub put-long-spec : {M : Type 1} → statement M
+put-long-spec =
     tie.close
     (tie.spec
     Inv-loop
