@@ -13,7 +13,7 @@ use prog.Routine.{Routine}
 use prog.Wp.{Heap, Env, Calls, Loops}
 use ghost.Atoms.{Atoms, sem}
 use contract.Monad.{Fun, fact}
-use types.Kit.{Given, Item, Post, runs, settles, Seq, ‵, raw, some, later, _⊛_, _$_, _∵_, !, qed, by, move, drop, use1, split, join, pick, fsplit, fjoin, feqL, frame, await, done}
+use types.Kit.{Given, Item, Post, runs, settles, Seq, ‵, raw, some, later, _⊛_, _$_, _∵_, !, qed, by, move, drop, use1, split, join, pick, fsplit, fjoin, feqL, await, done}
 use types.Run.{Opds}
 use sound.WpLaws.{FmC}
 use denote.Laws.{Is, shows}

@@ -52,7 +52,7 @@ use Rattle.replies.proofs.Reply as R
 use Rattle.replies.proofs.Reply.Laws as R′
 use Rattle.head.proofs.Watch as T
 use Rattle.model.specs.Rows.{Tables as Lent}
-use Rattle.model.specs.Book.{standing, endReply}
+use Rattle.model.specs.Book.{standing}
 use Rattle.watch_records.specs.Records.{watched}
 use Rattle.watch_records.proofs.LocalArray.{machine}
 use Rattle.watch_records.proofs.DeskValues.{desk-value, desk-values, is-desk}
