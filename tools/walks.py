@@ -6,7 +6,7 @@ usage: tools/walks.py
 A walk names what it reaches for by its place in the context, which depends on every parameter. Where a signature changes, change it in
 CALLS below and run this, then `rt fmt` and `rt check shared_records by_value`.
 
-shared_records: the records are lent to `numbers`; the numbers, how many records there are and all else go to the function of `lending`.
+shared_records: the records are lent to `numbers`; the numbers, how many records there are and all else go to the function of the same name that takes numbers.
 by_value: the records stand in a local array, lent for the call to the function of `shared_records` with the same name.
 """
 
@@ -28,6 +28,8 @@ CALLS = {
              "head n1 n2 lent {ws} (out .now) {j} {out}", "head n1 n2 lent", "Reply"),
     "unpair": ([("head", "head")] + SHARED + RECORDS, "Unpaired", "head lent {ws} {j}", "head lent", "Reply"),
 }
+# The crate of the function of each name that takes the watches as numbers.
+HOMES = {"quote": "quoting", "both": "quote_looking", "preview": "previewing", "pair": "pairing", "unpair": "pairing"}
 # The machine values of a result of each type, and that what a call hands back is spelled so.
 SPELLED = {"Reply": ("machines", "spelled"), "Effect": ("effect-machines", "effect-spelled"), "BothReply": ("both-machines", "both-spelled")}
 MARK = "-- what is had of each parameter at the end"
@@ -282,8 +284,10 @@ def shared_walk(name):
     order = sum([["numbers", "lent"] if n == "records" else [n] for n in w.names], [])
     sorts = dict(w.params, numbers="numbers", lent="lent")
     pick = lambda n, numbers, many, other: {"numbers": numbers, "lent": many}.get(n) or other(n, sorts[n])
-    w.begin(f"`{name}_lent`")
-    w.add(f"  -- what `{name}_lent` binds outside, that it is given what it asks, and what is known of its result",
+    home = HOMES[name]
+    symbol = f"#{home.replace('_', '-')}·{name}"
+    w.begin(f"`{name}` of `{home}`")
+    w.add(f"  -- what `{name}` of `{home}` binds outside, that it is given what it asks, and what is known of its result",
           "  abbrev lives : " + product(["Lft"] * len(lives)), "  lives = " + nest(w.lifetimes("κ", lives)), "",
           "  abbrev Tokens : Item 𝓤", "  Tokens = " + w.tokens(lives), "",
           "  abbrev asked : List ℕ → " + product([pick(n, "List ℕ", "ℕ", lambda _, s: w.denotation(s)) for n in order]),
@@ -303,7 +307,7 @@ def shared_walk(name):
         context.remove(i)
     w.exits(["Tokens", f"‵ (flft κ{low(records)} q{low(records)})"], gather)
     w.add(f"  module _ {w.fits()}",
-          f"      (C : Calls 𝓤 H) (Λ : Loops 𝓤 H) (fm : FmC 𝓤 H (W .laws) C) (known-numbers : Triple 𝓤 (C #watch-records·numbers) (Numbers 𝓤 H A mem run)) (known-callee : Triple 𝓤 (C #lending·{name}-lent) (Callee 𝓤 H A mem run)) where")
+          f"      (C : Calls 𝓤 H) (Λ : Loops 𝓤 H) (fm : FmC 𝓤 H (W .laws) C) (known-numbers : Triple 𝓤 (C #watch-records·numbers) (Numbers 𝓤 H A mem run)) (known-callee : Triple 𝓤 (C {symbol}) (Callee 𝓤 H A mem run)) where")
     w.enter()
     off = k + len(w.params) + 1
     here = w.place(w.local["records"], off)
@@ -324,7 +328,7 @@ def shared_walk(name):
     w.answered(order, "Tokens", "lasts callee.ended lives (asked r) zs", "Promised r j zs", "said", w.place(0, kept + 3))
     places = [w.place(i, kept + 3) for i in range(w.locals)]
     w.leave(places[::-1], [(p, p + 1) for p in places], [0, kept + 1] + list(range(kept, 0, -1)), order, f"({name}-records ys {w.of} e said)", 6)
-    w.close("shared-records", [("known-numbers", "#watch-records·numbers", "Numbers", "numbers"), ("known-callee", f"#lending·{name}-lent", "Callee", "callee")])
+    w.close("shared-records", [("known-numbers", "#watch-records·numbers", "Numbers", "numbers"), ("known-callee", symbol, "Callee", "callee")])
     return w.lines
 
 

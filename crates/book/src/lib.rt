@@ -5,7 +5,6 @@ pub use changed_records::end;
 pub use changed_records::watch;
 pub use due::due;
 use head::Watch;
-use lending::open_lent;
 pub use looking::look;
 pub use looking::past;
 use replies::Reply;
@@ -37,7 +36,7 @@ pub fn open(
 {
     let before = numbers(&*watches);
     let lent = watches.len();
-    let judged = open_lent(
+    let made = opening::open(
         dimensions,
         capacity,
         directions,
@@ -48,8 +47,6 @@ pub fn open(
         before,
         lent,
     );
-    if judged.accepted {
-        store(&mut *watches, [0; 8]);
-    }
-    judged.reply
+    store(&mut *watches, made.watches);
+    made.reply
 }

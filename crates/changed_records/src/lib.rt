@@ -4,12 +4,12 @@ ghost use Rattle.model.specs.Promises.{tables, Watched, Ended};
 use head::Desk;
 use head::Head;
 use head::Watch;
-use lending::end_lent;
-use lending::watch_lent;
 use replies::Reply;
 use watch_records::insert_record;
 use watch_records::numbers;
 use watch_records::remove_record;
+use watching::end_watch;
+use watching::set_watch;
 
 // Sets a desk's watch of n and writes a join for each position of its list; hands back how many bytes.
 pub fn watch(
@@ -30,7 +30,7 @@ pub fn watch(
 {
     let before = numbers(&*watches);
     let lent = watches.len();
-    let judged = watch_lent(
+    let judged = set_watch(
         head,
         desk,
         n,
@@ -65,7 +65,7 @@ pub fn end(
 {
     let before = numbers(&*watches);
     let lent = watches.len();
-    let judged = end_lent(
+    let judged = end_watch(
         head,
         desk,
         n,

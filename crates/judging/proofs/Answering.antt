@@ -1,12 +1,13 @@
 -- What the calls answer by their first judgements, and what is known of a head, tables and watches that pass them.
 use mathlib.Core.Path.{_≡_, refl, sym, ap, _∙_}
 use Prim.Native.Nat.{ℕ, zero, suc, _*_, _≤_}
-use mathlib.Core.Bool.{Bool, true, false, _&&_, _||_, not}
+use mathlib.Core.Bool.{Bool, true, false, _&&_, _||_, not, or-false}
 use mathlib.Core.List.{List, [], _∷_, _++_}
 use lib.Dec.{ltb, leb}
-use lib.ListN.{length, length-map}
+use lib.ListN.{length, take, length-map, length-take}
+use lib.Seq.{take-all}
 use native.Mathlib.Omega.{arith}
-use borrow.Author.Tests.{ltb-false, leb-true, not-false}
+use borrow.Author.Tests.{ltb-true, ltb-false, lt-ltb, le-ltb, leb-true, not-false}
 use Rattle.lists.proofs.Booleans.{and-left, and-right, none-left, none-right}
 use Rattle.head.specs.declared.Head.{Head}
 use Rattle.refusals.specs.declared.Answer.{Answer}
@@ -14,14 +15,14 @@ use Rattle.refusals.specs.declared.Answer.the-variants.{Refused}
 use Rattle.refusals.specs.declared.Refusal.{Refusal}
 use Rattle.refusals.specs.declared.Refusal.the-variants.{Settings, ShortLoan, Torn}
 use Rattle.refusals.specs.Refusals.{number, numberOf, firstOf, granted}
-use Rattle.head.specs.Heads.{settingsHold, tornPair}
+use Rattle.head.specs.Heads.{freshHead, settingsHold, tornPair}
 use Rattle.refusals.proofs.Numbers.{zero-passed, firstOf-append, number-above, refused-number, granted-refused, positive}
 use Rattle.head.proofs.Settings.{Within, settings-within}
 use Rattle.model.specs.Rows.{Row, Tables}
-use Rattle.model.specs.Book.{shortTables, shortLoan, tornRows, tornWatches, bookRows, answerOf, watchfulAnswer, outOfRange}
+use Rattle.model.specs.Book.{shortTables, shortLoan, tornRows, tornWatches, bookRows, answerOf, watchfulAnswer, openAnswer, outOfRange}
 use Rattle.model.proofs.Tables.{length-read}
 use Rattle.model.proofs.Torn.{Whole, untorn-whole, window-bounded}
-use Rattle.judging.specs.Answers.{loanAnswer}
+use Rattle.judging.specs.Answers.{loanAnswer, rowsAnswer, shortLoanAnswer}
 
 -- ---- tests in order
 
@@ -64,20 +65,73 @@ module _ (h : Head) (t : Tables) where
   abbrev torn : Bool
   torn = tornRows h (bookRows h t) || tornPair h
 
--- eight watches are as many as a loan asks, and are judged behind the rows
-pub watchful-judged : (h : Head) (t : Tables) (ws : List ℕ) {a r : ℕ} {test : Bool} → length ws ≡ 8 → a ≡ answerOf h t [] → test ≡ tornWatches (h .capacity) ws
-    → r ≡ granted a (firstOf ((test, number Torn) ∷ [])) a → r ≡ watchfulAnswer h t ws []
-unfolding answerOf watchfulAnswer shortLoan granted firstOf
-watchful-judged h t ws eight e w f = f ∙ rw (e, w, eight) (go (held h t) (short h t) (torn h t) (tornWatches (h .capacity) ws))
-  where
-    three : Bool → Bool → Bool → ℕ
-    three s l r = firstOf ((not s, number Settings) ∷ (l, number ShortLoan) ∷ (r, number Torn) ∷ [])
+-- a call on the tables alone lacks no record
+pub alone-judged : (h : Head) (t : Tables) {r : ℕ} → r ≡ rowsAnswer h t 8 → r ≡ answerOf h t []
+unfolding rowsAnswer answerOf
+alone-judged h t e = e ∙ rw or-false
 
-    go : (s l r w : Bool) → granted (three s l r) (firstOf ((w, number Torn) ∷ [])) (three s l r) ≡ three s (l || false) (r || w)
-    go true true r w = refl
-    go true false true w = refl
-    go true false false w = refl
-    go false l r w = refl
+-- fewer than eight records are refused whatever else is asked
+module _ (ws : List ℕ) (lacking : ltb (length ws) 8 ≡ true) where
+  three-short : (s l : Bool) (rest : List (Bool × ℕ)) → firstOf ((not s, number Settings) ∷ (l || true, number ShortLoan) ∷ rest) ≡ firstOf ((not s, number Settings) ∷ (true, number ShortLoan) ∷ [])
+  unfolding firstOf
+  three-short true true rest = refl
+  three-short true false rest = refl
+  three-short false l rest = refl
+
+  pub short-watchful : (h : Head) (t : Tables) (more : List (Bool × ℕ)) → watchfulAnswer h t ws more ≡ shortLoanAnswer h
+  unfolding watchfulAnswer shortLoan shortLoanAnswer
+  short-watchful h t more = rw lacking (three-short (held h t) (short h t) _)
+
+  pub short-open : (d N directions : ℕ) (t : Tables) → openAnswer d N directions t ws ≡ shortLoanAnswer (freshHead d N directions)
+  unfolding openAnswer shortLoan shortLoanAnswer
+  short-open d N directions t = rw lacking (three-short (settingsHold d N directions) (shortTables t d N) [])
+
+-- ---- the numbers of eight records, of which so many are lent
+module _ (ws : List ℕ) (lent : ℕ) (eight : length ws ≡ 8) where
+  -- of eight or more that are lent they are all
+  pub lent-all : 8 ≤ lent → take lent ws ≡ ws
+  lent-all enough = take-all lent ws (omega arith)
+
+  -- else they are too few
+  pub lent-short : ltb (length (take lent ws)) 8 ≡ ltb lent 8
+  lent-short = go (ltb lent 8) refl
+    where
+      go : (b : Bool) → ltb lent 8 ≡ b → ltb (length (take lent ws)) 8 ≡ b
+      go true e = lt-ltb (length (take lent ws)) 8 (omega (arith, length-take lent ws, ltb-true lent 8 e))
+      go false e = le-ltb (length (take lent ws)) 8 (omega (arith, length-take lent ws, ltb-false lent 8 e))
+
+  -- they are judged behind the rows
+  pub watchful-judged : (h : Head) (t : Tables) {a r : ℕ} {test : Bool} → a ≡ rowsAnswer h t lent → test ≡ tornWatches (h .capacity) ws
+      → r ≡ granted a (firstOf ((test, number Torn) ∷ [])) a → r ≡ watchfulAnswer h t (take lent ws) []
+  unfolding rowsAnswer watchfulAnswer shortLoan granted firstOf
+  watchful-judged h t e w f =
+      f ∙ rw (e, w, lent-short)
+      (go (held h t) (short h t) (torn h t) (ltb lent 8) (tornWatches (h .capacity) ws) (λ b. ap (tornWatches (h .capacity)) (lent-all (ltb-false lent 8 b))))
+    where
+      three : Bool → Bool → Bool → ℕ
+      three s l r = firstOf ((not s, number Settings) ∷ (l, number ShortLoan) ∷ (r, number Torn) ∷ [])
+
+      go : (s l r b w : Bool) {w' : Bool} → (b ≡ false → w' ≡ w) → granted (three s (l || b) r) (firstOf ((w, number Torn) ∷ [])) (three s (l || b) r) ≡ three s (l || b) (r || w')
+      go true true r b w same = refl
+      go true false r true w same = refl
+      go true false true false w same = refl
+      go true false false false w same = ap (λ (b : Bool). firstOf ((b, number Torn) ∷ [])) (sym (same refl))
+      go false l r b w same = refl
+
+  -- an accepted call was lent eight
+  pub lent-enough : (h : Head) (t : Tables) (more : List (Bool × ℕ)) → watchfulAnswer h t (take lent ws) more ≡ 0 → 8 ≤ lent
+  unfolding watchfulAnswer shortLoan
+  lent-enough h t more e =
+      let l = zero-passed _ _ _ (zero-passed _ _ _ e .1) .0 in
+      ltb-false lent 8 (sym lent-short ∙ none-right (short h t) (ltb (length (take lent ws)) 8) l)
+
+  -- what a call asks of the eight behind its judgement it asks of those that are lent
+  pub lent-asked : (h : Head) (t : Tables) (more : List ℕ → List (Bool × ℕ)) → watchfulAnswer h t (take lent ws) (more ws) ≡ watchfulAnswer h t (take lent ws) (more (take lent ws))
+  lent-asked h t more = go (ltb lent 8) refl
+    where
+      go : (b : Bool) → ltb lent 8 ≡ b → watchfulAnswer h t (take lent ws) (more ws) ≡ watchfulAnswer h t (take lent ws) (more (take lent ws))
+      go true e = short-watchful (take lent ws) (lent-short ∙ e) h t (more ws) ∙ sym (short-watchful (take lent ws) (lent-short ∙ e) h t (more (take lent ws)))
+      go false e = ap (λ (l : List ℕ). watchfulAnswer h t (take lent ws) (more l)) (sym (lent-all (ltb-false lent 8 e)))
 
 -- ---- what passed tests say
 
@@ -127,12 +181,16 @@ in-range h n e =
 
 module _ (h : Head) (t : Tables) where
   -- a loan that was accepted
-  pub loan-passed : loanAnswer h t ≡ 0 → Within (h .dimensions) (h .capacity) × Long t (h .dimensions) (h .capacity)
+  pub loan-passed : (lent : ℕ) → loanAnswer h t lent ≡ 0 → Within (h .dimensions) (h .capacity) × Long t (h .dimensions) (h .capacity) × (8 ≤ lent)
   unfolding loanAnswer
-  loan-passed e =
+  loan-passed lent e =
       let s = zero-passed _ _ _ e in
       let l = zero-passed _ _ _ (s .1) in
-      (settings-within (h .dimensions) (h .capacity) (h .directions) (not-false (held h t) (s .0)), long-enough t (h .dimensions) (h .capacity) (l .0))
+      (
+        settings-within (h .dimensions) (h .capacity) (h .directions) (not-false (held h t) (s .0)),
+        long-enough t (h .dimensions) (h .capacity) (none-left (short h t) (ltb lent 8) (l .0)),
+        ltb-false lent 8 (none-right (short h t) (ltb lent 8) (l .0)),
+      )
 
   -- the rows of a book that passed stand in its cells
   pub rows-stand : Passed h t → (h .held ≤ length (t .positions)) × (h .held ≤ length (t .lowerEnds)) × (h .held ≤ length (t .upperEnds))

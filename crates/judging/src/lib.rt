@@ -3,13 +3,14 @@ ghost use mathlib.Core.Path.{_≡_};
 ghost use mathlib.Core.Bool.{not};
 ghost use mathlib.Core.List.{[], _∷_};
 ghost use lib.Dec.{ltb};
+ghost use lib.ListN.{take};
 ghost use Rattle.refusals.specs.declared.Refusal.the-variants.{Settings};
 ghost use Rattle.head.specs.Heads.{settingsHold};
 ghost use Rattle.refusals.specs.Refusals.{number, numberOf, firstOf, granted};
 ghost use Rattle.model.specs.Changes.{changeRoom};
 ghost use Rattle.model.specs.Book.{shortTables, answerOf, watchfulAnswer, outOfRange};
 ghost use Rattle.model.specs.Promises.{tables};
-ghost use Rattle.judging.specs.Answers.{loanAnswer};
+ghost use Rattle.judging.specs.Answers.{loanAnswer, rowsAnswer};
 use head::Head;
 use refusals::Answer;
 use refusals::Refusal;
@@ -77,36 +78,38 @@ pub fn judge_settings(head: Head) -> Answer
     with_test(Answer::Accepted, !head.settings_hold(), Refusal::Settings)
 }
 
-// The answer of a call that is lent the tables, before it reads them: 3, 11.
+// The answer of a call that is lent the tables and so many watch records, before it reads them: 3, 11.
 pub fn judge_loan(
     head: Head,
     columns: &[u32],
     positions: &[u32],
     lower_ends: &[u32],
     upper_ends: &[u32],
+    lent: usize,
 ) -> Answer
     ensures { λ r. ⌜ numberOf r ≡ loanAnswer head
-        (tables (now (columns .entry)) (now (positions .entry)) (now («lower_ends» .entry))
-        (now («upper_ends» .entry))) ⌝ }
+        (tables (now (columns .entry)) (now (positions .entry)) (now («lower_ends» .entry)) (now («upper_ends» .entry)))
+        lent ⌝ }
 {
     let settings = judge_settings(head);
     let short = short_tables(head, columns, positions, lower_ends, upper_ends);
-    with_test(settings, short, Refusal::ShortLoan)
+    with_test(settings, short | (lent < 8), Refusal::ShortLoan)
 }
 
-// The answer of a call on the tables alone, before what the call adds: 3, 11, 12.
-pub fn judge(
+// The answer of such a call once it has read the tables: 3, 11, 12.
+fn judge_rows(
     head: Head,
     columns: &[u32],
     positions: &[u32],
     lower_ends: &[u32],
     upper_ends: &[u32],
+    lent: usize,
 ) -> Answer
-    ensures { λ r. ⌜ numberOf r ≡ answerOf head
+    ensures { λ r. ⌜ numberOf r ≡ rowsAnswer head
         (tables (now (columns .entry)) (now (positions .entry)) (now («lower_ends» .entry)) (now («upper_ends» .entry)))
-        [] ⌝ }
+        lent ⌝ }
 {
-    let answer = judge_loan(head, columns, positions, lower_ends, upper_ends);
+    let answer = judge_loan(head, columns, positions, lower_ends, upper_ends, lent);
     match answer {
         Answer::Accepted => {}
         Answer::Refused(_) => {
@@ -118,7 +121,23 @@ pub fn judge(
     with_test(answer, rows | pair, Refusal::Torn)
 }
 
-// The answer of a call on the tables and the watches, before what the call adds: 3, 11, 12.
+// The answer of a call on the tables alone, which asks for no watch record, before what the call adds: 3, 11, 12.
+pub fn judge(
+    head: Head,
+    columns: &[u32],
+    positions: &[u32],
+    lower_ends: &[u32],
+    upper_ends: &[u32],
+) -> Answer
+    ensures { λ r. ⌜ numberOf r ≡ answerOf head
+        (tables (now (columns .entry)) (now (positions .entry)) (now («lower_ends» .entry)) (now («upper_ends» .entry)))
+        [] ⌝ }
+{
+    judge_rows(head, columns, positions, lower_ends, upper_ends, 8)
+}
+
+// The answer of a call on the tables and the watches, by the numbers of the first eight records and how many are lent, before what the
+// call adds: 3, 11, 12.
 pub fn judge_watchful(
     head: Head,
     columns: &[u32],
@@ -126,11 +145,12 @@ pub fn judge_watchful(
     lower_ends: &[u32],
     upper_ends: &[u32],
     watches: [u64; 8],
+    lent: usize,
 ) -> Answer
     ensures { λ r. ⌜ numberOf r ≡ watchfulAnswer head
         (tables (now (columns .entry)) (now (positions .entry)) (now («lower_ends» .entry)) (now («upper_ends» .entry)))
-        watches [] ⌝ }
+        (take lent watches) [] ⌝ }
 {
-    let answer = judge(head, columns, positions, lower_ends, upper_ends);
+    let answer = judge_rows(head, columns, positions, lower_ends, upper_ends, lent);
     with_test(answer, torn(head.capacity, watches), Refusal::Torn)
 }

@@ -1,4 +1,6 @@
 // The opening: new settings, and nothing in the tables and watches.
+ghost use mathlib.Core.Path.{_≡_};
+ghost use lib.ListN.{length, take};
 ghost use Rattle.model.specs.Promises.{tables, Opened};
 use cells::clear;
 use head::Head;
@@ -17,14 +19,16 @@ pub fn open(
     lower_ends: &mut [u32],
     upper_ends: &mut [u32],
     watches: [u64; 8],
+    lent: usize,
 ) -> WatchReply
     ensures { λ r. ⌜ Opened dimensions capacity directions
         (tables (now (columns .entry)) (now (positions .entry)) (now («lower_ends» .entry)) (now («upper_ends» .entry)))
-        watches (r .reply) (tables (now (columns .exit)) (now (positions .exit)) (now («lower_ends» .exit))
-        (now («upper_ends» .exit))) (r .watches) ⌝ }
+        (take lent watches) (r .reply) (tables (now (columns .exit)) (now (positions .exit)) (now («lower_ends» .exit))
+        (now («upper_ends» .exit))) (take lent (r .watches)) ⌝ }
+    ensures { λ r. ⌜ length (r .watches) ≡ 8 ⌝ }
 {
     let head = Head::fresh(dimensions, capacity, directions);
-    let answer = judge_loan(head, columns, positions, lower_ends, upper_ends);
+    let answer = judge_loan(head, columns, positions, lower_ends, upper_ends, lent);
     match answer {
         Answer::Accepted => {}
         Answer::Refused(_) => {

@@ -1,5 +1,6 @@
 // The watch of the pair and its end: a past list followed, its joins written, and a past list no longer followed.
 ghost use mathlib.Core.Path.{_≡_};
+ghost use lib.ListN.{take};
 ghost use Rattle.refusals.specs.Refusals.{numberOf};
 ghost use Rattle.model.specs.Book.{pairAnswer, unpairAnswer};
 ghost use Rattle.model.specs.Promises.{tables, Paired, Unpaired};
@@ -26,13 +27,14 @@ fn judge_pair(
     lower_ends: &[u32],
     upper_ends: &[u32],
     watches: [u64; 8],
+    lent: usize,
     room: usize,
 ) -> Answer
     ensures { λ r. ⌜ numberOf r ≡ pairAnswer head n1 n2
         (tables (now (columns .entry)) (now (positions .entry)) (now («lower_ends» .entry)) (now («upper_ends» .entry)))
-        watches room ⌝ }
+        (take lent watches) room ⌝ }
 {
-    let judged = judge_watchful(head, columns, positions, lower_ends, upper_ends, watches);
+    let judged = judge_watchful(head, columns, positions, lower_ends, upper_ends, watches, lent);
     let beyond = out_of_sizes(head, 2, n1, n2);
     let sized = with_test(judged, beyond, Refusal::WindowSize);
     let stands = head.n1 != 0;
@@ -49,12 +51,13 @@ fn judge_unpair(
     lower_ends: &[u32],
     upper_ends: &[u32],
     watches: [u64; 8],
+    lent: usize,
 ) -> Answer
     ensures { λ r. ⌜ numberOf r ≡ unpairAnswer head
         (tables (now (columns .entry)) (now (positions .entry)) (now («lower_ends» .entry)) (now («upper_ends» .entry)))
-        watches ⌝ }
+        (take lent watches) ⌝ }
 {
-    let judged = judge_watchful(head, columns, positions, lower_ends, upper_ends, watches);
+    let judged = judge_watchful(head, columns, positions, lower_ends, upper_ends, watches, lent);
     let stands = head.n1 != 0;
     with_test(judged, !stands, Refusal::NotWatched)
 }
@@ -69,10 +72,11 @@ pub fn pair(
     lower_ends: &[u32],
     upper_ends: &[u32],
     watches: [u64; 8],
+    lent: usize,
     out: &mut [u8],
 ) -> Reply
     ensures { λ r. ⌜ Paired head n1 n2 (tables (now (columns .entry)) (now (positions .entry))
-        (now («lower_ends» .entry)) (now («upper_ends» .entry))) watches (now (out .entry)) r (now (out .exit)) ⌝ }
+        (now («lower_ends» .entry)) (now («upper_ends» .entry))) (take lent watches) (now (out .entry)) r (now (out .exit)) ⌝ }
 {
     let room = out.len();
     let answer = judge_pair(
@@ -84,6 +88,7 @@ pub fn pair(
         lower_ends,
         upper_ends,
         watches,
+        lent,
         room,
     );
     match answer {
@@ -115,11 +120,12 @@ pub fn unpair(
     lower_ends: &[u32],
     upper_ends: &[u32],
     watches: [u64; 8],
+    lent: usize,
 ) -> Reply
     ensures { λ r. ⌜ Unpaired head (tables (now (columns .entry)) (now (positions .entry)) (now («lower_ends» .entry))
-        (now («upper_ends» .entry))) watches r ⌝ }
+        (now («upper_ends» .entry))) (take lent watches) r ⌝ }
 {
-    let answer = judge_unpair(head, columns, positions, lower_ends, upper_ends, watches);
+    let answer = judge_unpair(head, columns, positions, lower_ends, upper_ends, watches, lent);
     match answer {
         Answer::Accepted => {}
         Answer::Refused(_) => {

@@ -1,6 +1,7 @@
 // The preview of a quote, by the quote's own stages but the last: it is judged, what it would do to the rows is found, its changes are
 // written. The tables and the watches stay.
 ghost use mathlib.Core.Path.{_≡_};
+ghost use lib.ListN.{take};
 ghost use Rattle.model.specs.Promises.{tables, Previewed};
 ghost use Rattle.previewing.specs.Effects.{effectOf};
 use head::Head;
@@ -40,11 +41,12 @@ pub fn preview(
     lower_ends: &[u32],
     upper_ends: &[u32],
     watches: [u64; 8],
+    lent: usize,
     out: &mut [u8],
 ) -> Effect
     ensures { λ r. ⌜ Previewed head (now (quote .entry))
         (tables (now (columns .entry)) (now (positions .entry)) (now («lower_ends» .entry)) (now («upper_ends» .entry)))
-        watches (now (out .entry)) r (now (out .exit)) ⌝ }
+        (take lent watches) (now (out .entry)) r (now (out .exit)) ⌝ }
 {
     let room = out.len();
     let answer = judge(
@@ -56,6 +58,7 @@ pub fn preview(
         lower_ends,
         upper_ends,
         watches,
+        lent,
         room,
     );
     match answer {

@@ -4,7 +4,7 @@ ghost use mathlib.Core.Path.{_≡_};
 ghost use Prim.Native.Nat.{_≤_};
 ghost use mathlib.Core.Bool.{true, _&&_};
 ghost use lib.Dec.{ltb};
-ghost use lib.ListN.{length, drop};
+ghost use lib.ListN.{length, take, drop};
 ghost use Rattle.lists.specs.Lists.{laid};
 ghost use Rattle.head.specs.Heads.{lastPosition};
 ghost use Rattle.refusals.specs.Refusals.{numberOf, granted};
@@ -79,13 +79,14 @@ fn judge_both(
     lower_ends: &[u32],
     upper_ends: &[u32],
     watches: [u64; 8],
+    lent: usize,
     room: usize,
 ) -> Answer
     requires { ⌜ (reachable ≡ true → Reached (world head (tables (now columns) (now positions) (now «lower_ends»)
-        (now «upper_ends»)) watches)) ⌝ }
+        (now «upper_ends»)) (take lent watches))) ⌝ }
     ensures { λ r. ⌜ numberOf r ≡ sizedAnswer head (now (quote .entry)) n
         (tables (now (columns .entry)) (now (positions .entry)) (now («lower_ends» .entry)) (now («upper_ends» .entry)))
-        watches room ⌝ }
+        (take lent watches) room ⌝ }
 {
     let quoted = judge(
         reachable,
@@ -96,6 +97,7 @@ fn judge_both(
         lower_ends,
         upper_ends,
         watches,
+        lent,
         room,
     );
     let sized = with_test(Answer::Accepted, out_of_range(head, n), Refusal::WindowSize);
@@ -198,14 +200,15 @@ pub fn both_known(
     lower_ends: &mut [u32],
     upper_ends: &mut [u32],
     watches: [u64; 8],
+    lent: usize,
     out: &mut [u8],
     cells: &mut [u32],
 ) -> BothEntered
     requires { ⌜ Known reachable head (tables (now columns) (now positions) (now «lower_ends») (now «upper_ends»))
-        watches ⌝ }
+        (take lent watches) ⌝ }
     ensures { λ r. ⌜ BothMade reachable head (now (quote .entry)) n
         (tables (now (columns .entry)) (now (positions .entry)) (now («lower_ends» .entry)) (now («upper_ends» .entry)))
-        watches (now (out .entry)) (now (cells .entry)) r
+        (take lent watches) (now (out .entry)) (now (cells .entry)) r
         (tables (now (columns .exit)) (now (positions .exit)) (now («lower_ends» .exit)) (now («upper_ends» .exit)))
         (now (out .exit)) (now (cells .exit)) ⌝ }
 {
@@ -220,6 +223,7 @@ pub fn both_known(
         lower_ends,
         upper_ends,
         watches,
+        lent,
         room,
     );
     match answer {
@@ -268,12 +272,13 @@ pub fn both(
     lower_ends: &mut [u32],
     upper_ends: &mut [u32],
     watches: [u64; 8],
+    lent: usize,
     out: &mut [u8],
     cells: &mut [u32],
 ) -> BothReply
     ensures { λ r. ⌜ QuotedLooked head (now (quote .entry)) n
         (tables (now (columns .entry)) (now (positions .entry)) (now («lower_ends» .entry)) (now («upper_ends» .entry)))
-        watches (now (out .entry)) (now (cells .entry)) r
+        (take lent watches) (now (out .entry)) (now (cells .entry)) r
         (tables (now (columns .exit)) (now (positions .exit)) (now («lower_ends» .exit)) (now («upper_ends» .exit)))
         (now (out .exit)) (now (cells .exit)) ⌝ }
 {
@@ -287,6 +292,7 @@ pub fn both(
         lower_ends,
         upper_ends,
         watches,
+        lent,
         out,
         cells,
     );

@@ -37,7 +37,7 @@ use Rattle.cells.specs.Marked.{Below}
 use Rattle.changes.specs.Watches.{allFrames}
 use Rattle.changes.proofs.Quoting.{quote-frames}
 use Rattle.pair_changes.proofs.Pairs.{pair-frames, paired}
-use Rattle.judging.proofs.Answering.{watchful-passed}
+use Rattle.judging.proofs.Answering.{watchful-passed, lent-all, lent-enough}
 use Rattle.writing.specs.Bytes.{changeBytes, Writable, acceptedReply}
 
 -- what is known where a quote is accepted
@@ -61,6 +61,11 @@ taken h x t ws room e =
       untorn = p .1;
       wide = ltb-false room changeRoom (zero-passed _ _ _ (f .1) .0);
     }
+
+-- then all of the eight records whose numbers these are were lent
+pub quote-lent : (h : Head) (x : List ℕ) (t : Tables) (ws : List ℕ) (lent room : ℕ) → length ws ≡ 8 → quoteAnswer h x t (take lent ws) room ≡ 0 → take lent ws ≡ ws
+unfolding quoteAnswer
+quote-lent h x t ws lent room eight e = lent-all ws lent eight (lent-enough ws lent eight h t _ e)
 
 -- at most 1,024 rows are held
 pub bounded-held : {h : Head} {x : List ℕ} {t : Tables} → Admitted h x t → h .held ≤ 1024

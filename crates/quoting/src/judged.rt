@@ -1,6 +1,7 @@
 // The judgement of a quote, on any tables or on a reachable book.
 ghost use mathlib.Core.Path.{_≡_};
 ghost use mathlib.Core.Bool.{true};
+ghost use lib.ListN.{take};
 ghost use Rattle.refusals.specs.Refusals.{numberOf, firstOf, granted};
 ghost use Rattle.model.specs.Book.{quoteAnswer};
 ghost use Rattle.model.specs.Calls.{Reached};
@@ -36,17 +37,18 @@ pub fn judge(
     lower_ends: &[u32],
     upper_ends: &[u32],
     watches: [u64; 8],
+    lent: usize,
     room: usize,
 ) -> Answer
     requires { ⌜ (reachable ≡ true → Reached (world head (tables (now columns) (now positions) (now «lower_ends»)
-        (now «upper_ends»)) watches)) ⌝ }
+        (now «upper_ends»)) (take lent watches))) ⌝ }
     ensures { λ r. ⌜ numberOf r ≡ quoteAnswer head (now (quote .entry))
         (tables (now (columns .entry)) (now (positions .entry)) (now («lower_ends» .entry)) (now («upper_ends» .entry)))
-        watches room ⌝ }
+        (take lent watches) room ⌝ }
 {
     if reachable {
         return with_quote(judge_settings(head), head, quote, room);
     }
-    let judged = judge_watchful(head, columns, positions, lower_ends, upper_ends, watches);
+    let judged = judge_watchful(head, columns, positions, lower_ends, upper_ends, watches, lent);
     with_quote(judged, head, quote, room)
 }

@@ -2,7 +2,7 @@
 // There is one set of stages for any tables and for a reachable book in tables with a place to spare, where no row is moved.
 ghost use mathlib.Core.Path.{_≡_};
 ghost use mathlib.Core.Bool.{true};
-ghost use lib.ListN.{length};
+ghost use lib.ListN.{length, take};
 ghost use Rattle.model.specs.Book.{quoteAnswer};
 ghost use Rattle.model.specs.Promises.{tables, Quoted};
 ghost use Rattle.settling.specs.Findings.{Finds};
@@ -86,14 +86,16 @@ pub fn quote_known(
     lower_ends: &mut [u32],
     upper_ends: &mut [u32],
     watches: [u64; 8],
+    lent: usize,
     out: &mut [u8],
 ) -> Entered
     requires { ⌜ Known reachable head (tables (now columns) (now positions) (now «lower_ends») (now «upper_ends»))
-        watches ⌝ }
+        (take lent watches) ⌝ }
     ensures { λ r. ⌜ QuoteEntered reachable head (now (quote .entry))
         (tables (now (columns .entry)) (now (positions .entry)) (now («lower_ends» .entry)) (now («upper_ends» .entry)))
-        watches (now (out .entry)) r (tables (now (columns .exit)) (now (positions .exit)) (now («lower_ends» .exit))
-        (now («upper_ends» .exit))) (now (out .exit)) ⌝ }
+        (take lent watches) (now (out .entry)) r
+        (tables (now (columns .exit)) (now (positions .exit)) (now («lower_ends» .exit)) (now («upper_ends» .exit)))
+        (now (out .exit)) ⌝ }
 {
     let room = out.len();
     let answer = judge(
@@ -105,6 +107,7 @@ pub fn quote_known(
         lower_ends,
         upper_ends,
         watches,
+        lent,
         room,
     );
     match answer {
@@ -145,12 +148,14 @@ pub fn quote(
     lower_ends: &mut [u32],
     upper_ends: &mut [u32],
     watches: [u64; 8],
+    lent: usize,
     out: &mut [u8],
 ) -> Reply
     ensures { λ r. ⌜ Quoted head (now (quote .entry))
         (tables (now (columns .entry)) (now (positions .entry)) (now («lower_ends» .entry)) (now («upper_ends» .entry)))
-        watches (now (out .entry)) r (tables (now (columns .exit)) (now (positions .exit)) (now («lower_ends» .exit))
-        (now («upper_ends» .exit))) (now (out .exit)) ⌝ }
+        (take lent watches) (now (out .entry)) r
+        (tables (now (columns .exit)) (now (positions .exit)) (now («lower_ends» .exit)) (now («upper_ends» .exit)))
+        (now (out .exit)) ⌝ }
 {
     let entered = quote_known(
         false,
@@ -161,6 +166,7 @@ pub fn quote(
         lower_ends,
         upper_ends,
         watches,
+        lent,
         out,
     );
     entered.reply

@@ -1,4 +1,4 @@
--- The machine values of what a walk of the calls passes on: heads, replies, effects and judgements.
+-- The machine values of what a walk of the calls passes on: heads, replies and effects.
 use mathlib.Core.Path.{subst}
 use mathlib.Core.List.{List, [], _∷_}
 use mir.Val.{Val}
@@ -17,9 +17,6 @@ use Rattle.replies.proofs.Effect as E
 use Rattle.replies.proofs.Effect.Laws as E′
 use Rattle.replies.proofs.BothReply as B
 use Rattle.replies.proofs.BothReply.Laws as B′
-use Rattle.lending.specs.declared.Judgement.{Judgement}
-use Rattle.lending.proofs.Judgement as J
-use Rattle.lending.proofs.Judgement.Laws as J′
 
 abbrev pub headed : Head → List Val
 headed h = LL.vals Hd.the-type Hd′.the-laws h
@@ -45,10 +42,6 @@ spelled = spelled-as R.the-type R′.the-laws
 pub effect-spelled : (e : Effect) (c : Val) → Is E.the-row e (c ∷ []) → Is E.the-row e (effect-machines e)
 effect-spelled = spelled-as E.the-type E′.the-laws
 
--- what a quote and look in one hands back
+-- and what a quote and look in one hands back
 pub both-spelled : (r : BothReply) (c : Val) → Is B.the-row r (c ∷ []) → Is B.the-row r (both-machines r)
 both-spelled = spelled-as B.the-type B′.the-laws
-
--- and the reply of a judgement
-pub replied : (j : Judgement) (c : Val) → Is J.the-row j (c ∷ []) → Is R.the-row (j .reply) (machines (j .reply))
-replied j c has = LL.owed J.the-type J′.the-laws j (c ∷ []) has .0

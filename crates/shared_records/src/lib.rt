@@ -3,11 +3,6 @@ ghost use Rattle.watch_records.specs.Records.{watched};
 ghost use Rattle.model.specs.Promises.{tables, Quoted, Previewed, QuotedLooked, Paired, Unpaired};
 use head::Head;
 use head::Watch;
-use lending::both_lent;
-use lending::pair_lent;
-use lending::preview_lent;
-use lending::quote_lent;
-use lending::unpair_lent;
 use replies::BothReply;
 use replies::Effect;
 use replies::Reply;
@@ -33,7 +28,7 @@ pub fn quote(
 {
     let before = numbers(watches);
     let lent = watches.len();
-    quote_lent(
+    quoting::quote(
         head,
         quote,
         columns,
@@ -68,7 +63,7 @@ pub fn both(
 {
     let before = numbers(watches);
     let lent = watches.len();
-    both_lent(
+    quote_looking::both(
         head,
         quote,
         n,
@@ -102,7 +97,7 @@ pub fn preview(
 {
     let before = numbers(watches);
     let lent = watches.len();
-    preview_lent(
+    previewing::preview(
         head,
         quote,
         columns,
@@ -134,7 +129,7 @@ pub fn pair(
 {
     let before = numbers(watches);
     let lent = watches.len();
-    pair_lent(
+    pairing::pair(
         head,
         n1,
         n2,
@@ -163,7 +158,7 @@ pub fn unpair(
 {
     let before = numbers(watches);
     let lent = watches.len();
-    unpair_lent(
+    pairing::unpair(
         head,
         columns,
         positions,

@@ -114,6 +114,7 @@ pub fn make_both(
         lower_ends,
         upper_ends,
         watches,
+        8,
         bytes,
         &mut cells[1..],
     );

@@ -60,6 +60,7 @@ pub fn make(
                 lower_ends,
                 upper_ends,
                 watches,
+                8,
                 bytes,
             );
             TurnMade {
@@ -77,6 +78,7 @@ pub fn make(
                 lower_ends,
                 upper_ends,
                 watches,
+                8,
             );
             TurnMade {
                 turn: put_opening(head, d as u32, n as u32, directions as u32, replied, text),

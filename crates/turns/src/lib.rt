@@ -209,6 +209,7 @@ pub fn pair(
         lower_ends,
         upper_ends,
         watches,
+        8,
         bytes,
     );
     let answer = reply.answer;
@@ -239,7 +240,7 @@ pub fn unpair(
         (tables (now (columns .entry)) (now (positions .entry)) (now («lower_ends» .entry)) (now («upper_ends» .entry)))
         bytes (now (text .exit))) ⌝ }
 {
-    let reply = pairing::unpair(head, columns, positions, lower_ends, upper_ends, watches);
+    let reply = pairing::unpair(head, columns, positions, lower_ends, upper_ends, watches, 8);
     let answer = reply.answer;
     let next = reply.head;
     let numbers: [u32; 0] = [];

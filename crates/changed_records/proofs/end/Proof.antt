@@ -1,4 +1,4 @@
--- `end` meets its contract: a walk of its code. The records are lent to `numbers`; the numbers, how many records there are and the tables go to `end_lent`; the records go to `remove_record`, for good, if it accepts.
+-- `end` meets its contract: a walk of its code. The records are lent to `numbers`; the numbers, how many records there are and the tables go to `end_watch`; the records go to `remove_record`, for good, if it accepts.
 use mathlib.Core.Path.{_≡_, refl, ap}
 use Prim.Native.Nat.{ℕ, _<_, _^_}
 use mathlib.Core.List.{List, [], _∷_}
@@ -52,7 +52,7 @@ use Rattle.replies.proofs.Reply as R
 use Rattle.replies.proofs.Reply.Laws as R′
 use Rattle.head.proofs.Watch as T
 use Rattle.model.specs.Rows.{Tables as Lent}
-use Rattle.model.specs.Book.{standing, endReply}
+use Rattle.model.specs.Book.{standing}
 use Rattle.watch_records.specs.Records.{watched}
 use Rattle.watch_records.proofs.LocalArray.{machine}
 use Rattle.watch_records.proofs.DeskValues.{desk-value, desk-values, is-desk}
@@ -65,18 +65,18 @@ use Rattle.watch_records.proofs.remove_record.Symbol as change-def
 use Rattle.watch_records.proofs.remove_record.Symbol.{name as #watch-records·remove-record}
 use Rattle.watch_records.proofs.remove_record.Met as change-thm
 use Rattle.model.specs.Promises.{tables as lent-tables, Ended}
-use Rattle.lending.specs.declared.Judgement.{Judgement}
-use Rattle.lending.specs.Lent.{Judged}
+use Rattle.watching.specs.declared.Judgement.{Judgement}
+use Rattle.watching.specs.Judged.{EndJudged}
 use Rattle.changed_records.proofs.Fronts.{end-left, end-enough, end-removed}
-use Rattle.shared_records.proofs.Machines.{headed, machines, replied}
+use Rattle.shared_records.proofs.Machines.{headed, machines}
 use Rattle.changed_records.proofs.Deciding.{decides, stays-last}
-use Rattle.changed_records.proofs.Calling.{Two, two, Remove, removes, changes-last}
-use Rattle.lending.proofs.Judgement as J
-use Rattle.lending.proofs.Judgement.Laws as J′
-use Rattle.lending.proofs.end_lent as callee
-use Rattle.lending.proofs.end_lent.Symbol as callee-def
-use Rattle.lending.proofs.end_lent.Symbol.{name as #lending·end-lent}
-use Rattle.lending.proofs.end_lent.Met as callee-thm
+use Rattle.changed_records.proofs.Calling.{replied, Remove, removes, changes-last}
+use Rattle.watching.proofs.Judgement as J
+use Rattle.watching.proofs.Judgement.Laws as J′
+use Rattle.watching.proofs.end_watch as callee
+use Rattle.watching.proofs.end_watch.Symbol as callee-def
+use Rattle.watching.proofs.end_watch.Symbol.{name as #watching·end-watch}
+use Rattle.watching.proofs.end_watch.Met as callee-thm
 use Rattle.changed_records.proofs.end.Key.{name as #changed_records·end}
 use Rattle.changed_records.proofs.end as f
 use Rattle.changed_records.proofs.end.Statement as stated
@@ -87,7 +87,7 @@ abbrev stayed : Stays (f.ended .signature .params) (f.ended .kept)
 stayed = (stay-dropped (plain (λ _. Hd.the-row)) yes, (stay-dropped (plain (λ _. D.the-row)) yes, (stay-dropped (plain (λ _. u32)) yes, (stay-dropped (shrSliceOf (0 ∷ []) tt (plain (λ _. u32))) yes, (stay-dropped (shrSliceOf (1 ∷ []) tt (plain (λ _. u32))) yes, (stay-dropped (shrSliceOf (2 ∷ []) tt (plain (λ _. u32))) yes, (stay-dropped (shrSliceOf (3 ∷ []) tt (plain (λ _. u32))) yes, (gave-slice (4 ∷ []) tt (plain (λ _. T.the-row)), tt))))))))
 
 module _ {M : Type 1} (𝓤 : URA M) (H : Heap 𝓤) (A : Atoms 𝓤) (mem : Memory → SProp 𝓤) (run : Routine → Fun 𝓤) where
-  -- the contract of `end_lent`
+  -- the contract of `end_watch`
   abbrev Callee : Contract 𝓤
   Callee = tripleOf 𝓤 H A callee.signature (callee.spec 𝓤 H A mem run)
 
@@ -120,7 +120,7 @@ module _ {M : Type 1} (𝓤 : URA M) (H : Heap 𝓤) (A : Atoms 𝓤) (W : Given
   abbrev Last : List ℕ → Type 0
   Last l = l ≡ padded 8 (without (watchOf desk n) (standing (watched ys))) (watched ys)
 
-  -- what `end_lent` binds outside, that it is given what it asks, and what is known of its result
+  -- what `end_watch` binds outside, that it is given what it asks, and what is known of its result
   abbrev lives : Lft × (Lft × (Lft × (Lft × Unit {0})))
   lives = (κ₀, (κ₁, (κ₂, (κ₃, tt))))
 
@@ -143,7 +143,7 @@ module _ {M : Type 1} (𝓤 : URA M) (H : Heap 𝓤) (A : Atoms 𝓤) (W : Given
   Ends = Unit {0} × (Unit {0} × (Unit {0} × (Unit {0} × (Unit {0} × (Unit {0} × (Unit {0} × (Unit {0} × (Unit {0} × Unit {0}))))))))
 
   abbrev Promised : List ℕ → Judgement → Ends → Type 0
-  Promised r j zs = Judged (endReply head desk n lent (take (length ys) r)) j
+  Promised r j zs = EndJudged head desk n lent (take (length ys) r) j
 
   -- what is left at the return, with what is lent at its last values
   abbrev Left : List Watch → List (Item 𝓤)
@@ -157,7 +157,7 @@ module _ {M : Type 1} (𝓤 : URA M) (H : Heap 𝓤) (A : Atoms 𝓤) (W : Given
       owned ! R.the-row (Is R.the-row) ((LL.makes R.the-type R′.the-plain) 𝓤 H A) j (machines j) is $ done !
 
   module _ (is-head : Is Hd.the-row head (headed head)) (n-fits : n < 2 ^ 32) (columns-fits : length (columns .now) < 2 ^ 64) (positions-fits : length (positions .now) < 2 ^ 64) (lowerEnds-fits : length (lowerEnds .now) < 2 ^ 64) (upperEnds-fits : length (upperEnds .now) < 2 ^ 64) (room : Room T.the-row (length ys))
-      (C : Calls 𝓤 H) (Λ : Loops 𝓤 H) (fm : FmC 𝓤 H (W .laws) C) (known-numbers : Triple 𝓤 (C #watch-records·numbers) (Numbers 𝓤 H A mem run)) (known-callee : Triple 𝓤 (C #lending·end-lent) (Callee 𝓤 H A mem run)) (known-change : Triple 𝓤 (C #watch-records·remove-record) (Remove 𝓤 H A mem run)) where
+      (C : Calls 𝓤 H) (Λ : Loops 𝓤 H) (fm : FmC 𝓤 H (W .laws) C) (known-numbers : Triple 𝓤 (C #watch-records·numbers) (Numbers 𝓤 H A mem run)) (known-callee : Triple 𝓤 (C #watching·end-watch) (Callee 𝓤 H A mem run)) (known-change : Triple 𝓤 (C #watch-records·remove-record) (Remove 𝓤 H A mem run)) where
     walk : ent 𝓤 (onEntry 𝓤 H A f.signature (κ₀, (κ₁, (κ₂, (κ₃, (κ₄, tt))))) (q₀, (q₁, (q₂, (q₃, (q₄, tt))))) x at) (WpFn 𝓤 H C Λ code.function given Post)
     walk =
         qed W Entry ∵ enter ! C Λ code.function given _ $
@@ -183,20 +183,20 @@ module _ {M : Type 1} (𝓤 : URA M) (H : Heap 𝓤) (A : Atoms 𝓤) (W : Given
         (λ on next.
         assigns ! (addr ! (from ! (fld ! refl (hop ! (look-in ! 22 (sub ! 0 refl (whole !))) (stop !))))) (from ! (stop !)) (init ! 6 refl (tt, tt)) $
         assigns ! (agg ! (and-then ! (load ! (from ! (stop !)) (look ! 6 refl)) (and-then ! (load ! (from ! (fld ! refl (stop !))) (look-in ! 22 (sub ! 1 refl (whole !)))) (no-more !)))) (from ! (stop !)) (init ! 4 refl (tt, (tt, (record { fits = room .0 }, tt)))) $
-        move ! (2 ∷ 1 ∷ []) $ changes-last ! fm κ₄ q₄ b o ys γ (desk-value desk ∷ vint w32 n ∷ []) Two two Last (removes 𝓤 H A κ₄ q₄ b o ys γ W mem run C desk n n-fits (end-enough ys head desk n lent e j said on) known-change) (and-then ! (load ! (from ! (stop !)) (look ! 3 refl)) (and-then ! (load ! (from ! (stop !)) (look ! 33 refl)) (and-then ! (load ! (from ! (stop !)) (look ! 31 refl)) (no-more !)))) (λ v ws isv m len. next _ _ _ $
+        move ! (2 ∷ 1 ∷ []) $ changes-last ! fm κ₄ q₄ b o ys γ (desk-value desk ∷ vint w32 n ∷ []) Last (removes 𝓤 H A κ₄ q₄ b o ys γ W mem run C desk n n-fits (end-enough ys e head desk n lent j said on) known-change) (and-then ! (load ! (from ! (stop !)) (look ! 3 refl)) (and-then ! (load ! (from ! (stop !)) (look ! 33 refl)) (and-then ! (load ! (from ! (stop !)) (look ! 31 refl)) (no-more !)))) (λ v ws isv m len. next _ _ _ $
         land ! (from ! (stop !)) (init ! 8 refl (nothing-lawful 𝓤 H A W .typed tt _ isv .0)) $
         assigns ! (of-opd ! (load ! (from ! (fld ! refl (stop !))) (look-in ! 16 (sub ! 0 refl (whole !))))) (from ! (stop !)) (init ! 38 refl (LL.lawful R.the-type R′.the-laws 𝓤 H A W .typed (j .reply) _ (replied j c has) .0)) $
         returns ! (look ! 38 refl) $ forget ! 4 refl $ forget ! 6 refl $ forget ! 8 refl $ forget ! 10 refl $ forget ! 12 refl $ forget ! 14 refl $ forget ! 16 refl $ forget ! 18 refl $ forget ! 20 refl $ forget ! 22 refl $ forget ! 24 refl $ forget ! 26 refl $ forget ! 28 refl $ forget ! 30 refl $ forget ! 32 refl $ forget ! 34 refl $ forget ! 36 refl $ forget ! 38 refl $
         move ! (38 ∷ 39 ∷ []) $ free1 ! $ move ! (36 ∷ 37 ∷ []) $ free1 ! $ move ! (34 ∷ 35 ∷ []) $ free1 ! $ move ! (32 ∷ 33 ∷ []) $ free1 ! $ move ! (30 ∷ 31 ∷ []) $ free1 ! $ move ! (28 ∷ 29 ∷ []) $ free1 ! $ move ! (26 ∷ 27 ∷ []) $ free1 ! $ move ! (24 ∷ 25 ∷ []) $ free1 ! $ move ! (22 ∷ 23 ∷ []) $ free1 ! $ move ! (20 ∷ 21 ∷ []) $ free1 ! $ move ! (18 ∷ 19 ∷ []) $ free1 ! $ move ! (16 ∷ 17 ∷ []) $ free1 ! $ move ! (14 ∷ 15 ∷ []) $ free1 ! $ move ! (12 ∷ 13 ∷ []) $ free1 ! $ move ! (10 ∷ 11 ∷ []) $ free1 ! $ move ! (8 ∷ 9 ∷ []) $ free1 ! $ move ! (6 ∷ 7 ∷ []) $ free1 ! $ move ! (4 ∷ 5 ∷ []) $ free1 ! $ free0 ! $
-        keep ! (2 ∷ 0 ∷ 1 ∷ []) $ by ! (exits ws (j .reply) (replied j c has) len (end-removed ys head desk n lent e j said on (watched ws) m))))
+        keep ! (2 ∷ 0 ∷ 1 ∷ []) $ by ! (exits ws (j .reply) (replied j c has) len (end-removed ys e head desk n lent j said on (watched ws) m))))
         (λ off. move ! (1 ∷ []) $ stays-last ! T.the-row (named 4) b o ys $
         assigns ! (of-opd ! (load ! (from ! (fld ! refl (stop !))) (look-in ! 16 (sub ! 0 refl (whole !))))) (from ! (stop !)) (init ! 38 refl (LL.lawful R.the-type R′.the-laws 𝓤 H A W .typed (j .reply) _ (replied j c has) .0)) $
         returns ! (look ! 38 refl) $ forget ! 10 refl $ forget ! 12 refl $ forget ! 14 refl $ forget ! 16 refl $ forget ! 18 refl $ forget ! 20 refl $ forget ! 22 refl $ forget ! 24 refl $ forget ! 26 refl $ forget ! 28 refl $ forget ! 30 refl $ forget ! 32 refl $ forget ! 34 refl $ forget ! 36 refl $ forget ! 38 refl $
         move ! (38 ∷ 39 ∷ []) $ free1 ! $ move ! (36 ∷ 37 ∷ []) $ free1 ! $ move ! (34 ∷ 35 ∷ []) $ free1 ! $ move ! (32 ∷ 33 ∷ []) $ free1 ! $ move ! (30 ∷ 31 ∷ []) $ free1 ! $ move ! (28 ∷ 29 ∷ []) $ free1 ! $ move ! (26 ∷ 27 ∷ []) $ free1 ! $ move ! (24 ∷ 25 ∷ []) $ free1 ! $ move ! (22 ∷ 23 ∷ []) $ free1 ! $ move ! (20 ∷ 21 ∷ []) $ free1 ! $ move ! (18 ∷ 19 ∷ []) $ free1 ! $ move ! (16 ∷ 17 ∷ []) $ free1 ! $ move ! (14 ∷ 15 ∷ []) $ free1 ! $ move ! (12 ∷ 13 ∷ []) $ free1 ! $ move ! (10 ∷ 11 ∷ []) $ free1 ! $ move ! (8 ∷ 9 ∷ []) $ free1 ! $ move ! (6 ∷ 7 ∷ []) $ free1 ! $ move ! (4 ∷ 5 ∷ []) $ free1 ! $ free0 ! $
-        keep ! (1 ∷ 2 ∷ 0 ∷ []) $ by ! (exits ys (j .reply) (replied j c has) refl (end-left ys head desk n lent e j said off)))))))))))))))))))))))))))
+        keep ! (1 ∷ 2 ∷ 0 ∷ []) $ by ! (exits ys (j .reply) (replied j c has) refl (end-left ys e head desk n lent j said off)))))))))))))))))))))))))))
 
 module _ {M : Type 1} (𝓤 : URA M) (H : Heap 𝓤) (A : Atoms 𝓤) (W : Given 𝓤 H A) (mem : Memory → SProp 𝓤) (run : Routine → Fun 𝓤) (𝓣 : Tables 𝓤 H)
-    (known-numbers : Triple 𝓤 (𝓣 .C #watch-records·numbers) (Numbers 𝓤 H A mem run)) (known-callee : Triple 𝓤 (𝓣 .C #lending·end-lent) (Callee 𝓤 H A mem run)) (known-change : Triple 𝓤 (𝓣 .C #watch-records·remove-record) (Remove 𝓤 H A mem run)) where
+    (known-numbers : Triple 𝓤 (𝓣 .C #watch-records·numbers) (Numbers 𝓤 H A mem run)) (known-callee : Triple 𝓤 (𝓣 .C #watching·end-watch) (Callee 𝓤 H A mem run)) (known-change : Triple 𝓤 (𝓣 .C #watch-records·remove-record) (Remove 𝓤 H A mem run)) where
   end-walks : Walks 𝓤 H A f.ended stayed (WpFn 𝓤 H (𝓣 .C) (𝓣 .Λ) code.function) (f.clauses 𝓤 H A mem run)
   end-walks =
       walked 𝓤 H A f.ended stayed (f.clauses 𝓤 H A mem run) (WpFn 𝓤 H (𝓣 .C) (𝓣 .Λ) code.function) (λ κs. (headed, (desk-values, (uint-vals w32, (slice-vals, (slice-vals, (slice-vals, (slice-vals, (slice-vals, tt)))))))))
@@ -218,5 +218,5 @@ end-spec 𝓤 H 𝓜 𝓖 𝓡 =
     (tables 𝓤 H 𝓜 𝓡 code.env .C) (tables 𝓤 H 𝓜 𝓡 code.env .Λ) #changed_records·end code.function (code.unfolded 𝓤 H 𝓜 𝓡)
     (end-meets 𝓤 H (𝓖 .A) (givenOf 𝓤 H 𝓜 𝓖) (𝓜 .mem) (𝓡 .run) (tablesOf 𝓤 H 𝓜 (tables 𝓤 H 𝓜 𝓡 code.env))
     (cited 𝓤 H (Numbers 𝓤 H (𝓖 .A) (𝓜 .mem) (𝓡 .run)) 𝓜 𝓡 code.env #watch-records·numbers numbers-def.routine code.calls-watch-records·numbers (numbers-thm.met 𝓤 H 𝓜 𝓖 𝓡))
-    (cited 𝓤 H (Callee 𝓤 H (𝓖 .A) (𝓜 .mem) (𝓡 .run)) 𝓜 𝓡 code.env #lending·end-lent callee-def.routine code.calls-lending·end-lent (callee-thm.met 𝓤 H 𝓜 𝓖 𝓡))
+    (cited 𝓤 H (Callee 𝓤 H (𝓖 .A) (𝓜 .mem) (𝓡 .run)) 𝓜 𝓡 code.env #watching·end-watch callee-def.routine code.calls-watching·end-watch (callee-thm.met 𝓤 H 𝓜 𝓖 𝓡))
     (cited 𝓤 H (Remove 𝓤 H (𝓖 .A) (𝓜 .mem) (𝓡 .run)) 𝓜 𝓡 code.env #watch-records·remove-record change-def.routine code.calls-watch-records·remove-record (change-thm.met 𝓤 H 𝓜 𝓖 𝓡)))

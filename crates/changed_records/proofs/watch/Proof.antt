@@ -1,4 +1,4 @@
--- `watch` meets its contract: a walk of its code. The records are lent to `numbers`; the numbers, how many records there are, the tables and, for good, the output go to `watch_lent`; the records go to `insert_record`, for good, if it accepts.
+-- `watch` meets its contract: a walk of its code. The records are lent to `numbers`; the numbers, how many records there are, the tables and, for good, the output go to `set_watch`; the records go to `insert_record`, for good, if it accepts.
 use mathlib.Core.Path.{_≡_, refl, ap}
 use Prim.Native.Nat.{ℕ, _<_, _^_}
 use mathlib.Core.List.{List, [], _∷_}
@@ -65,18 +65,18 @@ use Rattle.watch_records.proofs.insert_record.Symbol as change-def
 use Rattle.watch_records.proofs.insert_record.Symbol.{name as #watch-records·insert-record}
 use Rattle.watch_records.proofs.insert_record.Met as change-thm
 use Rattle.model.specs.Promises.{tables as lent-tables, Watched}
-use Rattle.lending.specs.declared.Judgement.{Judgement}
-use Rattle.lending.specs.Lent.{WatchJudged}
+use Rattle.watching.specs.declared.Judgement.{Judgement}
+use Rattle.watching.specs.Judged.{WatchJudged}
 use Rattle.changed_records.proofs.Fronts.{watch-left, watch-asks, watch-inserted}
-use Rattle.shared_records.proofs.Machines.{headed, machines, replied}
+use Rattle.shared_records.proofs.Machines.{headed, machines}
 use Rattle.changed_records.proofs.Deciding.{decides, stays-last}
-use Rattle.changed_records.proofs.Calling.{Two, two, Insert, inserts, changes-last}
-use Rattle.lending.proofs.Judgement as J
-use Rattle.lending.proofs.Judgement.Laws as J′
-use Rattle.lending.proofs.watch_lent as callee
-use Rattle.lending.proofs.watch_lent.Symbol as callee-def
-use Rattle.lending.proofs.watch_lent.Symbol.{name as #lending·watch-lent}
-use Rattle.lending.proofs.watch_lent.Met as callee-thm
+use Rattle.changed_records.proofs.Calling.{replied, Insert, inserts, changes-last}
+use Rattle.watching.proofs.Judgement as J
+use Rattle.watching.proofs.Judgement.Laws as J′
+use Rattle.watching.proofs.set_watch as callee
+use Rattle.watching.proofs.set_watch.Symbol as callee-def
+use Rattle.watching.proofs.set_watch.Symbol.{name as #watching·set-watch}
+use Rattle.watching.proofs.set_watch.Met as callee-thm
 use Rattle.changed_records.proofs.watch.Key.{name as #changed_records·watch}
 use Rattle.changed_records.proofs.watch as f
 use Rattle.changed_records.proofs.watch.Statement as stated
@@ -87,7 +87,7 @@ abbrev stayed : Stays (f.ended .signature .params) (f.ended .kept)
 stayed = (stay-dropped (plain (λ _. Hd.the-row)) yes, (stay-dropped (plain (λ _. D.the-row)) yes, (stay-dropped (plain (λ _. u32)) yes, (stay-dropped (shrSliceOf (0 ∷ []) tt (plain (λ _. u32))) yes, (stay-dropped (shrSliceOf (1 ∷ []) tt (plain (λ _. u32))) yes, (stay-dropped (shrSliceOf (2 ∷ []) tt (plain (λ _. u32))) yes, (stay-dropped (shrSliceOf (3 ∷ []) tt (plain (λ _. u32))) yes, (gave-slice (4 ∷ []) tt (plain (λ _. T.the-row)), (gave-slice (5 ∷ []) tt (plain (λ _. u8)), tt)))))))))
 
 module _ {M : Type 1} (𝓤 : URA M) (H : Heap 𝓤) (A : Atoms 𝓤) (mem : Memory → SProp 𝓤) (run : Routine → Fun 𝓤) where
-  -- the contract of `watch_lent`
+  -- the contract of `set_watch`
   abbrev Callee : Contract 𝓤
   Callee = tripleOf 𝓤 H A callee.signature (callee.spec 𝓤 H A mem run)
 
@@ -120,7 +120,7 @@ module _ {M : Type 1} (𝓤 : URA M) (H : Heap 𝓤) (A : Atoms 𝓤) (W : Given
   abbrev Last : List ℕ → Type 0
   Last l = l ≡ padded 8 (insert (watchOf desk n) (standing (watched ys))) (watched ys)
 
-  -- what `watch_lent` binds outside, that it is given what it asks, and what is known of its result
+  -- what `set_watch` binds outside, that it is given what it asks, and what is known of its result
   abbrev lives : Lft × (Lft × (Lft × (Lft × (Lft × Unit {0}))))
   lives = (κ₀, (κ₁, (κ₂, (κ₃, (κ₅, tt)))))
 
@@ -157,7 +157,7 @@ module _ {M : Type 1} (𝓤 : URA M) (H : Heap 𝓤) (A : Atoms 𝓤) (W : Given
       owned ! R.the-row (Is R.the-row) ((LL.makes R.the-type R′.the-plain) 𝓤 H A) j (machines j) is $ done !
 
   module _ (is-head : Is Hd.the-row head (headed head)) (n-fits : n < 2 ^ 32) (columns-fits : length (columns .now) < 2 ^ 64) (positions-fits : length (positions .now) < 2 ^ 64) (lowerEnds-fits : length (lowerEnds .now) < 2 ^ 64) (upperEnds-fits : length (upperEnds .now) < 2 ^ 64) (room : Room T.the-row (length ys)) (out-fits : length (out .now) < 2 ^ 64)
-      (C : Calls 𝓤 H) (Λ : Loops 𝓤 H) (fm : FmC 𝓤 H (W .laws) C) (known-numbers : Triple 𝓤 (C #watch-records·numbers) (Numbers 𝓤 H A mem run)) (known-callee : Triple 𝓤 (C #lending·watch-lent) (Callee 𝓤 H A mem run)) (known-change : Triple 𝓤 (C #watch-records·insert-record) (Insert 𝓤 H A mem run)) where
+      (C : Calls 𝓤 H) (Λ : Loops 𝓤 H) (fm : FmC 𝓤 H (W .laws) C) (known-numbers : Triple 𝓤 (C #watch-records·numbers) (Numbers 𝓤 H A mem run)) (known-callee : Triple 𝓤 (C #watching·set-watch) (Callee 𝓤 H A mem run)) (known-change : Triple 𝓤 (C #watch-records·insert-record) (Insert 𝓤 H A mem run)) where
     walk : ent 𝓤 (onEntry 𝓤 H A f.signature (κ₀, (κ₁, (κ₂, (κ₃, (κ₄, (κ₅, tt)))))) (q₀, (q₁, (q₂, (q₃, (q₄, (q₅, tt)))))) x at) (WpFn 𝓤 H C Λ code.function given Post)
     walk =
         qed W Entry ∵ enter ! C Λ code.function given _ $
@@ -185,20 +185,20 @@ module _ {M : Type 1} (𝓤 : URA M) (H : Heap 𝓤) (A : Atoms 𝓤) (W : Given
         (λ on next.
         assigns ! (addr ! (from ! (fld ! refl (hop ! (look-in ! 29 (sub ! 0 refl (whole !))) (stop !))))) (from ! (stop !)) (init ! 7 refl (tt, tt)) $
         assigns ! (agg ! (and-then ! (load ! (from ! (stop !)) (look ! 7 refl)) (and-then ! (load ! (from ! (fld ! refl (stop !))) (look-in ! 29 (sub ! 1 refl (whole !)))) (no-more !)))) (from ! (stop !)) (init ! 5 refl (tt, (tt, (record { fits = room .0 }, tt)))) $
-        move ! (3 ∷ 2 ∷ []) $ changes-last ! fm κ₄ q₄ b o ys γ (desk-value desk ∷ vint w32 n ∷ []) Two two Last (inserts 𝓤 H A κ₄ q₄ b o ys γ W mem run C desk n n-fits (watch-asks ys head desk n lent e j said on) known-change) (and-then ! (load ! (from ! (stop !)) (look ! 4 refl)) (and-then ! (load ! (from ! (stop !)) (look ! 40 refl)) (and-then ! (load ! (from ! (stop !)) (look ! 38 refl)) (no-more !)))) (λ v ws isv m len. next _ _ _ $
+        move ! (3 ∷ 2 ∷ []) $ changes-last ! fm κ₄ q₄ b o ys γ (desk-value desk ∷ vint w32 n ∷ []) Last (inserts 𝓤 H A κ₄ q₄ b o ys γ W mem run C desk n n-fits (watch-asks ys e head desk n lent j said on) known-change) (and-then ! (load ! (from ! (stop !)) (look ! 4 refl)) (and-then ! (load ! (from ! (stop !)) (look ! 40 refl)) (and-then ! (load ! (from ! (stop !)) (look ! 38 refl)) (no-more !)))) (λ v ws isv m len. next _ _ _ $
         land ! (from ! (stop !)) (init ! 9 refl (nothing-lawful 𝓤 H A W .typed tt _ isv .0)) $
         assigns ! (of-opd ! (load ! (from ! (fld ! refl (stop !))) (look-in ! 21 (sub ! 0 refl (whole !))))) (from ! (stop !)) (init ! 45 refl (LL.lawful R.the-type R′.the-laws 𝓤 H A W .typed (j .reply) _ (replied j c has) .0)) $
         returns ! (look ! 45 refl) $ forget ! 5 refl $ forget ! 7 refl $ forget ! 9 refl $ forget ! 11 refl $ forget ! 13 refl $ forget ! 15 refl $ forget ! 17 refl $ forget ! 19 refl $ forget ! 21 refl $ forget ! 23 refl $ forget ! 25 refl $ forget ! 27 refl $ forget ! 29 refl $ forget ! 31 refl $ forget ! 33 refl $ forget ! 35 refl $ forget ! 37 refl $ forget ! 39 refl $ forget ! 41 refl $ forget ! 43 refl $ forget ! 45 refl $
         move ! (45 ∷ 46 ∷ []) $ free1 ! $ move ! (43 ∷ 44 ∷ []) $ free1 ! $ move ! (41 ∷ 42 ∷ []) $ free1 ! $ move ! (39 ∷ 40 ∷ []) $ free1 ! $ move ! (37 ∷ 38 ∷ []) $ free1 ! $ move ! (35 ∷ 36 ∷ []) $ free1 ! $ move ! (33 ∷ 34 ∷ []) $ free1 ! $ move ! (31 ∷ 32 ∷ []) $ free1 ! $ move ! (29 ∷ 30 ∷ []) $ free1 ! $ move ! (27 ∷ 28 ∷ []) $ free1 ! $ move ! (25 ∷ 26 ∷ []) $ free1 ! $ move ! (23 ∷ 24 ∷ []) $ free1 ! $ move ! (21 ∷ 22 ∷ []) $ free1 ! $ move ! (19 ∷ 20 ∷ []) $ free1 ! $ move ! (17 ∷ 18 ∷ []) $ free1 ! $ move ! (15 ∷ 16 ∷ []) $ free1 ! $ move ! (13 ∷ 14 ∷ []) $ free1 ! $ move ! (11 ∷ 12 ∷ []) $ free1 ! $ move ! (9 ∷ 10 ∷ []) $ free1 ! $ move ! (7 ∷ 8 ∷ []) $ free1 ! $ move ! (5 ∷ 6 ∷ []) $ free1 ! $ free0 ! $
-        keep ! (2 ∷ 0 ∷ 1 ∷ 3 ∷ []) $ by ! (exits ws (zs .1 .1 .1 .1 .1 .1 .1 .1 .1 .0) (j .reply) (replied j c has) len out-same (watch-inserted ys head desk n lent e j said on (watched ws) m))))
+        keep ! (2 ∷ 0 ∷ 1 ∷ 3 ∷ []) $ by ! (exits ws (zs .1 .1 .1 .1 .1 .1 .1 .1 .1 .0) (j .reply) (replied j c has) len out-same (watch-inserted ys e head desk n lent j said on (watched ws) m))))
         (λ off. move ! (2 ∷ []) $ stays-last ! T.the-row (named 4) b o ys $
         assigns ! (of-opd ! (load ! (from ! (fld ! refl (stop !))) (look-in ! 21 (sub ! 0 refl (whole !))))) (from ! (stop !)) (init ! 45 refl (LL.lawful R.the-type R′.the-laws 𝓤 H A W .typed (j .reply) _ (replied j c has) .0)) $
         returns ! (look ! 45 refl) $ forget ! 11 refl $ forget ! 13 refl $ forget ! 15 refl $ forget ! 17 refl $ forget ! 19 refl $ forget ! 21 refl $ forget ! 23 refl $ forget ! 25 refl $ forget ! 27 refl $ forget ! 29 refl $ forget ! 31 refl $ forget ! 33 refl $ forget ! 35 refl $ forget ! 37 refl $ forget ! 39 refl $ forget ! 41 refl $ forget ! 43 refl $ forget ! 45 refl $
         move ! (45 ∷ 46 ∷ []) $ free1 ! $ move ! (43 ∷ 44 ∷ []) $ free1 ! $ move ! (41 ∷ 42 ∷ []) $ free1 ! $ move ! (39 ∷ 40 ∷ []) $ free1 ! $ move ! (37 ∷ 38 ∷ []) $ free1 ! $ move ! (35 ∷ 36 ∷ []) $ free1 ! $ move ! (33 ∷ 34 ∷ []) $ free1 ! $ move ! (31 ∷ 32 ∷ []) $ free1 ! $ move ! (29 ∷ 30 ∷ []) $ free1 ! $ move ! (27 ∷ 28 ∷ []) $ free1 ! $ move ! (25 ∷ 26 ∷ []) $ free1 ! $ move ! (23 ∷ 24 ∷ []) $ free1 ! $ move ! (21 ∷ 22 ∷ []) $ free1 ! $ move ! (19 ∷ 20 ∷ []) $ free1 ! $ move ! (17 ∷ 18 ∷ []) $ free1 ! $ move ! (15 ∷ 16 ∷ []) $ free1 ! $ move ! (13 ∷ 14 ∷ []) $ free1 ! $ move ! (11 ∷ 12 ∷ []) $ free1 ! $ move ! (9 ∷ 10 ∷ []) $ free1 ! $ move ! (7 ∷ 8 ∷ []) $ free1 ! $ move ! (5 ∷ 6 ∷ []) $ free1 ! $ free0 ! $
-        keep ! (1 ∷ 3 ∷ 0 ∷ 2 ∷ []) $ by ! (exits ys (zs .1 .1 .1 .1 .1 .1 .1 .1 .1 .0) (j .reply) (replied j c has) refl out-same (watch-left ys head desk n lent e j said off)))))))))))))))))))))))))))))))
+        keep ! (1 ∷ 3 ∷ 0 ∷ 2 ∷ []) $ by ! (exits ys (zs .1 .1 .1 .1 .1 .1 .1 .1 .1 .0) (j .reply) (replied j c has) refl out-same (watch-left ys e head desk n lent j said off)))))))))))))))))))))))))))))))
 
 module _ {M : Type 1} (𝓤 : URA M) (H : Heap 𝓤) (A : Atoms 𝓤) (W : Given 𝓤 H A) (mem : Memory → SProp 𝓤) (run : Routine → Fun 𝓤) (𝓣 : Tables 𝓤 H)
-    (known-numbers : Triple 𝓤 (𝓣 .C #watch-records·numbers) (Numbers 𝓤 H A mem run)) (known-callee : Triple 𝓤 (𝓣 .C #lending·watch-lent) (Callee 𝓤 H A mem run)) (known-change : Triple 𝓤 (𝓣 .C #watch-records·insert-record) (Insert 𝓤 H A mem run)) where
+    (known-numbers : Triple 𝓤 (𝓣 .C #watch-records·numbers) (Numbers 𝓤 H A mem run)) (known-callee : Triple 𝓤 (𝓣 .C #watching·set-watch) (Callee 𝓤 H A mem run)) (known-change : Triple 𝓤 (𝓣 .C #watch-records·insert-record) (Insert 𝓤 H A mem run)) where
   watch-walks : Walks 𝓤 H A f.ended stayed (WpFn 𝓤 H (𝓣 .C) (𝓣 .Λ) code.function) (f.clauses 𝓤 H A mem run)
   watch-walks =
       walked 𝓤 H A f.ended stayed (f.clauses 𝓤 H A mem run) (WpFn 𝓤 H (𝓣 .C) (𝓣 .Λ) code.function) (λ κs. (headed, (desk-values, (uint-vals w32, (slice-vals, (slice-vals, (slice-vals, (slice-vals, (slice-vals, (slice-vals, tt))))))))))
@@ -220,5 +220,5 @@ watch-spec 𝓤 H 𝓜 𝓖 𝓡 =
     (tables 𝓤 H 𝓜 𝓡 code.env .C) (tables 𝓤 H 𝓜 𝓡 code.env .Λ) #changed_records·watch code.function (code.unfolded 𝓤 H 𝓜 𝓡)
     (watch-meets 𝓤 H (𝓖 .A) (givenOf 𝓤 H 𝓜 𝓖) (𝓜 .mem) (𝓡 .run) (tablesOf 𝓤 H 𝓜 (tables 𝓤 H 𝓜 𝓡 code.env))
     (cited 𝓤 H (Numbers 𝓤 H (𝓖 .A) (𝓜 .mem) (𝓡 .run)) 𝓜 𝓡 code.env #watch-records·numbers numbers-def.routine code.calls-watch-records·numbers (numbers-thm.met 𝓤 H 𝓜 𝓖 𝓡))
-    (cited 𝓤 H (Callee 𝓤 H (𝓖 .A) (𝓜 .mem) (𝓡 .run)) 𝓜 𝓡 code.env #lending·watch-lent callee-def.routine code.calls-lending·watch-lent (callee-thm.met 𝓤 H 𝓜 𝓖 𝓡))
+    (cited 𝓤 H (Callee 𝓤 H (𝓖 .A) (𝓜 .mem) (𝓡 .run)) 𝓜 𝓡 code.env #watching·set-watch callee-def.routine code.calls-watching·set-watch (callee-thm.met 𝓤 H 𝓜 𝓖 𝓡))
     (cited 𝓤 H (Insert 𝓤 H (𝓖 .A) (𝓜 .mem) (𝓡 .run)) 𝓜 𝓡 code.env #watch-records·insert-record change-def.routine code.calls-watch-records·insert-record (change-thm.met 𝓤 H 𝓜 𝓖 𝓡)))

@@ -1,5 +1,6 @@
--- `judge_loan` meets its contract: the lengths are tested behind the settings.
-use mathlib.Core.Path.{refl}
+-- `judge_loan` meets its contract: the lengths and how many records are lent are tested behind the settings.
+use mathlib.Core.Path.{refl, ap₂}
+use mathlib.Core.Bool.{_||_}
 use borrow.Author.Needs.{needs}
 use Rattle.judging.specs.Answers.{loanAnswer}
 use Rattle.judging.proofs.Answering.{tested}
@@ -17,7 +18,7 @@ with-test-requires c κs = search needs
 
 returns : tie.Need-returns
 unfolding loanAnswer
-returns c = tested _ _ _ (c .before .before .judge-settings .ensures) (c .before .short-tables .ensures) (c .with-test .ensures) refl
+returns c = tested _ _ _ (c .before .before .judge-settings .ensures) (ap₂ _||_ (c .before .short-tables .ensures) refl) (c .with-test .ensures) refl
 
 pub judge-loan-spec : {M : Type 1} → statement M
 judge-loan-spec =

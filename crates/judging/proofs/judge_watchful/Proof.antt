@@ -1,12 +1,12 @@
--- `judge_watchful` meets its contract: torn watches are sought behind what the tables show.
+-- `judge_watchful` meets its contract: torn watches are sought behind what the tables and the count of records show.
 use native.Mathlib.Omega.{arith}
 use borrow.Author.Needs.{needs}
 use Rattle.judging.proofs.Answering.{watchful-judged}
 use Rattle.judging.proofs.judge_watchful.Statement.{statement}
 use Rattle.judging.proofs.judge_watchful.Tie as tie
 
-judge-requires : tie.Need-judge-requires
-judge-requires c κs = search needs
+judge-rows-requires : tie.Need-judge-rows-requires
+judge-rows-requires c κs = search needs
 
 torn-requires : tie.Need-torn-requires
 torn-requires c κs = search needs
@@ -15,7 +15,7 @@ with-test-requires : tie.Need-with-test-requires
 with-test-requires c κs = search needs
 
 returns : tie.Need-returns
-returns c = watchful-judged _ _ _ (omega arith) (c .before .before .judge .ensures) (c .before .torn .ensures) (c .with-test .ensures)
+returns c = watchful-judged _ _ (omega arith) _ _ (c .before .before .judge-rows .ensures) (c .before .torn .ensures) (c .with-test .ensures)
 
 pub judge-watchful-spec : {M : Type 1} → statement M
-judge-watchful-spec = tie.close (tie.spec judge-requires torn-requires with-test-requires returns)
+judge-watchful-spec = tie.close (tie.spec judge-rows-requires torn-requires with-test-requires returns)

@@ -6,7 +6,7 @@ use Rattle.lists.proofs.Booleans.{clash}
 use Rattle.refusals.proofs.Numbers.{accepted-number}
 use Rattle.settling.proofs.Findings.{findable}
 use Rattle.settling.proofs.Settled.{placed}
-use Rattle.quoting.proofs.Quotes.{Entering, taken, bounded-held, reply-is, out-is, quote-refused}
+use Rattle.quoting.proofs.Quotes.{Entering, taken, quote-lent, bounded-held, reply-is, out-is, quote-refused}
 use Rattle.quoting.proofs.Reaching.{unknown-sound}
 use Rattle.previewing.proofs.Previews.{tells-quote, writable-in}
 use borrow.Author.Needs.{needs}
@@ -58,11 +58,9 @@ write-requires c κs =
     let at-judge = at-enum-told .before .before in
     let at-good = at-judge .before .before .before .before .before .before .before in
     let found = at-find .find in
-    let v : Entering _ _ _ _ _ _ _ = record {
-      accepted = accepted-number _ (at-judge .judge .ensures) (at-enum-told .enum-told .given .1);
-      eight = omega (arith, at-good .good);
-      finds = found .ensures .1;
-    } in
+    let accepted = accepted-number _ (at-judge .judge .ensures) (at-enum-told .enum-told .given .1) in
+    let all = quote-lent _ _ _ (at-good .args .watches) (at-good .args .lent) _ (omega (arith, at-good .good)) accepted in
+    let v : Entering _ _ _ _ _ _ _ = record { accepted = rw all at accepted; eight = omega (arith, at-good .good); finds = found .ensures .1 } in
     (writable-in v (omega (arith, found .kept)), unknown-sound (found .ensures .0))
 
 accept-requires : tie.Need-accept-requires
@@ -81,13 +79,11 @@ returns-2 c =
     let at-enum-told = at-find .before .before in
     let at-judge = at-enum-told .before .before in
     let at-good = at-judge .before .before .before .before .before .before .before in
-    let v : Entering _ _ _ _ _ _ _ = record {
-      accepted = accepted-number _ (at-judge .judge .ensures) (at-enum-told .enum-told .given .1);
-      eight = omega (arith, at-good .good);
-      finds = at-find .find .ensures .1;
-    } in
+    let accepted = accepted-number _ (at-judge .judge .ensures) (at-enum-told .enum-told .given .1) in
+    let all = quote-lent _ _ _ (at-good .args .watches) (at-good .args .lent) _ (omega (arith, at-good .good)) accepted in
+    let v : Entering _ _ _ _ _ _ _ = record { accepted = rw all at accepted; eight = omega (arith, at-good .good); finds = at-find .find .ensures .1 } in
     let written = at-write .write .ensures in
-    tells-quote _ _ _ _ _ (c .effect-of2 .ensures) (reply-is v (written .0) (c .before .accept .ensures)) (out-is _ v (written .1))
+    rw all (tells-quote _ _ _ _ _ (c .effect-of2 .ensures) (reply-is v (written .0) (c .before .accept .ensures)) (out-is _ v (written .1)))
 
 pub preview-spec : {M : Type 1} → statement M
 preview-spec =

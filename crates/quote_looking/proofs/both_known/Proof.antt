@@ -5,7 +5,7 @@ use Rattle.settling.proofs.Findings.{findable}
 use Rattle.settling.proofs.Settled.{placed}
 use Rattle.settling.proofs.Reaching.{reached-sound}
 use Rattle.judging.proofs.Answering.{in-range}
-use Rattle.quoting.proofs.Quotes.{Entering, taken, bounded-held}
+use Rattle.quoting.proofs.Quotes.{Entering, taken, quote-lent, bounded-held}
 use Rattle.quote_looking.proofs.Answers.{sized-refused, sized-accepted}
 use Rattle.quote_looking.proofs.Counting.{starts-at, countable}
 use Rattle.quote_looking.proofs.Made.{made-refused, made-short, list-fits, made-both}
@@ -77,8 +77,9 @@ short-cells-requires c κs =
     let at-judge-arg = at-judge .before .before .before .before in
     let s = at-judge-arg .before .before .before .before .before .before .before .before in
     let sized = sized-accepted _ _ _ _ _ _ (at-judge .judge-both .ensures) (at-enum-told .enum-told .given .1) in
+    let all = quote-lent _ _ _ (s .args .watches) (s .args .lent) _ (omega (arith, s .good)) (sized .0) in
     let found = at-find .find .ensures in
-    let v : Entering _ _ _ _ _ _ _ = record { accepted = sized .0; eight = omega (arith, s .good); finds = found .1 } in
+    let v : Entering _ _ _ _ _ _ _ = record { accepted = rw all at (sized .0); eight = omega (arith, s .good); finds = found .1 } in
     (found .1 .most, countable v (in-range _ _ (sized .1)) (starts-at _ _ (at-shift-of .shift-of .ensures)))
 
 refuse-requires-2 : tie.Need-refuse-requires-2
@@ -106,9 +107,10 @@ returns-2 c =
     let at-judge-arg = at-judge .before .before .before .before in
     let s = at-judge-arg .before .before .before .before .before .before .before .before in
     let sized = sized-accepted _ _ _ _ _ _ (at-judge .judge-both .ensures) (at-enum-told .enum-told .given .1) in
+    let all = quote-lent _ _ _ (s .args .watches) (s .args .lent) _ (omega (arith, s .good)) (sized .0) in
     let found = at-find .find .ensures in
-    let v : Entering _ _ _ _ _ _ _ = record { accepted = sized .0; eight = omega (arith, s .good); finds = found .1 } in
-    made-short _ _ _ _ v (sized .1) (starts-at _ _ (at-shift-of .shift-of .ensures)) (at-short .short-cells .ensures) (c .before .if1 .taken) (c .refuse2 .ensures)
+    let v : Entering _ _ _ _ _ _ _ = record { accepted = rw all at (sized .0); eight = omega (arith, s .good); finds = found .1 } in
+    rw all (made-short _ _ _ _ v (sized .1) (starts-at _ _ (at-shift-of .shift-of .ensures)) (at-short .short-cells .ensures) (c .before .if1 .taken) (c .refuse2 .ensures))
 
 slice-aggregate-enter : tie.Need-slice-aggregate-enter
 slice-aggregate-enter c = search needs
@@ -123,8 +125,9 @@ enter-requires c κs =
     let at-judge-arg = at-judge .before .before .before .before in
     let s = at-judge-arg .before .before .before .before .before .before .before .before in
     let sized = sized-accepted _ _ _ _ _ _ (at-judge .judge-both .ensures) (at-enum-told .enum-told .given .1) in
+    let all = quote-lent _ _ _ (s .args .watches) (s .args .lent) _ (omega (arith, s .good)) (sized .0) in
     let found = at-find .find .ensures in
-    (sized .0, (found .1, rw (found .0) (s .pre)))
+    (rw all at (sized .0), (found .1, rw (found .0) (rw all at (s .pre))))
 
 look-after-requires : tie.Need-look-after-requires
 look-after-requires c κs =
@@ -139,8 +142,9 @@ look-after-requires c κs =
     let at-judge-arg = at-judge .before .before .before .before in
     let s = at-judge-arg .before .before .before .before .before .before .before .before in
     let sized = sized-accepted _ _ _ _ _ _ (at-judge .judge-both .ensures) (at-enum-told .enum-told .given .1) in
+    let all = quote-lent _ _ _ (s .args .watches) (s .args .lent) _ (omega (arith, s .good)) (sized .0) in
     let found = at-find .find .ensures in
-    let v : Entering _ _ _ _ _ _ _ = record { accepted = sized .0; eight = omega (arith, s .good); finds = found .1 } in
+    let v : Entering _ _ _ _ _ _ _ = record { accepted = rw all at (sized .0); eight = omega (arith, s .good); finds = found .1 } in
     let entered = rw (found .0) at (at-enter .enter .ensures) in
     list-fits _ _ _ (s .args .cells .now) v (sized .1) (starts-at _ _ (at-shift-of .shift-of .ensures)) (at-short .short-cells .ensures) (at-if1 .if1 .left) entered
 
@@ -176,12 +180,14 @@ returns-3 c =
     let at-judge-arg = at-judge .before .before .before .before in
     let s = at-judge-arg .before .before .before .before .before .before .before .before in
     let sized = sized-accepted _ _ _ _ _ _ (at-judge .judge-both .ensures) (at-enum-told .enum-told .given .1) in
+    let all = quote-lent _ _ _ (s .args .watches) (s .args .lent) _ (omega (arith, s .good)) (sized .0) in
     let found = at-find .find .ensures in
-    let v : Entering _ _ _ _ _ _ _ = record { accepted = sized .0; eight = omega (arith, s .good); finds = found .1 } in
+    let v : Entering _ _ _ _ _ _ _ = record { accepted = rw all at (sized .0); eight = omega (arith, s .good); finds = found .1 } in
     let entered = rw (found .0) at (at-enter .enter .ensures) in
     let looked = at-look-after .look-after .ensures in
-    made-both _ _ _ _ v (sized .1) (starts-at _ _ (at-shift-of .shift-of .ensures)) (at-short .short-cells .ensures) (at-if1 .if1 .left) entered
-    (looked .0) (looked .1)
+    rw all
+    (made-both _ _ _ _ v (sized .1) (starts-at _ _ (at-shift-of .shift-of .ensures)) (at-short .short-cells .ensures) (at-if1 .if1 .left) entered
+    (looked .0) (looked .1))
 
 pub both-known-spec : {M : Type 1} → statement M
 both-known-spec =

@@ -5,7 +5,7 @@ use Rattle.settling.proofs.Standing.{within}
 use Rattle.settling.proofs.Findings.{findable}
 use Rattle.settling.proofs.Settled.{placed}
 use Rattle.settling.proofs.Reaching.{reached-sound}
-use Rattle.quoting.proofs.Quotes.{taken, bounded-held}
+use Rattle.quoting.proofs.Quotes.{taken, quote-lent, bounded-held}
 use Rattle.quoting.proofs.Entries.{entry-refused}
 use borrow.Author.Needs.{needs}
 use Rattle.quoting.proofs.quote_known.Statement.{statement}
@@ -59,7 +59,8 @@ enter-requires c κs = let at-find = c .before .before .before .before .before .
     let s = at-judge-arg .before .before .before .before .before .before .before in
     let accepted = accepted-number _ (at-judge .judge .ensures) (at-enum-told .enum-told .given .1) in
     let found = at-find .find .ensures in
-    (accepted, (found .1, rw (found .0) (s .pre)))
+    let all = quote-lent _ _ _ (s .args .watches) (s .args .lent) _ (omega (arith, s .good)) accepted in
+    (rw all at accepted, (found .1, rw (found .0) (rw all at (s .pre))))
 
 same-length-5 : tie.Need-same-length-5
 same-length-5 c = search needs
@@ -80,7 +81,12 @@ returns-2 : tie.Need-returns-2
 returns-2 c = let on-way = c .before .before .before .before .before .before .before .before in
     let at-enter = on-way .before .before in
     let at-find = at-enter .before .before .before .before .before .before .before .before in
-    rw (at-find .find .ensures .0) at (at-enter .enter .ensures)
+    let at-enum-told = at-find .before .before .before .before in
+    let at-judge = at-enum-told .before .before in
+    let at-judge-arg = at-judge .before .before .before .before in
+    let s = at-judge-arg .before .before .before .before .before .before .before in
+    let all = quote-lent _ _ _ (s .args .watches) (s .args .lent) _ (omega (arith, s .good)) (accepted-number _ (at-judge .judge .ensures) (at-enum-told .enum-told .given .1)) in
+    rw all (rw (at-find .find .ensures .0) at (at-enter .enter .ensures))
 
 pub quote-known-spec : {M : Type 1} → statement M
 quote-known-spec =

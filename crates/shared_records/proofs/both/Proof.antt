@@ -1,4 +1,4 @@
--- `both` meets its contract: a walk of its code. The records go to `numbers`; the numbers, how many records there are and, for good, the tables and both outputs go to `both_lent`.
+-- `both` meets its contract: a walk of its code. The records go to `numbers`; the numbers, how many records there are and, for good, the tables and both outputs go to `both` of `quote_looking`.
 use mathlib.Core.Path.{_≡_, refl, ap}
 use Prim.Native.Nat.{ℕ, _<_, _^_}
 use mathlib.Core.List.{List, [], _∷_}
@@ -56,10 +56,10 @@ use Rattle.watch_records.proofs.numbers.Met as numbers-thm
 use Rattle.model.specs.Promises.{tables as lent-tables, QuotedLooked}
 use Rattle.shared_records.proofs.Fronts.{both-records}
 use Rattle.shared_records.proofs.Machines.{headed, both-machines, both-spelled}
-use Rattle.lending.proofs.both_lent as callee
-use Rattle.lending.proofs.both_lent.Symbol as callee-def
-use Rattle.lending.proofs.both_lent.Symbol.{name as #lending·both-lent}
-use Rattle.lending.proofs.both_lent.Met as callee-thm
+use Rattle.quote_looking.proofs.both as callee
+use Rattle.quote_looking.proofs.both.Symbol as callee-def
+use Rattle.quote_looking.proofs.both.Symbol.{name as #quote-looking·both}
+use Rattle.quote_looking.proofs.both.Met as callee-thm
 use Rattle.shared_records.proofs.both.Key.{name as #shared-records·both}
 use Rattle.shared_records.proofs.both as f
 use Rattle.shared_records.proofs.both.Statement as stated
@@ -70,7 +70,7 @@ abbrev stayed : Stays (f.ended .signature .params) (f.ended .kept)
 stayed = (stay-dropped (plain (λ _. Hd.the-row)) yes, (stay-dropped (shrSliceOf (0 ∷ []) tt (plain (λ _. u32))) yes, (stay-dropped (plain (λ _. u32)) yes, (gave-slice (1 ∷ []) tt (plain (λ _. u32)), (gave-slice (2 ∷ []) tt (plain (λ _. u32)), (gave-slice (3 ∷ []) tt (plain (λ _. u32)), (gave-slice (4 ∷ []) tt (plain (λ _. u32)), (stay-dropped (shrSliceOf (5 ∷ []) tt (plain (λ _. T.the-row))) yes, (gave-slice (6 ∷ []) tt (plain (λ _. u8)), (gave-slice (7 ∷ []) tt (plain (λ _. u32)), tt))))))))))
 
 module _ {M : Type 1} (𝓤 : URA M) (H : Heap 𝓤) (A : Atoms 𝓤) (mem : Memory → SProp 𝓤) (run : Routine → Fun 𝓤) where
-  -- the contract of `both_lent`
+  -- the contract of `both` of `quote_looking`
   abbrev Callee : Contract 𝓤
   Callee = tripleOf 𝓤 H A callee.signature (callee.spec 𝓤 H A mem run)
 
@@ -99,7 +99,7 @@ module _ {M : Type 1} (𝓤 : URA M) (H : Heap 𝓤) (A : Atoms 𝓤) (W : Given
   abbrev lent : Lent
   lent = lent-tables (columns .now) (positions .now) (lowerEnds .now) (upperEnds .now)
 
-  -- what `both_lent` binds outside, that it is given what it asks, and what is known of its result
+  -- what `both` of `quote_looking` binds outside, that it is given what it asks, and what is known of its result
   abbrev lives : Lft × (Lft × (Lft × (Lft × (Lft × (Lft × (Lft × Unit {0}))))))
   lives = (κ₀, (κ₁, (κ₂, (κ₃, (κ₄, (κ₆, (κ₇, tt)))))))
 
@@ -136,7 +136,7 @@ module _ {M : Type 1} (𝓤 : URA M) (H : Heap 𝓤) (A : Atoms 𝓤) (W : Given
       owned ! R.the-row (Is R.the-row) ((LL.makes R.the-type R′.the-plain) 𝓤 H A) j (both-machines j) is $ done !
 
   module _ (is-head : Is Hd.the-row head (headed head)) (quoted-fits : length (quoted .now) < 2 ^ 64) (n-fits : n < 2 ^ 32) (columns-fits : length (columns .now) < 2 ^ 64) (positions-fits : length (positions .now) < 2 ^ 64) (lowerEnds-fits : length (lowerEnds .now) < 2 ^ 64) (upperEnds-fits : length (upperEnds .now) < 2 ^ 64) (room : Room T.the-row (length ys)) (out-fits : length (out .now) < 2 ^ 64) (cells-fits : length (cells .now) < 2 ^ 64)
-      (C : Calls 𝓤 H) (Λ : Loops 𝓤 H) (fm : FmC 𝓤 H (W .laws) C) (known-numbers : Triple 𝓤 (C #watch-records·numbers) (Numbers 𝓤 H A mem run)) (known-callee : Triple 𝓤 (C #lending·both-lent) (Callee 𝓤 H A mem run)) where
+      (C : Calls 𝓤 H) (Λ : Loops 𝓤 H) (fm : FmC 𝓤 H (W .laws) C) (known-numbers : Triple 𝓤 (C #watch-records·numbers) (Numbers 𝓤 H A mem run)) (known-callee : Triple 𝓤 (C #quote-looking·both) (Callee 𝓤 H A mem run)) where
     walk : ent 𝓤 (onEntry 𝓤 H A f.signature (κ₀, (κ₁, (κ₂, (κ₃, (κ₄, (κ₅, (κ₆, (κ₇, tt)))))))) (q₀, (q₁, (q₂, (q₃, (q₄, (q₅, (q₆, (q₇, tt)))))))) x at) (WpFn 𝓤 H C Λ code.function given Post)
     walk =
         qed W Entry ∵ enter ! C Λ code.function given _ $
@@ -171,7 +171,7 @@ module _ {M : Type 1} (𝓤 : URA M) (H : Heap 𝓤) (A : Atoms 𝓤) (W : Given
         keep ! (0 ∷ 7 ∷ 6 ∷ 5 ∷ 4 ∷ 3 ∷ 2 ∷ 1 ∷ []) $ by ! (exits (zs .1 .1 .1 .0) (zs .1 .1 .1 .1 .0) (zs .1 .1 .1 .1 .1 .0) (zs .1 .1 .1 .1 .1 .1 .0) (zs .1 .1 .1 .1 .1 .1 .1 .1 .1 .0) (zs .1 .1 .1 .1 .1 .1 .1 .1 .1 .1 .0) j (both-spelled j c has) columns-same positions-same lowerEnds-same upperEnds-same out-same cells-same (both-records ys head (quoted .now) n lent e said)))))))))))))))))))))))))))))))))))))))
 
 module _ {M : Type 1} (𝓤 : URA M) (H : Heap 𝓤) (A : Atoms 𝓤) (W : Given 𝓤 H A) (mem : Memory → SProp 𝓤) (run : Routine → Fun 𝓤) (𝓣 : Tables 𝓤 H)
-    (known-numbers : Triple 𝓤 (𝓣 .C #watch-records·numbers) (Numbers 𝓤 H A mem run)) (known-callee : Triple 𝓤 (𝓣 .C #lending·both-lent) (Callee 𝓤 H A mem run)) where
+    (known-numbers : Triple 𝓤 (𝓣 .C #watch-records·numbers) (Numbers 𝓤 H A mem run)) (known-callee : Triple 𝓤 (𝓣 .C #quote-looking·both) (Callee 𝓤 H A mem run)) where
   both-walks : Walks 𝓤 H A f.ended stayed (WpFn 𝓤 H (𝓣 .C) (𝓣 .Λ) code.function) (f.clauses 𝓤 H A mem run)
   both-walks =
       walked 𝓤 H A f.ended stayed (f.clauses 𝓤 H A mem run) (WpFn 𝓤 H (𝓣 .C) (𝓣 .Λ) code.function) (λ κs. (headed, (slice-vals, (uint-vals w32, (slice-vals, (slice-vals, (slice-vals, (slice-vals, (slice-vals, (slice-vals, (slice-vals, tt)))))))))))
@@ -193,4 +193,4 @@ both-spec 𝓤 H 𝓜 𝓖 𝓡 =
     (tables 𝓤 H 𝓜 𝓡 code.env .C) (tables 𝓤 H 𝓜 𝓡 code.env .Λ) #shared-records·both code.function (code.unfolded 𝓤 H 𝓜 𝓡)
     (both-meets 𝓤 H (𝓖 .A) (givenOf 𝓤 H 𝓜 𝓖) (𝓜 .mem) (𝓡 .run) (tablesOf 𝓤 H 𝓜 (tables 𝓤 H 𝓜 𝓡 code.env))
     (cited 𝓤 H (Numbers 𝓤 H (𝓖 .A) (𝓜 .mem) (𝓡 .run)) 𝓜 𝓡 code.env #watch-records·numbers numbers-def.routine code.calls-watch-records·numbers (numbers-thm.met 𝓤 H 𝓜 𝓖 𝓡))
-    (cited 𝓤 H (Callee 𝓤 H (𝓖 .A) (𝓜 .mem) (𝓡 .run)) 𝓜 𝓡 code.env #lending·both-lent callee-def.routine code.calls-lending·both-lent (callee-thm.met 𝓤 H 𝓜 𝓖 𝓡)))
+    (cited 𝓤 H (Callee 𝓤 H (𝓖 .A) (𝓜 .mem) (𝓡 .run)) 𝓜 𝓡 code.env #quote-looking·both callee-def.routine code.calls-quote-looking·both (callee-thm.met 𝓤 H 𝓜 𝓖 𝓡)))

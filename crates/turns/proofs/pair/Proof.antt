@@ -1,6 +1,7 @@
 -- `pair` meets its contract: the pair is set, and its lines laid.
 use native.Mathlib.Omega.{arith}
 use borrow.Author.Needs.{needs}
+use Rattle.judging.proofs.Answering.{lent-all}
 use Rattle.turns.proofs.Rooms.{pair-fits}
 use Rattle.turn_lines.proofs.Turning.{pair-turned}
 use Rattle.turns.proofs.pair.Statement.{statement}
@@ -27,8 +28,9 @@ returns : tie.Need-returns
 returns c =
     let at-put-changed = c .before .before in
     let at-pair = at-put-changed .before .before .before .before .before .before .before in
-    let made = at-pair .pair in
-    pair-turned _ _ _ _ _ _ (made .ensures) (at-put-changed .put-changed .ensures)
+    let s = at-pair .before .before .before .before .before .before .before .before in
+    let made = rw (lent-all (s .args .watches) 8 (omega (arith, s .good)) (omega arith)) at (at-pair .pair .ensures) in
+    pair-turned _ _ _ _ _ _ made (at-put-changed .put-changed .ensures)
 
 pub pair-spec : {M : Type 1} → statement M
 pair-spec =

@@ -1,5 +1,7 @@
 -- `unpair` meets its contract: the pair is ended, and its line laid.
+use native.Mathlib.Omega.{arith}
 use borrow.Author.Needs.{needs}
+use Rattle.judging.proofs.Answering.{lent-all}
 use Rattle.turn_lines.proofs.Turning.{unpair-turned}
 use Rattle.turns.proofs.unpair.Statement.{statement}
 use Rattle.turns.proofs.unpair.Tie as tie
@@ -20,7 +22,9 @@ returns : tie.Need-returns
 returns c =
     let at-put-answer = c .before .before in
     let at-unpair = at-put-answer .before .before .before .before in
-    λ bytes. unpair-turned _ _ _ bytes (at-unpair .unpair .ensures) (at-put-answer .put-answer .ensures)
+    let s = at-unpair .before .before .before .before .before .before in
+    let made = rw (lent-all (s .args .watches) 8 (omega (arith, s .good)) (omega arith)) at (at-unpair .unpair .ensures) in
+    λ bytes. unpair-turned _ _ _ bytes made (at-put-answer .put-answer .ensures)
 
 pub unpair-spec : {M : Type 1} → statement M
 unpair-spec =

@@ -1,65 +1,40 @@
--- `watch` meets its contract: refused, it leaves everything as it was; accepted, it writes the joins and inserts n.
+-- `watch` meets its contract: refused, it leaves the watches as they were; accepted, it inserts n.
 use native.Mathlib.Omega.{arith}
-use Rattle.refusals.proofs.Numbers.{accepted-number}
-use Rattle.watching.proofs.Watches.{watch-free, watch-window, joins-room, watch-refused, watch-set}
+use Rattle.judging.proofs.Answering.{lent-all}
+use Rattle.watching.proofs.Watches.{watch-free, watch-accepted, watch-inserted, watch-left}
 use borrow.Author.Needs.{needs}
 use Rattle.watching.proofs.watch.Statement.{statement}
 use Rattle.watching.proofs.watch.Tie as tie
 
-judge-watch-requires : tie.Need-judge-watch-requires
-judge-watch-requires c κs = search needs
-
-enum-told : tie.Need-enum-told
-enum-told c = search needs
-
-enum-told-2 : tie.Need-enum-told-2
-enum-told-2 c = search needs
-
-returns : tie.Need-returns
-returns c = watch-refused _ _ _ _ _ _ (c .before .before .judge-watch .ensures) (c .enum-told2 .given .1)
-
-start-of-requires : tie.Need-start-of-requires
-start-of-requires c κs = watch-free _ _ _ _ _ _ (accepted-number _ (c .before .before .judge-watch .ensures) (c .enum-told .given .1)) .passed .whole .low-newest
-
-start-of-requires-2 : tie.Need-start-of-requires-2
-start-of-requires-2 c κs =
-    let at-judge-watch = c .before .before .before in
-    watch-free _ _ _ _ _ _ (accepted-number _ (at-judge-watch .judge-watch .ensures) (c .before .enum-told .given .1)) .passed .whole .low-newest
-
-cast-t17 : tie.Need-cast-t17
-cast-t17 c =
-    let at-enum-told = c .before .before in
-    let at-judge-watch = at-enum-told .before .before in
-    let known = watch-free _ _ _ _ _ _ (accepted-number _ (at-judge-watch .judge-watch .ensures) (at-enum-told .enum-told .given .1)) in omega (arith, known .range, known .passed .settings)
-
-write-joins-requires : tie.Need-write-joins-requires
-write-joins-requires c κs =
-    let at-start-of = c .before .before in
-    let at-enum-told = at-start-of .before in
-    let at-judge-watch = at-enum-told .before .before in
-    let known = watch-free _ _ _ _ _ _ (accepted-number _ (at-judge-watch .judge-watch .ensures) (at-enum-told .enum-told .given .1)) in
-    rw (at-start-of .start-of .ensures) (watch-window _ _ _ known (c .before .start-of2 .ensures), joins-room _ _ _ known (c .before .start-of2 .ensures) _)
+set-watch-requires : tie.Need-set-watch-requires
+set-watch-requires c κs = search needs
 
 insert-requires : tie.Need-insert-requires
 insert-requires c κs =
-    let at-enum-told = c .before .before .before .before .before .before in
-    let at-judge-watch = at-enum-told .before .before in
-    watch-free _ _ _ _ _ _ (accepted-number _ (at-judge-watch .judge-watch .ensures) (at-enum-told .enum-told .given .1)) .vacant
+    let at-set-watch = c .before .before .before .before in
+    let s = at-set-watch .before .before .before .before .before .before .before in
+    let judged = rw (lent-all (s .args .watches) 8 (omega (arith, s .good)) (omega arith)) at (at-set-watch .set-watch .ensures) in
+    watch-free _ _ _ _ _ _ (watch-accepted judged (c .if1 .taken)) .vacant
 
 same-length : tie.Need-same-length
 same-length c = search needs
 
+returns : tie.Need-returns
+returns c =
+    let at-set-watch = c .before .before .before .before .before in
+    let s = at-set-watch .before .before .before .before .before .before .before in
+    let judged = rw (lent-all (s .args .watches) 8 (omega (arith, s .good)) (omega arith)) at (at-set-watch .set-watch .ensures) in
+    watch-inserted judged (c .before .if1 .taken) (c .insert .ensures)
+
+same-length-2 : tie.Need-same-length-2
+same-length-2 c = search needs
+
 returns-2 : tie.Need-returns-2
 returns-2 c =
-    let at-write-joins = c .before .before .before in
-    let at-start-of2 = at-write-joins .before .before in
-    let at-start-of = at-start-of2 .before in
-    let at-enum-told = at-start-of .before in
-    let at-judge-watch = at-enum-told .before .before in
-    let e = at-judge-watch .judge-watch .ensures in
-    let f = at-enum-told .enum-told .given .1 in
-    let written = rw (at-start-of .start-of .ensures) at (at-write-joins .write-joins .ensures) in
-    watch-set _ _ _ _ _ _ e f (watch-free _ _ _ _ _ _ (accepted-number _ e f)) (at-start-of2 .start-of2 .ensures) (written .0) (written .1) (c .insert .ensures)
+    let at-set-watch = c .before .before .before .before in
+    let s = at-set-watch .before .before .before .before .before .before .before in
+    let judged = rw (lent-all (s .args .watches) 8 (omega (arith, s .good)) (omega arith)) at (at-set-watch .set-watch .ensures) in
+    watch-left judged (c .if1 .left)
 
 pub watch-spec : {M : Type 1} → statement M
-watch-spec = tie.close (tie.spec judge-watch-requires enum-told enum-told-2 returns start-of-requires start-of-requires-2 cast-t17 write-joins-requires insert-requires same-length returns-2)
+watch-spec = tie.close (tie.spec set-watch-requires insert-requires same-length returns same-length-2 returns-2)
