@@ -185,8 +185,7 @@ module _ (h : Head) (t : Tables) where
   unfolding loanAnswer
   loan-passed lent e =
       let s = zero-passed _ _ _ e in
-      let l = zero-passed _ _ _ (s .1) in
-      (
+      let l = zero-passed _ _ _ (s .1) in (
         settings-within (h .dimensions) (h .capacity) (h .directions) (not-false (held h t) (s .0)),
         long-enough t (h .dimensions) (h .capacity) (none-left (short h t) (ltb lent 8) (l .0)),
         ltb-false lent 8 (none-right (short h t) (ltb lent 8) (l .0)),

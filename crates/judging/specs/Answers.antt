@@ -1,7 +1,7 @@
 -- The first answers of a call that is lent tables and watch records, in the parts that one function judges.
 use Prim.Native.Nat.{ℕ}
-use mathlib.Core.Bool.{Bool, true, _||_, not}
-use mathlib.Core.List.{List, [], _∷_}
+use mathlib.Core.Bool.{true, _||_, not}
+use mathlib.Core.List.{[], _∷_}
 use lib.Dec.{ltb}
 use Rattle.head.specs.declared.Head.{Head}
 use Rattle.head.specs.Desks.{recordCount}

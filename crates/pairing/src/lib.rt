@@ -34,7 +34,15 @@ fn judge_pair(
         (tables (now (columns .entry)) (now (positions .entry)) (now («lower_ends» .entry)) (now («upper_ends» .entry)))
         (take lent watches) room ⌝ }
 {
-    let judged = judge_watchful(head, columns, positions, lower_ends, upper_ends, watches, lent);
+    let judged = judge_watchful(
+        head,
+        columns,
+        positions,
+        lower_ends,
+        upper_ends,
+        watches,
+        lent,
+    );
     let beyond = out_of_sizes(head, 2, n1, n2);
     let sized = with_test(judged, beyond, Refusal::WindowSize);
     let stands = head.n1 != 0;
@@ -57,7 +65,15 @@ fn judge_unpair(
         (tables (now (columns .entry)) (now (positions .entry)) (now («lower_ends» .entry)) (now («upper_ends» .entry)))
         (take lent watches) ⌝ }
 {
-    let judged = judge_watchful(head, columns, positions, lower_ends, upper_ends, watches, lent);
+    let judged = judge_watchful(
+        head,
+        columns,
+        positions,
+        lower_ends,
+        upper_ends,
+        watches,
+        lent,
+    );
     let stands = head.n1 != 0;
     with_test(judged, !stands, Refusal::NotWatched)
 }
@@ -125,7 +141,15 @@ pub fn unpair(
     ensures { λ r. ⌜ Unpaired head (tables (now (columns .entry)) (now (positions .entry)) (now («lower_ends» .entry))
         (now («upper_ends» .entry))) (take lent watches) r ⌝ }
 {
-    let answer = judge_unpair(head, columns, positions, lower_ends, upper_ends, watches, lent);
+    let answer = judge_unpair(
+        head,
+        columns,
+        positions,
+        lower_ends,
+        upper_ends,
+        watches,
+        lent,
+    );
     match answer {
         Answer::Accepted => {}
         Answer::Refused(_) => {

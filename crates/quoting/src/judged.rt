@@ -49,6 +49,14 @@ pub fn judge(
     if reachable {
         return with_quote(judge_settings(head), head, quote, room);
     }
-    let judged = judge_watchful(head, columns, positions, lower_ends, upper_ends, watches, lent);
+    let judged = judge_watchful(
+        head,
+        columns,
+        positions,
+        lower_ends,
+        upper_ends,
+        watches,
+        lent,
+    );
     with_quote(judged, head, quote, room)
 }

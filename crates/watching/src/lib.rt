@@ -47,7 +47,15 @@ fn judge_watch_size(
         (take lent watches) ((outOfRange head n, number WindowSize) ∷ []) ⌝ }
 {
     with_test(
-        judge_watchful(head, columns, positions, lower_ends, upper_ends, watches, lent),
+        judge_watchful(
+            head,
+            columns,
+            positions,
+            lower_ends,
+            upper_ends,
+            watches,
+            lent,
+        ),
         out_of_range(head, n),
         Refusal::WindowSize,
     )
@@ -69,7 +77,16 @@ fn judge_end(
         (tables (now (columns .entry)) (now (positions .entry)) (now («lower_ends» .entry)) (now («upper_ends» .entry)))
         (take lent watches) ⌝ }
 {
-    let answer = judge_watch_size(head, n, columns, positions, lower_ends, upper_ends, watches, lent);
+    let answer = judge_watch_size(
+        head,
+        n,
+        columns,
+        positions,
+        lower_ends,
+        upper_ends,
+        watches,
+        lent,
+    );
     with_test(answer, !find(watches, desk, n), Refusal::NotWatched)
 }
 
@@ -90,7 +107,16 @@ fn judge_watch(
         (tables (now (columns .entry)) (now (positions .entry)) (now («lower_ends» .entry)) (now («upper_ends» .entry)))
         (take lent watches) room ⌝ }
 {
-    let sized = judge_watch_size(head, n, columns, positions, lower_ends, upper_ends, watches, lent);
+    let sized = judge_watch_size(
+        head,
+        n,
+        columns,
+        positions,
+        lower_ends,
+        upper_ends,
+        watches,
+        lent,
+    );
     let new = with_test(sized, find(watches, desk, n), Refusal::AlreadyWatched);
     let free = with_test(new, full(desk, watches), Refusal::NoFreeRecord);
     with_test(free, short_output(room), Refusal::ShortOutput)
