@@ -12,11 +12,12 @@ use lib.Seq.{drop-length}
 use borrow.Author.Tests.{eqb-true, ltb-true, not-true}
 use Rattle.lists.specs.Lists.{filter, run}
 use Rattle.lists.proofs.Booleans.{and-left, and-right}
-use Rattle.finding.specs.Found.{live, takenLive, Rows, over, under, retires, retired, Room, Sound, Finds, Passing}
+use Rattle.finding.specs.Found.{live, takenLive, Rows, over, under, retires, retired, Room, Sound, Finds, Passing, Idle}
 use Rattle.finding.specs.declared.Found.{Found}
 use Rattle.finding.proofs.Looping.{none-taken}
 use Rattle.finding.proofs.Youngest.{youngest-none, sound-later}
 use Rattle.finding.proofs.Passing.{passed, dead-rows, sound-stops}
+use Rattle.finding.proofs.Idling.{passed-any}
 
 module _ (s : Rows) where
   -- before any row is gone through
@@ -54,6 +55,10 @@ module _ (s : Rows) where
       same-length = e ∙ v .same-length;
       gone = λ b m w u. o b (omega (arith, v .most)) w (v .gone b m (λ t. sound-later s (w t) i l) u);
     }
+
+    -- past rows that say nothing
+    pub going-pass : (k : ℕ) → (from ≤ k) × (k ≤ i) → ((q : ℕ) → k ≤ q → q < i → Idle s (eqb (g .last) 0) q) → Going sound from to before f places k g
+    going-pass k h e = going-turn k (h .0) (h .1) places g (room-less (h .1) (v .room)) refl (λ b l w u. passed-any s (h .1) l e u)
 
     -- down to the first row
     pub going-end : i ≤ from → Room s from places (g .at) × ((b : ℕ) → to ≤ b → Passing s sound from to b before f places g)

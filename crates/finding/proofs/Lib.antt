@@ -4,4 +4,5 @@ pub mod Blocks
 pub mod Looping
 pub mod Youngest
 pub mod Passing
+pub mod Idling
 pub mod Going

@@ -23,7 +23,7 @@ use Rattle.finding.proofs.Looping.{none-taken}
 use Rattle.finding.proofs.Youngest.{Clear, youngest-none, youngest-at, none-youngest, youngest-same, none-under, none-retired}
 
 -- a number other than 0 is above it
-eqb-above : (n : ℕ) → eqb n 0 ≡ false → 0 < n
+pub eqb-above : (n : ℕ) → eqb n 0 ≡ false → 0 < n
 eqb-above zero e = absurd (clash (eqb 0 0) refl e)
 eqb-above (suc n) e = omega arith
 

@@ -83,6 +83,11 @@ module _ (s : Rows) where
     pub alive : (i : ℕ) → a ≤ i → i < b → under i ≡ true → ((j : ℕ) → i < j → j < b → under j ≡ false) → live (s .uppers) i ≡ true
     pub younger : (i j : ℕ) → a ≤ i → i < b → retires i ≡ true → a ≤ j → j < b → under j ≡ true → j < i
 
+  -- the row at place i says nothing: the quote does not retire it, and it is not over the quote if one that is is sought
+  pub record Idle (sought : Bool) (i : ℕ) : Type 0 where
+    pub kept : retires i ≡ false
+    pub not-over : sought ≡ true → under i ≡ false
+
   -- what is to be found: the retired rows listed from at on, and the number of the youngest row over the quote
   pub record Finds (a b : ℕ) (places : List ℕ) (r : Found) : Type 0 where
     pub listed : drop (r .at) places ≡ retired a b

@@ -1,9 +1,10 @@
 // What a quote finds among the rows of a table: those that it retires, and the youngest row over it, sought from the youngest row back.
 ghost use mathlib.Core.Path.{_≡_};
-ghost use mathlib.Core.Bool.{true, cond};
+ghost use mathlib.Core.Bool.{true, not, cond};
 ghost use Prim.Native.Nat.{ℕ, suc, _+_, _-_, _*_, _≤_, _<_};
-ghost use lib.ListN.{length, set};
-ghost use Rattle.finding.specs.Found.{liveIn, takenLive, dullIn, rows, Fits, Room, Sound, Finds, Passing};
+ghost use lib.ListN.{length, set, drop};
+ghost use Rattle.dominance.specs.Dominance.{noWorse};
+ghost use Rattle.finding.specs.Found.{liveIn, takenLive, dullIn, rows, retires, Fits, Room, Sound, Finds, Passing, Idle};
 use dominance::compare;
 use dominance::compare_unrolled;
 
@@ -220,6 +221,149 @@ fn go_down(
     so_far
 }
 
+// Whether the d cells of one table from a place on, as the columns of a quote, are no worse than those of another. The first that is worse
+// decides.
+fn no_worse(directions: u32, d: usize, xs: &[u32], x: usize, ys: &[u32], y: usize) -> bool
+    requires { ⌜ x + d ≤ length (now xs) ⌝ }
+    requires { ⌜ y + d ≤ length (now ys) ⌝ }
+    ensures { λ r. ⌜ r ≡ noWorse d directions (drop x (now (xs .entry))) (drop y (now (ys .entry))) ⌝ }
+{
+    let mut bits = directions;
+    let mut i = 0;
+    while i < d {
+        let c = compare(bits, 1, &xs[x + i..], ys, y + i);
+        if c.worse {
+            return false;
+        }
+        bits = bits >> 1;
+        i += 1;
+    }
+    true
+}
+
+// Whether the quote does not retire the row at a place.
+fn is_kept(
+    directions: u32,
+    d: usize,
+    columns: &[u32],
+    uppers: &[u32],
+    quote: &[u32],
+    place: usize,
+) -> bool
+    requires { ⌜ Fits (rows d directions (now columns) (now uppers) (now quote)) (suc place) ⌝ }
+    ensures { λ r. ⌜ r ≡ not (retires (rows d directions (now (columns .entry)) (now (uppers .entry))
+        (now (quote .entry))) place) ⌝ }
+{
+    if uppers[place] != 0 {
+        return true;
+    }
+    !no_worse(directions, d, quote, 0, columns, place * d)
+}
+
+// Whether the row at a place is seen to say nothing: the quote does not retire it, and if one over the quote is sought, it is none.
+fn is_idle(
+    sought: bool,
+    directions: u32,
+    d: usize,
+    columns: &[u32],
+    uppers: &[u32],
+    quote: &[u32],
+    place: usize,
+) -> bool
+    requires { ⌜ Fits (rows d directions (now columns) (now uppers) (now quote)) (suc place) ⌝ }
+    ensures { λ r. ⌜ (r ≡ true → Idle (rows d directions (now (columns .entry)) (now (uppers .entry))
+        (now (quote .entry))) sought place) ⌝ }
+{
+    if !sought {
+        return is_kept(directions, d, columns, uppers, quote, place);
+    }
+    if no_worse(directions, d, columns, place * d, quote, 0) {
+        return false;
+    }
+    is_kept(directions, d, columns, uppers, quote, place)
+}
+
+// Passes over the rows below a place that say nothing, down to another place or to a row that may say something.
+fn pass(
+    sought: bool,
+    directions: u32,
+    d: usize,
+    columns: &[u32],
+    uppers: &[u32],
+    quote: &[u32],
+    from: usize,
+    to: usize,
+) -> usize
+    requires { ⌜ from ≤ to ⌝ }
+    requires { ⌜ Fits (rows d directions (now columns) (now uppers) (now quote)) to ⌝ }
+    ensures { λ r. ⌜ (from ≤ r) × (r ≤ to) ⌝ }
+    ensures { λ r. ⌜ ((q : ℕ) → r ≤ q → q < to → Idle
+        (rows d directions (now (columns .entry)) (now (uppers .entry)) (now (quote .entry))) sought q) ⌝ }
+{
+    let mut i = to;
+    while from < i {
+        if !is_idle(sought, directions, d, columns, uppers, quote, i - 1) {
+            return i;
+        }
+        i -= 1;
+    }
+    i
+}
+
+// Goes through the rows below a place down to another, whatever their ends; those that say nothing are passed over.
+fn go_down_any(
+    sound: bool,
+    directions: u32,
+    d: usize,
+    columns: &[u32],
+    uppers: &[u32],
+    quote: &[u32],
+    from: usize,
+    to: usize,
+    places: &mut [u16],
+    found: Found,
+) -> Found
+    requires { ⌜ from ≤ to ⌝ }
+    requires { ⌜ Fits (rows d directions (now columns) (now uppers) (now quote)) to ⌝ }
+    requires { ⌜ Room (rows d directions (now columns) (now uppers) (now quote)) to (now places) (found .at) ⌝ }
+    ensures { λ r. ⌜ Room (rows d directions (now (columns .entry)) (now (uppers .entry)) (now (quote .entry))) from
+        (now (places .exit)) (r .at) ⌝ }
+    ensures { λ r. ⌜ ((b : ℕ) → to ≤ b → Passing
+        (rows d directions (now (columns .entry)) (now (uppers .entry)) (now (quote .entry))) sound from to b
+        (now (places .entry)) found (now (places .exit)) r) ⌝ }
+{
+    let mut i = to;
+    let mut so_far = found;
+    while from < i {
+        let next = pass(
+            so_far.last == 0,
+            directions,
+            d,
+            columns,
+            uppers,
+            quote,
+            from,
+            i,
+        );
+        if next == from {
+            return so_far;
+        }
+        i = next - 1;
+        so_far = go_through(
+            sound,
+            directions,
+            d,
+            columns,
+            uppers,
+            quote,
+            i,
+            places,
+            so_far,
+        );
+    }
+    so_far
+}
+
 // Goes through the rows from a place on and below another, which are 64 at most: none where none is live and no retired row counts, and
 // where most are taken for live, one by one only if one of the 64 rows below that place is comparable.
 fn go_down_block(
@@ -252,6 +396,20 @@ fn go_down_block(
         if dull_columns(directions, d, columns, uppers, quote, to - 64) {
             return found;
         }
+    }
+    if !sound {
+        return go_down_any(
+            sound,
+            directions,
+            d,
+            columns,
+            uppers,
+            quote,
+            from,
+            to,
+            places,
+            found,
+        );
     }
     go_down(
         sound,

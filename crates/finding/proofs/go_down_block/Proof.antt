@@ -40,9 +40,9 @@ returns-2 c =
     let d = sym (c .before .dull-columns .ensures) ∙ c .if3 .taken in
     apart-block _ (p .0 .0) (p .1 .1) (λ q u l. dull-apart _ _ 64 d q (omega (arith, p .0 .1)) (omega arith))
 
-go-down-requires : tie.Need-go-down-requires
-go-down-requires c κs =
-    let at-start = c .before .before .before .before .before .before .before .before .before in
+go-down-any-requires : tie.Need-go-down-any-requires
+go-down-any-requires c κs =
+    let at-start = c .before .before .before .before .before .before .before .before .before .before in
     let p = at-start .pre in (p .0 .0, p .1)
 
 same-length : tie.Need-same-length
@@ -50,6 +50,17 @@ same-length c = search needs
 
 returns-3 : tie.Need-returns-3
 returns-3 c = search needs
+
+go-down-requires : tie.Need-go-down-requires
+go-down-requires c κs =
+    let at-start = c .before .before .before .before .before .before .before .before .before .before in
+    let p = at-start .pre in (p .0 .0, p .1)
+
+same-length-2 : tie.Need-same-length-2
+same-length-2 c = search needs
+
+returns-4 : tie.Need-returns-4
+returns-4 c = search needs
 
 pub go-down-block-spec : {M : Type 1} → statement M
 go-down-block-spec =
@@ -60,6 +71,9 @@ go-down-block-spec =
     sub-dull-columns
     dull-columns-requires
     returns-2
-    go-down-requires
+    go-down-any-requires
     same-length
-    returns-3)
+    returns-3
+    go-down-requires
+    same-length-2
+    returns-4)
