@@ -10,7 +10,7 @@ use Rattle.lists.specs.Lists.{any}
 use Rattle.dominance.specs.Renewal.{quoteAt}
 use Rattle.skyline.specs.Skyline.{windowStart}
 use Rattle.head.specs.declared.Head.{Head}
-use Rattle.replies.specs.Replies.{Finding, yes}
+use Rattle.head.specs.Replies.{Finding, yes}
 use Rattle.head.specs.Heads.{settingsHold, lastPosition}
 use Rattle.head.proofs.Settings.{settings-within}
 use Rattle.model.specs.Rows.{Row, Tables, rowsIn, filled}

@@ -3,7 +3,7 @@ use mathlib.Core.Path.{_≡_, refl, sym, _∙_}
 use mathlib.Core.Bool.{true}
 use Rattle.lists.proofs.Booleans.{clash}
 use Rattle.head.specs.declared.Head.{Head}
-use Rattle.replies.specs.Replies.{yes}
+use Rattle.head.specs.Replies.{yes}
 use Rattle.head.specs.Heads.{settingsHold}
 use Rattle.model.specs.Reference.{Reference, unopened, rowOf, rowsOf, headOf, isOpen}
 use Rattle.model.specs.Calls.{Lent, World, Expected, Reached}

@@ -13,7 +13,7 @@ use Rattle.lists.proofs.Booleans.{and-left, and-right, none-left, none-right}
 use Rattle.head.specs.declared.Head.{Head}
 use Rattle.refusals.specs.declared.Refusal.the-variants.{Settings, ShortLoan}
 use Rattle.refusals.specs.Refusals.{number, firstOf}
-use Rattle.replies.specs.Replies.{yes}
+use Rattle.head.specs.Replies.{yes}
 use Rattle.head.specs.Heads.{settingsHold}
 use Rattle.model.specs.Rows.{Row, Tables}
 use Rattle.model.specs.Book.{shortTables, tornRows, bookRows}

@@ -10,7 +10,7 @@ use Rattle.lists.specs.Lists.{filter, any, headOr, lastOr}
 use Rattle.head.specs.declared.Head.{Head}
 use Rattle.refusals.specs.declared.Refusal.the-variants.{Settings, ShortLoan}
 use Rattle.refusals.specs.Refusals.{number, firstOf}
-use Rattle.replies.specs.Replies.{Finding, yes, no, refused}
+use Rattle.head.specs.Replies.{Finding, yes, no, refused}
 use Rattle.head.specs.Heads.{settingsHold}
 use Rattle.model.specs.Rows.{Row, Tables, filled, overOlder, overYounger}
 use Rattle.model.specs.Reference.{Reference, unopened, ample, Told, headOf, rowsOf, referenceStep}

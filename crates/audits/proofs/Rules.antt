@@ -18,8 +18,8 @@ use Rattle.model.specs.Book.{tornRows, bookRows}
 use Rattle.audit_model.specs.Audit.{rightLower, rightUpper, wrongEnd, zeroFrom, passes}
 use Rattle.model.specs.Promises.{tables}
 use Rattle.model.proofs.Torn.{Whole, untorn-whole, window-bounded}
-use Rattle.rows.proofs.Reading.{length-rows}
-use Rattle.rows.proofs.Torn.{torn-columns}
+use Rattle.cells.proofs.Reading.{length-rows}
+use Rattle.cells.proofs.Torn.{torn-columns}
 use Rattle.audits.specs.Ends.{positionAt, overYoungerAt, overOlderAt, lowerFound, upperFound, wrongAt}
 
 -- ---- rows whose positions rise by one from place to place

@@ -15,7 +15,7 @@ use Rattle.dominance.specs.Compared.{compared}
 use Rattle.dominance.proofs.Comparing.{no-worse-by, dominated-by, compared-take}
 use Rattle.model.specs.Rows.{rowAt, overOlder, overYounger}
 use Rattle.model.specs.Promises.{tables}
-use Rattle.rows.proofs.Reading.{row-within}
+use Rattle.cells.proofs.Reading.{row-within}
 use Rattle.audits.specs.Ends.{positionAt, overYoungerAt, overOlderAt, lowerFound, upperFound}
 
 -- ---- one comparison of two rows

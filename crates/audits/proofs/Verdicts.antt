@@ -4,7 +4,7 @@ use mathlib.Core.Bool.{Bool, true, false}
 use Rattle.head.specs.declared.Head.{Head}
 use Rattle.refusals.specs.declared.Refusal.the-variants.{Settings, ShortLoan}
 use Rattle.refusals.specs.Refusals.{number, firstOf}
-use Rattle.replies.specs.Replies.{refused}
+use Rattle.head.specs.Replies.{refused}
 use Rattle.head.specs.Heads.{settingsHold}
 use Rattle.model.specs.Rows.{Tables}
 use Rattle.model.specs.Book.{shortTables}

@@ -1,11 +1,18 @@
-// The calls of a book that change no record, for callers that hold plain values: the eight records go in by value.
+// The calls of a book for callers that hold plain values: the eight records go in by value. Those here change no record; those that may hand
+// the records back (src/changed.rt).
+mod changed;
+
+pub use changed::RecordReply;
+pub use changed::end;
+pub use changed::open;
+pub use changed::watch;
 ghost use Rattle.model.specs.Promises.{tables, Quoted, QuotedLooked, Previewed, Paired, Unpaired};
 ghost use Rattle.watch_records.specs.Records.{watched};
 use head::Head;
 use head::Watch;
-use replies::BothReply;
-use replies::Effect;
-use replies::Reply;
+use head::BothReply;
+use head::Effect;
+use head::Reply;
 
 // Takes a quote.
 pub fn quote(

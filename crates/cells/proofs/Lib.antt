@@ -5,3 +5,6 @@ pub mod Shifting
 pub mod Renaming
 pub mod Settling
 pub mod Marking
+pub mod Reading
+pub mod Passing
+pub mod Torn

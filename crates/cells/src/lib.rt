@@ -1,4 +1,8 @@
-// Cells of one lent table: rows moved to the front, one row more put behind them, zeros up to a place, and cells stored at listed places.
+// Cells of one lent table: rows moved to the front, one row more put behind them, zeros up to a place, and cells stored at listed places;
+// and the test of torn rows.
+mod rows;
+
+pub use rows::torn_rows;
 ghost use mathlib.Core.Path.{_≡_};
 ghost use mathlib.Core.Bool.{cond};
 ghost use Prim.Native.Nat.{_+_, _-_, _≤_, _<_, min};

@@ -38,14 +38,14 @@ use Rattle.head.proofs.Desk.Laws as D′
 use Rattle.head.proofs.Watch as T
 use Rattle.model.specs.Book.{standing}
 use Rattle.watch_records.specs.Records.{watched}
-use Rattle.watches.specs.Vacancy.{Vacant}
+use Rattle.desk_shares.specs.Vacancy.{Vacant}
 use Rattle.watch_records.proofs.DeskValues.{desk-value, desk-values, is-desk}
 use Rattle.watch_records.proofs.Lending.{at-name}
 use Rattle.watch_records.proofs.insert_record as inserting
 use Rattle.watch_records.proofs.insert_record.Symbol.{name as #watch-records·insert-record}
 use Rattle.watch_records.proofs.remove_record as removing
 use Rattle.watch_records.proofs.remove_record.Symbol.{name as #watch-records·remove-record}
-use Rattle.replies.proofs.Reply as R
+use Rattle.head.proofs.replies.Reply as R
 use Rattle.watching.specs.declared.Judgement.{Judgement}
 use Rattle.watching.proofs.Judgement as J
 use Rattle.watching.proofs.Judgement.Laws as J′

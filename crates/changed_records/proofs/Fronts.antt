@@ -17,11 +17,11 @@ use Rattle.head.specs.declared.Watch.{Watch}
 use Rattle.head.specs.Desks.{watchOf}
 use Rattle.refusals.specs.Refusals.{granted}
 use Rattle.refusals.proofs.Numbers.{zero-passed}
-use Rattle.replies.specs.declared.Reply.{Reply}
+use Rattle.head.specs.declared.replies.Reply.{Reply}
 use Rattle.model.specs.Rows.{Tables}
 use Rattle.model.specs.Book.{shortTables, shortLoan, standing, watchfulAnswer, openAnswer, openReply, openTables, openWatches, watchBytes, watchAnswer, watchReply, watchOut, endAnswer, endReply}
 use Rattle.watch_records.specs.Records.{recordNumber, watched, firstEight, stored}
-use Rattle.watches.specs.Vacancy.{Vacant}
+use Rattle.desk_shares.specs.Vacancy.{Vacant}
 use Rattle.model.specs.Promises.{Opened, Watched, Ended}
 use Rattle.watching.specs.declared.Judgement.{Judgement}
 use Rattle.watching.specs.Judged.{WatchJudged, EndJudged}

@@ -4,7 +4,7 @@ ghost use Rattle.model.specs.Promises.{tables, Watched, Ended};
 use head::Desk;
 use head::Head;
 use head::Watch;
-use replies::Reply;
+use head::Reply;
 use watch_records::insert_record;
 use watch_records::numbers;
 use watch_records::remove_record;

@@ -7,7 +7,7 @@ use lib.ListN.{take}
 use mathlib.Core.Bool.{Bool, cond}
 use Rattle.refusals.specs.declared.Refusal.the-variants.{Settings}
 use Rattle.refusals.specs.Refusals.{number, firstOf}
-use Rattle.replies.specs.Replies.{yes, refused}
+use Rattle.head.specs.Replies.{yes, refused}
 use Rattle.head.specs.Heads.{freshHead, settingsHold}
 use Rattle.model.specs.Reference.{unopened, headOf, isOpen}
 use Rattle.model.specs.Calls.{Call, Quote, Look, Preview, Both, Outputs, Lending, Lent, Seen, Expected, World, bookSeen, worldAfter, bookStep, runs, worldFirst, expectedAtEnd, worldAtEnd, referenceAtEnd}

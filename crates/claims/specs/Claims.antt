@@ -8,13 +8,13 @@ use lib.Dec.{leb, eqb}
 use lib.ListN.{length, take, drop}
 use Rattle.head.specs.declared.Head.{Head}
 use Rattle.head.specs.declared.Desk.{Desk}
-use Rattle.replies.specs.declared.Reply.{Reply}
-use Rattle.replies.specs.declared.Effect.{Effect}
-use Rattle.replies.specs.declared.BothReply.{BothReply}
+use Rattle.head.specs.declared.replies.Reply.{Reply}
+use Rattle.head.specs.declared.replies.Effect.{Effect}
+use Rattle.head.specs.declared.replies.BothReply.{BothReply}
 use Rattle.head.specs.Heads.{freshHead, lastPosition}
 use Rattle.refusals.specs.declared.Refusal.the-variants.{Settings}
 use Rattle.refusals.specs.Refusals.{number, granted}
-use Rattle.replies.specs.Replies.{outcome, yes, refused}
+use Rattle.head.specs.Replies.{outcome, yes, refused}
 use Rattle.model.specs.Rows.{Row, Tables, joinsAfter}
 use Rattle.model.specs.Changes.{changeRoom}
 use Rattle.model.specs.Reference.{Reference, newest, skylineOf, pastOf, dueOf, headOf, isOpen, withQuotes}

@@ -1,10 +1,12 @@
-// The two turns of the drill, which call each other: each quote laid leaves one fewer in hand.
+// The two turns of the drill, which call each other: each quote laid leaves one fewer in hand; and the last list, on which they end.
+mod last_list;
+
+pub use last_list::Rules;
+pub use last_list::first_stands;
 ghost use mathlib.Core.Path.{_≡_};
 ghost use Prim.Native.Nat.{_+_, _-_, _<_, _≤_};
-ghost use Rattle.drill_lists.specs.Numbers.{Fits};
+ghost use Rattle.drill_turns.specs.Numbers.{Fits};
 ghost use Rattle.drill_turns.specs.Plays.{Fair, LeftOf, Started, LaidFirst, LaidSecond, placeIn, winsIn};
-use drill_lists::Rules;
-use drill_lists::first_stands;
 
 // A play: the numbers of the quotes in each hand, as many as are left, and of those laid, in their order.
 pub struct Play {

@@ -7,7 +7,7 @@ use Rattle.refusals.specs.declared.Answer.the-variants.{Accepted, Refused}
 use Rattle.refusals.specs.Refusals.{number, numberOf, firstOf, granted}
 use Rattle.refusals.proofs.Numbers.{accepted-number, refused-number, refused-granted}
 use Rattle.drill_model.specs.Drill.{drillPlace}
-use Rattle.drill_lists.specs.declared.Rules.{Rules}
+use Rattle.drill_turns.specs.declared.last_list.Rules.{Rules}
 use Rattle.drills.specs.declared.Hand.{Hand}
 use Rattle.drills.specs.Drills.{quotesOf, refusals, yes, no, refused, answered, drilled}
 

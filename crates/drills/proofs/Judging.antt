@@ -16,8 +16,8 @@ use Rattle.head.specs.Heads.{freshHead, settingsHold}
 use Rattle.head.proofs.Settings.{settings-within}
 use Rattle.refusals.specs.Refusals.{firstOf}
 use Rattle.refusals.proofs.Numbers.{zero-passed}
-use Rattle.drill_lists.specs.declared.Rules.{Rules}
-use Rattle.drill_lists.proofs.Laid.{any-more}
+use Rattle.drill_turns.specs.declared.last_list.Rules.{Rules}
+use Rattle.drill_turns.proofs.Laid.{any-more}
 use Rattle.drills.specs.declared.Hand.{Hand}
 use Rattle.drills.specs.Drills.{uneven, refusals, Small}
 

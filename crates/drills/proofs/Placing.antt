@@ -16,8 +16,8 @@ use Rattle.drill_model.specs.Drill.{Held, held, noQuote, handOf, firstStands, d
 use Rattle.drill_model.proofs.Hands.{length-mapped}
 use Rattle.drill_model.proofs.Turned.{best-mapped}
 use Rattle.drill_model.proofs.Drilled.{place-within}
-use Rattle.drill_lists.specs.declared.Rules.{Rules}
-use Rattle.drill_lists.specs.Numbers.{numbered, wonBy}
+use Rattle.drill_turns.specs.declared.last_list.Rules.{Rules}
+use Rattle.drill_turns.specs.Numbers.{numbered, wonBy}
 use Rattle.drill_turns.specs.declared.Play.{Play}
 use Rattle.drill_turns.specs.Plays.{Started, placeIn}
 use Rattle.drills.specs.declared.Hand.{Hand}

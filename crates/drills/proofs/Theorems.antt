@@ -7,7 +7,7 @@ use Rattle.refusals.specs.Refusals.{firstOf, granted}
 use Rattle.drill_model.specs.Drill.{noQuote, firstStands, drillPlace}
 use Rattle.drill_model.proofs.Choosing.{way-of-wins, wins-of-way}
 use Rattle.drill_model.proofs.Drilled.{named-keeps, keeps-named, none-wins, wins-none}
-use Rattle.drill_lists.specs.declared.Rules.{Rules}
+use Rattle.drill_turns.specs.declared.last_list.Rules.{Rules}
 use Rattle.drills.specs.declared.Hand.{Hand}
 use Rattle.drills.specs.declared.Outcome.{Outcome}
 use Rattle.drills.specs.Drills.{quotesOf, refusals, yes, no, refused, saying, answered, drilled, Accepted, Winning, Keeping, WinningByWay}

@@ -12,7 +12,7 @@ use Rattle.refusals.specs.Refusals.{number, firstOf, granted}
 use Rattle.drill_model.specs.Turns.{First, Second}
 use Rattle.drill_model.specs.Ways.{WinningWay}
 use Rattle.drill_model.specs.Drill.{noQuote, handOf, firstStands, WinsDrill, KeepsDrill, drillPlace}
-use Rattle.drill_lists.specs.declared.Rules.{Rules}
+use Rattle.drill_turns.specs.declared.last_list.Rules.{Rules}
 use Rattle.drills.specs.declared.Hand.{Hand}
 use Rattle.drills.specs.declared.Outcome.{Outcome}
 use Rattle.drills.specs.declared.Outcome.the-variants.{Yes, No, Refused}

@@ -6,7 +6,7 @@ ghost use lib.ListN.{length};
 ghost use Rattle.refusals.specs.Refusals.{numberOf, firstOf};
 ghost use Rattle.drill_model.specs.Drill.{drillPlace};
 ghost use Rattle.drills.specs.Drills.{uneven, quotesOf, refusals, Small, saying, drilled};
-pub use drill_lists::Rules;
+pub use drill_turns::Rules;
 use drill_turns::Play;
 use drill_turns::first_turn;
 use head::Head;

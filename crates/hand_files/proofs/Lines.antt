@@ -11,7 +11,7 @@ use Rattle.drills.specs.declared.Hand.{Hand}
 use Rattle.drills.specs.declared.Outcome.{Outcome}
 use Rattle.drills.specs.declared.Outcome.the-variants as Outcome
 use Rattle.drills.specs.Drills as Drills
-use Rattle.drill_lists.specs.declared.Rules.{Rules}
+use Rattle.drill_turns.specs.declared.last_list.Rules.{Rules}
 use Rattle.hand_files.specs.declared.Handful.{Handful}
 use Rattle.hand_files.specs.Files.{handed, handIn, filesDrilled, lineOf}
 

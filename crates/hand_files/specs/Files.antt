@@ -11,7 +11,7 @@ use Rattle.frames.specs.Frames.{Saying, told, ended, refused, readAt}
 use Rattle.text.specs.Text.{line, line2}
 use Rattle.drills.specs.declared.Hand.{Hand}
 use Rattle.drills.specs.Drills as Drills
-use Rattle.drill_lists.specs.declared.Rules.{Rules}
+use Rattle.drill_turns.specs.declared.last_list.Rules.{Rules}
 use Rattle.line_fields.specs.declared.Fields.{Fields}
 use Rattle.hand_files.specs.declared.Asked.{Asked}
 use Rattle.hand_files.specs.declared.Handful.{Handful}

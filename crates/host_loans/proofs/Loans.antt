@@ -18,10 +18,10 @@ use Rattle.refusals.specs.declared.Refusal.the-variants.{Settings, ShortLoan}
 use Rattle.refusals.specs.declared.Answer.the-variants.{Refused}
 use Rattle.refusals.specs.Refusals.{number, numberOf, firstOf, granted}
 use Rattle.refusals.proofs.Numbers.{granted-refused, refused-granted, accepted-granted}
-use Rattle.replies.specs.declared.Reply.{Reply}
-use Rattle.replies.specs.declared.Effect.{Effect}
-use Rattle.replies.specs.declared.BothReply.{BothReply}
-use Rattle.replies.specs.Replies.{Outcome, outcome}
+use Rattle.head.specs.declared.replies.Reply.{Reply}
+use Rattle.head.specs.declared.replies.Effect.{Effect}
+use Rattle.head.specs.declared.replies.BothReply.{BothReply}
+use Rattle.head.specs.Replies.{Outcome, outcome}
 use Rattle.model.specs.Rows.{Tables}
 use Rattle.model.specs.Book.{watchfulAnswer, replyOf, openReply, openTables, openWatches, quoteAnswer, bothAnswer, bothReply, bothListed, bothTables, bothOut, bothCells, watchAnswer, watchReply, watchWatches, endAnswer, endReply, endWatches, pairAnswer, unpairAnswer, unpairReply}
 use Rattle.model.specs.Promises.{Opened, Quoted, QuotedLooked, Previewed, Watched, Ended, Paired, Unpaired}
@@ -30,7 +30,7 @@ use Rattle.watch_records.specs.Records.{watched}
 use Rattle.judging.specs.Answers.{shortLoanAnswer}
 use Rattle.judging.proofs.Answering.{short-watchful, short-open}
 use Rattle.watching.proofs.Watches as watching
-use Rattle.pairing.proofs.Pairs.{pair-refused}
+use Rattle.watching.proofs.Pairs.{pair-refused}
 use Rattle.quoting.proofs.Quotes.{quote-refused}
 use Rattle.previewing.specs.Effects.{effectOf}
 use Rattle.previewing.proofs.Previews.{tells-quote}

@@ -35,7 +35,7 @@ pub extern "C" fn bqb_open(
     if watches.len() < 16 {
         return short_answer(Head::fresh(dimensions, capacity, directions));
     }
-    let made = changed_by_value::open(
+    let made = by_value::open(
         dimensions,
         capacity,
         directions,

@@ -36,7 +36,7 @@ pub extern "C" fn bqb_set_watch(
         return short_answer(before);
     }
     let whose = desk_of(desk);
-    let made = changed_by_value::watch(
+    let made = by_value::watch(
         before,
         whose,
         n,
@@ -81,7 +81,7 @@ pub extern "C" fn bqb_end_watch(
         return short_answer(before);
     }
     let owner = desk_of(desk);
-    let made = changed_by_value::end(
+    let made = by_value::end(
         before,
         owner,
         n,

@@ -23,7 +23,7 @@ use Rattle.frame_writer.specs.declared.Written.{Written}
 use Rattle.frame_writer.specs.Writing.{writeAnswer, Wrote}
 use Rattle.line_fields.specs.declared.Fields.{Fields}
 use Rattle.line_fields.specs.Fields.{noField, scanOf, fieldsBy, step, after, fieldsFrom}
-use Rattle.csv_lines.specs.Lines.{lines, lineFields, fits, allFit}
+use Rattle.imports.specs.Lines.{lines, lineFields, fits, allFit}
 use Rattle.imports.specs.declared.Line.{Line}
 use Rattle.imports.specs.Imports.{lineFrame, framesOf}
 use Rattle.imports.specs.Reading.{LineAt, Ready}

@@ -15,7 +15,7 @@ use Rattle.refusals.specs.declared.Answer.the-variants.{Accepted, Refused}
 use Rattle.refusals.specs.declared.Refusal.the-variants.{Settings, MalformedLine, ShortOutput}
 use Rattle.refusals.specs.Refusals.{firstOf, granted}
 use Rattle.frame_kinds.specs.Kinds.{within}
-use Rattle.csv_lines.specs.Lines.{lines, fits, allFit}
+use Rattle.imports.specs.Lines.{lines, fits, allFit}
 use Rattle.imports.specs.declared.Judged.{Judged}
 use Rattle.imports.specs.declared.Imported.{Imported}
 use Rattle.imports.specs.Imports.{misfitFrom, misfit, framesOf, importAnswer, importLine, Imports}

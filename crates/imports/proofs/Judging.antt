@@ -8,7 +8,7 @@ use mathlib.Core.List.{List, [], _∷_}
 use lib.ListN.{length, drop, drop-of-length-le}
 use borrow.Author.Tests.{not-true, not-false}
 use Rattle.refusals.specs.Refusals.{granted}
-use Rattle.csv_lines.specs.Lines.{lines, fits}
+use Rattle.imports.specs.Lines.{lines, fits}
 use Rattle.imports.specs.declared.Line.{Line}
 use Rattle.imports.specs.declared.Judged.{Judged}
 use Rattle.imports.specs.Imports.{misfitFrom, misfit}

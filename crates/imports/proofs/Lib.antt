@@ -4,3 +4,6 @@ pub mod Judging
 pub mod Frames
 pub mod Importing
 pub mod Theorems
+pub mod Cutting
+pub mod Unique
+pub mod Rows

@@ -14,8 +14,8 @@ use Rattle.lists.proofs.Booleans.{either, clash, and-false}
 use Rattle.line_fields.specs.declared.Fields.{Fields}
 use Rattle.line_fields.specs.declared.Scanned.{Scanned}
 use Rattle.line_fields.specs.Fields.{oneField, fieldsFrom, fieldBytes, fieldsAt, inFields}
-use Rattle.csv_lines.specs.Lines.{lines, lineFields, fits}
-use Rattle.csv_lines.proofs.Cutting.{plain, Stop, end, foreign, Fronted, fronted, front-plain, lines-front, lines-whole, lines-ended, line-fields, foreign-misfit, lines-begun, returns, returned}
+use Rattle.imports.specs.Lines.{lines, lineFields, fits}
+use Rattle.imports.proofs.Cutting.{plain, Stop, end, foreign, Fronted, fronted, front-plain, lines-front, lines-whole, lines-ended, line-fields, foreign-misfit, lines-begun, returns, returned}
 use Rattle.imports.specs.declared.Line.{Line}
 use Rattle.imports.specs.Reading.{lineEnds, behindEnd, LineAt}
 

@@ -25,9 +25,9 @@ use Rattle.frames.proofs.RoundTrips.{read-after-write}
 use Rattle.line_fields.specs.Fields.{small}
 use Rattle.line_fields.specs.declared.Fields.{Fields}
 use Rattle.line_fields.proofs.Spelled.{fieldsOf}
-use Rattle.csv_lines.specs.Lines.{lines, lineFields, fits, allFit}
-use Rattle.csv_lines.specs.Spelling.{row, quotesOf, Spells}
-use Rattle.csv_lines.proofs.Rows.{row-fields, spelled-lines, quotes-of, lines-spelled}
+use Rattle.imports.specs.Lines.{lines, lineFields, fits, allFit}
+use Rattle.imports.specs.Spelling.{row, quotesOf, Spells}
+use Rattle.imports.proofs.Rows.{row-fields, spelled-lines, quotes-of, lines-spelled}
 use Rattle.imports.specs.Imports.{misfitFrom, misfit, lineFrame, framesOf, importAnswer, importLine, SpelledAs, FirstMisfit}
 use Rattle.imports.proofs.Frames.{quote-framed, quote-long, frames-long}
 use Rattle.imports.proofs.Importing.{none-misfit-fits}

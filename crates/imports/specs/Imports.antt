@@ -12,8 +12,8 @@ use Rattle.frame_kinds.specs.Kinds.{within}
 use Rattle.frames.specs.declared.Message.the-variants.{Quote}
 use Rattle.frames.specs.Frames.{frame}
 use Rattle.line_fields.specs.declared.Fields.{Fields}
-use Rattle.csv_lines.specs.Lines.{lines, lineFields, fits, allFit}
-use Rattle.csv_lines.specs.Spelling.{Spells}
+use Rattle.imports.specs.Lines.{lines, lineFields, fits, allFit}
+use Rattle.imports.specs.Spelling.{Spells}
 use Rattle.imports.specs.declared.Imported.{Imported}
 
 -- the number of the first of these lines that does not fit, where they are counted from this number on; 0 where all fit

@@ -6,7 +6,7 @@ use mathlib.Core.List.{List, [], _∷_}
 use lib.Dec.{ltb, eqb}
 use lib.ListN.{length, drop}
 use Rattle.refusals.specs.Refusals.{granted}
-use Rattle.csv_lines.specs.Lines.{lines, lineFields, fits, allFit}
+use Rattle.imports.specs.Lines.{lines, lineFields, fits, allFit}
 use Rattle.imports.specs.declared.Line.{Line}
 use Rattle.imports.specs.declared.Judged.{Judged}
 use Rattle.imports.specs.Imports.{misfit, framesOf}

@@ -1,9 +1,9 @@
-// Quotes from a spreadsheet: the frames of the lines of a file, if every line fits.
+// Quotes from a spreadsheet: how a file is cut, which lines fit, what spells quotes, and the frames of the lines of a file, if every line fits.
 ghost use mathlib.Core.Path.{_≡_};
 ghost use Prim.Native.Nat.{_+_, _*_, _≤_, _<_};
 ghost use lib.ListN.{length, drop};
 ghost use Rattle.lists.specs.Lists.{laid};
-ghost use Rattle.csv_lines.specs.Lines.{lines};
+ghost use Rattle.imports.specs.Lines.{lines};
 ghost use Rattle.imports.specs.Imports.{framesOf, Imports};
 ghost use Rattle.imports.specs.Reading.{lineEnds, behindEnd, LineAt, judgement, Ready};
 use frames::Message;

@@ -14,9 +14,9 @@ ghost use Rattle.judging.specs.Answers.{loanAnswer, rowsAnswer};
 use head::Head;
 use refusals::Answer;
 use refusals::Refusal;
-use rows::torn_rows;
-use sizes::CHANGE_BYTES;
-use watches::torn;
+use cells::torn_rows;
+use head::CHANGE_BYTES;
+use desk_shares::torn;
 
 // Whether a table is shorter than the settings ask.
 pub fn short_tables(

@@ -13,13 +13,13 @@ use Rattle.lists.proofs.Filters.{length-filter}
 use Rattle.lists.proofs.Runs.{length-run, filter-from}
 use Rattle.skyline.specs.Skyline.{windowStart}
 use Rattle.head.specs.declared.Head.{Head}
-use Rattle.replies.specs.declared.Reply.{Reply}
+use Rattle.head.specs.declared.replies.Reply.{Reply}
 use Rattle.refusals.specs.declared.Answer.{Answer}
 use Rattle.refusals.specs.declared.Answer.the-variants.{Accepted, Refused}
 use Rattle.refusals.specs.declared.Refusal.{Refusal}
 use Rattle.refusals.specs.declared.Refusal.the-variants.{ShortOutput}
 use Rattle.refusals.specs.Refusals.{number, numberOf, firstOf, granted}
-use Rattle.replies.specs.Replies.{outcome}
+use Rattle.head.specs.Replies.{outcome}
 use Rattle.refusals.proofs.Numbers.{zero-passed, accepted-number, firstOf-append, accepted-granted, positive}
 use Rattle.model.specs.Rows.{Tables, listed}
 use Rattle.model.specs.Book.{answerOf, bookRows, listOf, pastListOf, replyOf, lookCells, lookAnswer, lookReply, lookOut, pastCells, pastAnswer, pastReply, pastOut}

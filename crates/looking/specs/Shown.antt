@@ -7,10 +7,10 @@ use mathlib.Core.Bool.{_||_}
 use lib.ListN.{length}
 use Rattle.lists.specs.Lists.{laid}
 use Rattle.head.specs.declared.Head.{Head}
-use Rattle.replies.specs.declared.Reply.{Reply}
+use Rattle.head.specs.declared.replies.Reply.{Reply}
 use Rattle.refusals.specs.declared.Refusal.the-variants.{ShortOutput, WindowSize, WindowOrder}
 use Rattle.refusals.specs.Refusals.{number, firstOf, granted}
-use Rattle.replies.specs.Replies.{outcome}
+use Rattle.head.specs.Replies.{outcome}
 use Rattle.model.specs.Rows.{Tables}
 use Rattle.model.specs.Book.{answerOf, outOfRange, replyOf}
 

@@ -1,4 +1,7 @@
-// The looks: the list of n, and the past list of n1 and n2, written into lent cells.
+// The looks: the list of n, and the past list of n1 and n2, written into lent cells; and what is due of the pair.
+mod due_rows;
+
+pub use due_rows::due;
 ghost use mathlib.Core.Path.{_≡_};
 ghost use Prim.Native.Nat.{_+_, _-_, _≤_};
 ghost use mathlib.Core.Bool.{_||_};
@@ -19,7 +22,7 @@ use listing::start_of;
 use listing::write_listed;
 use refusals::Answer;
 use refusals::Refusal;
-use replies::Reply;
+use head::Reply;
 
 // The answer of a look at the list of n but for the output: 3, 11, 12, 5.
 fn judge_size(

@@ -9,7 +9,7 @@ use lib.ListN.{length, take, replicate}
 use Rattle.lists.specs.Lists.{headOr, run}
 use Rattle.head.specs.declared.Head.{Head}
 use Rattle.head.specs.declared.Desk.the-variants.{One, Two}
-use Rattle.replies.specs.Replies.{Finding, yes, no, refused}
+use Rattle.head.specs.Replies.{Finding, yes, no, refused}
 use Rattle.head.specs.Desks.{recordOf}
 use Rattle.model.specs.Rows.{Row, Tables, liveRows}
 use Rattle.model.specs.Changes.{changeRoom}

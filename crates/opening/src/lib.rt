@@ -6,8 +6,8 @@ use cells::clear;
 use head::Head;
 use judging::judge_loan;
 use refusals::Answer;
-use replies::Reply;
-use watches::WatchReply;
+use head::Reply;
+use desk_shares::WatchReply;
 
 // Begins a new book: the head is fresh, the places of the tables are zeros, and nothing is watched.
 pub fn open(

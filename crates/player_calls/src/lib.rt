@@ -1,6 +1,6 @@
 // The calls that write the tables, the opening, the quote and the quote and look in one, made on the parts of the buffers that are lent.
 ghost use Prim.Native.Nat.{_≤_};
-use changed_by_value::RecordReply;
+use by_value::RecordReply;
 use player_lines::Command;
 use player_lines::Line;
 use player_lines::quoted;
@@ -10,8 +10,8 @@ use player_state::Seen;
 use player_state::State;
 use player_state::least;
 use refusals::Answer;
-use replies::BothReply;
-use replies::Reply;
+use head::BothReply;
+use head::Reply;
 
 // Whether a reply accepts.
 fn accepts(reply: Reply) -> bool {
@@ -56,7 +56,7 @@ fn write_lent(
     let held = state.records;
     match command {
         Command::Open => {
-            let made = changed_by_value::open(
+            let made = by_value::open(
                 n[0],
                 n[1],
                 n[2],

@@ -9,13 +9,13 @@ use player_output::put_word;
 use player_state::Seen;
 use player_state::State;
 use refusals::Answer;
-use replies::BothReply;
-use replies::Effect;
-use replies::Reply;
-use replies::Verdict;
-use sizes::CHANGE_BYTES;
-use sizes::COLUMN_CELLS;
-use sizes::PLACES;
+use head::BothReply;
+use head::Effect;
+use head::Reply;
+use head::Verdict;
+use head::CHANGE_BYTES;
+use head::COLUMN_CELLS;
+use head::PLACES;
 
 // The number of an answer: 0 where it accepts.
 fn number(answer: Answer) -> u32 {

@@ -7,9 +7,9 @@ use book::past;
 use by_value::pair;
 use by_value::preview;
 use by_value::unpair;
-use changed_by_value::RecordReply;
-use changed_by_value::end;
-use changed_by_value::watch;
+use by_value::RecordReply;
+use by_value::end;
+use by_value::watch;
 use head::Head;
 use player_lines::Command;
 use player_lines::Line;
@@ -18,8 +18,8 @@ use player_lines::quoted;
 use player_state::Seen;
 use player_state::State;
 use player_state::least;
-use sizes::COLUMN_CELLS;
-use sizes::PLACES;
+use head::COLUMN_CELLS;
+use head::PLACES;
 
 // How many cells as many rows have, two for each.
 fn row_cells(count: usize) -> usize {

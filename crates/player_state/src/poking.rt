@@ -14,9 +14,9 @@ use player_lines::OUT;
 use player_lines::POSITIONS;
 use player_lines::UPPER;
 use player_lines::WATCHES;
-use sizes::CHANGE_BYTES;
-use sizes::COLUMN_CELLS;
-use sizes::PLACES;
+use head::CHANGE_BYTES;
+use head::COLUMN_CELLS;
+use head::PLACES;
 
 // How long a buffer is that can be lent.
 fn length(name: u64) -> usize {

@@ -1,7 +1,7 @@
 -- What a preview tells of a quote's reply.
 use Rattle.head.specs.declared.Head.{Head}
-use Rattle.replies.specs.declared.Reply.{Reply}
-use Rattle.replies.specs.declared.Effect.{Effect}
+use Rattle.head.specs.declared.replies.Reply.{Reply}
+use Rattle.head.specs.declared.replies.Effect.{Effect}
 
 -- the reply's answer and count with head h, and the live and the held rows of the reply's own head
 abbrev pub effectOf : Head → Reply → Effect

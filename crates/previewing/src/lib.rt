@@ -7,10 +7,10 @@ ghost use Rattle.previewing.specs.Effects.{effectOf};
 use head::Head;
 use quoting::judge;
 use refusals::Answer;
-use replies::Effect;
-use replies::Reply;
+use head::Effect;
+use head::Reply;
 use settling::find;
-use sizes::PLACES;
+use head::PLACES;
 use writing::accept;
 use writing::write;
 

@@ -9,7 +9,7 @@ use lib.Seq.{take-all, getD-take}
 use Rattle.skyline.specs.Skyline.{windowStart}
 use Rattle.head.specs.declared.Head.{Head}
 use Rattle.refusals.specs.Refusals.{firstOf, granted}
-use Rattle.replies.specs.Replies.{Outcome}
+use Rattle.head.specs.Replies.{Outcome}
 use Rattle.model.specs.Rows.{Tables}
 use Rattle.model.specs.Book.{listOf, replyOf, quoteHead, quoteAnswer, quoteReply, quoteTables, lookCells, bothList}
 use Rattle.model.proofs.LookAfter.{head-after, judged-after}

@@ -26,11 +26,11 @@ use quoting::enter;
 use quoting::judge;
 use refusals::Answer;
 use refusals::Refusal;
-use replies::BothReply;
-use replies::Reply;
+use head::BothReply;
+use head::Reply;
 use settling::Finding;
 use settling::find;
-use sizes::PLACES;
+use head::PLACES;
 
 // What a quote and look in one hands back, and how many places later its rows begin where none was moved.
 pub struct BothEntered {

@@ -14,7 +14,7 @@ use Rattle.head.specs.declared.Head.{Head}
 use Rattle.refusals.specs.declared.Answer.{Answer}
 use Rattle.refusals.specs.declared.Answer.the-variants.{Refused}
 use Rattle.refusals.specs.declared.Refusal.{Refusal}
-use Rattle.replies.specs.declared.Reply.{Reply}
+use Rattle.head.specs.declared.replies.Reply.{Reply}
 use Rattle.head.specs.Heads.{settingsHold, lastPosition, afterQuote}
 use Rattle.refusals.specs.Refusals.{numberOf, granted}
 use Rattle.refusals.proofs.Numbers.{accepted-granted}

@@ -14,10 +14,10 @@ use Rattle.head.specs.declared.Head.{Head}
 use Rattle.refusals.specs.declared.Answer.{Answer}
 use Rattle.refusals.specs.declared.Answer.the-variants.{Accepted, Refused}
 use Rattle.refusals.specs.declared.Refusal.{Refusal}
-use Rattle.replies.specs.declared.Reply.{Reply}
+use Rattle.head.specs.declared.replies.Reply.{Reply}
 use Rattle.head.specs.Heads.{lastPosition, afterQuote}
 use Rattle.refusals.specs.Refusals.{numberOf}
-use Rattle.replies.specs.Replies.{outcome}
+use Rattle.head.specs.Replies.{outcome}
 use Rattle.refusals.proofs.Numbers.{zero-passed}
 use Rattle.model.specs.Rows.{Row, Tables, filled, rowsAfter}
 use Rattle.model.specs.Changes.{allChanges, pairChanges, changeRoom}

@@ -14,13 +14,13 @@ mod judged;
 use head::Head;
 pub use judged::judge;
 use refusals::Answer;
-use replies::Reply;
+use head::Reply;
 use settling::Finding;
 use settling::find;
 use settling::settle;
 use settling::settle_lower_ends;
 use settling::settle_upper_ends;
-use sizes::PLACES;
+use head::PLACES;
 use writing::accept;
 use writing::write;
 

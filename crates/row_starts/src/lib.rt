@@ -7,8 +7,8 @@ ghost use Rattle.model.specs.Promises.{tables};
 ghost use Rattle.row_starts.specs.Starts.{Long, Within, FullOpened, onward, Moved};
 use cells::shift;
 use head::Head;
-use sizes::COLUMN_CELLS;
-use sizes::PLACES;
+use head::COLUMN_CELLS;
+use head::PLACES;
 
 // Places of the tables that the rows slide through.
 pub const SLIDING_PLACES: usize = 2 * PLACES;

@@ -8,9 +8,9 @@ use lib.Dec.{ltb, leb·suc-zero, leb·suc-suc}
 use lib.ListN.{length, take, replicate, length-map}
 use lib.Seq.{take-take, take-nil}
 use Rattle.head.specs.declared.Head.{Head}
-use Rattle.replies.specs.declared.Reply.{Reply}
-use Rattle.replies.specs.declared.Effect.{Effect}
-use Rattle.replies.specs.declared.BothReply.{BothReply}
+use Rattle.head.specs.declared.replies.Reply.{Reply}
+use Rattle.head.specs.declared.replies.Effect.{Effect}
+use Rattle.head.specs.declared.replies.BothReply.{BothReply}
 use Rattle.head.specs.declared.Watch.{Watch}
 use Rattle.model.specs.Rows.{Tables}
 use Rattle.model.specs.Book.{shortLoan, standing, tornWatches, watchfulAnswer, quoteRows, quoteHead, quoteBytes, quoteAnswer, quoteReply, quoteTables, quoteOut, bothList, bothAnswer, bothReply, bothListed, bothTables, bothOut, bothCells, previewReply, previewCounts, previewOut, pairBytes, pairAnswer, pairReply, pairOut, unpairAnswer, unpairReply}

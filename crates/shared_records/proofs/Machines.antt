@@ -6,17 +6,17 @@ use denote.Laws.{Is}
 use denote.Struct.Declared.{Declared, row}
 use denote.Struct.Laws as LL
 use Rattle.head.specs.declared.Head.{Head}
-use Rattle.replies.specs.declared.Reply.{Reply}
-use Rattle.replies.specs.declared.Effect.{Effect}
-use Rattle.replies.specs.declared.BothReply.{BothReply}
+use Rattle.head.specs.declared.replies.Reply.{Reply}
+use Rattle.head.specs.declared.replies.Effect.{Effect}
+use Rattle.head.specs.declared.replies.BothReply.{BothReply}
 use Rattle.head.proofs.Head as Hd
 use Rattle.head.proofs.Head.Laws as Hd′
-use Rattle.replies.proofs.Reply as R
-use Rattle.replies.proofs.Reply.Laws as R′
-use Rattle.replies.proofs.Effect as E
-use Rattle.replies.proofs.Effect.Laws as E′
-use Rattle.replies.proofs.BothReply as B
-use Rattle.replies.proofs.BothReply.Laws as B′
+use Rattle.head.proofs.replies.Reply as R
+use Rattle.head.proofs.replies.Reply.Laws as R′
+use Rattle.head.proofs.replies.Effect as E
+use Rattle.head.proofs.replies.Effect.Laws as E′
+use Rattle.head.proofs.replies.BothReply as B
+use Rattle.head.proofs.replies.BothReply.Laws as B′
 
 abbrev pub headed : Head → List Val
 headed h = LL.vals Hd.the-type Hd′.the-laws h

@@ -3,9 +3,9 @@ ghost use Rattle.watch_records.specs.Records.{watched};
 ghost use Rattle.model.specs.Promises.{tables, Quoted, Previewed, QuotedLooked, Paired, Unpaired};
 use head::Head;
 use head::Watch;
-use replies::BothReply;
-use replies::Effect;
-use replies::Reply;
+use head::BothReply;
+use head::Effect;
+use head::Reply;
 use watch_records::numbers;
 
 // Takes a quote: writes the changes of every watch, puts the quote's row into the tables, and hands back the next head
@@ -129,7 +129,7 @@ pub fn pair(
 {
     let before = numbers(watches);
     let lent = watches.len();
-    pairing::pair(
+    watching::pair(
         head,
         n1,
         n2,
@@ -158,7 +158,7 @@ pub fn unpair(
 {
     let before = numbers(watches);
     let lent = watches.len();
-    pairing::unpair(
+    watching::unpair(
         head,
         columns,
         positions,

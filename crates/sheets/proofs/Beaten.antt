@@ -12,7 +12,7 @@ use Rattle.lists.specs.Lists.{any, rising}
 use Rattle.lists.proofs.Booleans.{neither, or-left, or-right}
 use Rattle.lists.proofs.Growing.{any-more}
 use Rattle.lists.proofs.Places.{rising-at}
-use Rattle.halves.specs.Halves.{dominatedBy}
+use Rattle.skyline.specs.Halves.{dominatedBy}
 use Rattle.sheets.specs.Finding.{Inside}
 
 -- a position of a rising list is of the day

@@ -13,8 +13,8 @@ use Rattle.lists.proofs.Filters.{length-filter}
 use Rattle.lists.proofs.Rising.{rising-filter}
 use Rattle.skyline.specs.Skyline.{dominatedIn, skyline}
 use Rattle.skyline.proofs.Free.{skyline-rises}
-use Rattle.halves.specs.Halves.{dominatedBy, thinned}
-use Rattle.halves.proofs.Halves.{skyline-in-turn}
+use Rattle.skyline.specs.Halves.{dominatedBy, thinned}
+use Rattle.skyline.proofs.Halves.{skyline-in-turn}
 use Rattle.sheets.specs.Finding.{cut, Apart, left, Thinned, Halved, merged, AtFront, Part, sheetFrom}
 use Rattle.sheets.proofs.Thinning.{cut-behind}
 

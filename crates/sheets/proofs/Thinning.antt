@@ -12,7 +12,7 @@ use lib.Seq.{length-take-le, drop-append-le, take-append-le, getD-drop, getD-tak
 use Rattle.lists.specs.Lists.{keep, filter, rising}
 use Rattle.lists.proofs.Growing.{length-prefix, filter-more}
 use Rattle.lists.proofs.Storing.{store-next, drop-beyond, getD-beyond}
-use Rattle.halves.specs.Halves.{dominatedBy, thinned}
+use Rattle.skyline.specs.Halves.{dominatedBy, thinned}
 use Rattle.sheets.specs.Finding.{Inside, cut, Apart, left, Thinned}
 use Rattle.sheets.proofs.Beaten.{inside-at}
 

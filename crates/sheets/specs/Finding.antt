@@ -9,7 +9,7 @@ use lib.ListN.{length, take, drop}
 use Rattle.lists.specs.Lists.{rising, laid}
 use Rattle.dominance.specs.Renewal.{renewed}
 use Rattle.skyline.specs.Skyline.{skyline}
-use Rattle.halves.specs.Halves.{thinned}
+use Rattle.skyline.specs.Halves.{thinned}
 use Rattle.refusals.specs.declared.Refusal.the-variants.{Settings, DayLength, ShortLoan, ShortOutput}
 use Rattle.refusals.specs.Refusals.{number, numberOf, firstOf, granted}
 use Rattle.sheets.specs.declared.Day.{Day}

@@ -3,7 +3,7 @@ ghost use mathlib.Core.Path.{_≡_};
 ghost use mathlib.Core.Bool.{true};
 ghost use lib.ListN.{length, take};
 ghost use Rattle.lists.specs.Lists.{rising};
-ghost use Rattle.halves.specs.Halves.{dominatedBy};
+ghost use Rattle.skyline.specs.Halves.{dominatedBy};
 ghost use Rattle.refusals.specs.Refusals.{numberOf};
 ghost use Prim.Native.Nat.{_+_, _≤_, _<_};
 ghost use Rattle.sheets.specs.Sheet.{sheetOf, Sheeted};

@@ -3,9 +3,9 @@ mod playing;
 
 pub use playing::play;
 pub use playing::play_known;
-pub use sizes::CHANGE_BYTES;
-use sizes::CHANGE_FRAME;
-use sizes::PLACES;
+pub use head::CHANGE_BYTES;
+use head::CHANGE_FRAME;
+use head::PLACES;
 pub use turn_lines::Step;
 
 // What playing a frame hands back, and how many places later the rows begin where none was moved.

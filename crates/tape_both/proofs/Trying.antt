@@ -15,7 +15,7 @@ use Rattle.refusals.specs.declared.Answer.the-variants.{Accepted, Refused}
 use Rattle.refusals.specs.declared.Refusal.{Refusal}
 use Rattle.refusals.specs.Refusals.{number, numberOf, granted}
 use Rattle.refusals.proofs.Numbers.{number-above}
-use Rattle.replies.specs.Replies.{Outcome}
+use Rattle.head.specs.Replies.{Outcome}
 use Rattle.model.specs.Rows.{Tables}
 use Rattle.model.specs.Book.{replyOf, quoteAnswer, quoteHead, quoteBytes, quoteReply, quoteTables, quoteOut, bothList, bothAnswer, bothReply, bothListed, bothOut, bothCells, lookAnswer, bothTables}
 use Rattle.model.specs.Calls.{bookSeen}

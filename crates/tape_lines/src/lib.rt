@@ -1,5 +1,5 @@
 // A writer's lines: each is taken as the frame of the message that it says, behind the bytes that are gathered; these are written out, and
-// the input is read on behind a line that is begun.
+// the input is read on behind a line that is begun. What runs of these calls hand on is what is written of the input (specs/Runs.antt).
 ghost use mathlib.Core.Path.{_≡_};
 ghost use mathlib.Core.Bool.{true, cond};
 ghost use Prim.Native.Nat.{_+_, _-_, _≤_};

@@ -21,7 +21,7 @@ use Rattle.frame_kinds.proofs.Shapes.{size-body}
 use Rattle.frames.specs.Frames.{messageBy, messageAt, columnsAt, told, Reading, readAt}
 use Rattle.model.specs.Reference.{Reference, Lengths, isOpen}
 use Rattle.model.specs.Book.{replyOf, quoteHead, quoteReply, lookAnswer, lookReply}
-use Rattle.replies.specs.Replies.{Outcome}
+use Rattle.head.specs.Replies.{Outcome}
 use Rattle.model.specs.Calls.{Call, Quote, Look, Seen, bookSeen, headAfter, worldAfter, bookStep}
 use Rattle.claims.specs.Claims.{BothTaken, InOne}
 use Rattle.claims.proofs.InOne.{both-in-one}

@@ -5,7 +5,7 @@ use lib.ListN.{take}
 use Rattle.head.specs.declared.Desk.{Desk}
 use Rattle.head.specs.declared.Desk.the-variants.{One, Two}
 use Rattle.refusals.specs.Refusals.{granted}
-use Rattle.replies.specs.Replies.{Outcome}
+use Rattle.head.specs.Replies.{Outcome}
 use Rattle.model.specs.Calls.{Call, Open, Quote, Look, Watch, End, Past, Pair, Unpair, Due, Preview, Both, Outputs}
 use Rattle.text.specs.Text.{line, line2}
 use Rattle.printed.specs.Printed.{changesText}

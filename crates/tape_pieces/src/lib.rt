@@ -1,4 +1,5 @@
-// What has come of a tape, played: step by step, each with its lines behind those that are gathered, on a book that calls left.
+// What has come of a tape, played: step by step, each with its lines behind those that are gathered, on a book that calls left; and what runs of
+// a printer hand on (specs/Runs.antt).
 ghost use Prim.Native.Nat.{_-_, _≤_};
 ghost use mathlib.Core.Bool.{_||_};
 ghost use lib.ListN.{length};

@@ -14,7 +14,7 @@ use frame_kinds::MAX_COLUMNS;
 use frames::read_at;
 use head::Head;
 use octets::two_at;
-use sizes::PLACES;
+use head::PLACES;
 use tape::SlidStep;
 use tape::play_known;
 use tape_both::make_both;

@@ -7,7 +7,7 @@ use lib.ListN.{length, take}
 use Rattle.lists.specs.Lists.{laid}
 use Rattle.head.specs.declared.Head.{Head}
 use Rattle.refusals.specs.declared.Answer.the-variants.{Accepted}
-use Rattle.replies.specs.Replies.{Outcome}
+use Rattle.head.specs.Replies.{Outcome}
 use Rattle.model.specs.Rows.{Tables}
 use Rattle.model.specs.Book.{quoteTables, quoteReply}
 use Rattle.model.specs.Calls.{Call, bookSeen, headAfter, worldAfter, bookStep}

@@ -7,9 +7,9 @@ use lib.ListN.{replicate}
 use Rattle.lists.specs.Lists.{headOr}
 use Rattle.head.specs.declared.Head.{Head}
 use Rattle.head.specs.declared.Desk.the-variants.{One}
-use Rattle.replies.specs.declared.BothReply.{BothReply}
+use Rattle.head.specs.declared.replies.BothReply.{BothReply}
 use Rattle.refusals.specs.Refusals.{numberOf, granted}
-use Rattle.replies.specs.Replies.{Outcome}
+use Rattle.head.specs.Replies.{Outcome}
 use Rattle.model.specs.Rows.{Tables}
 use Rattle.model.specs.Calls.{bookSeen, headAfter, worldAfter, bookStep}
 use Rattle.model.specs.Promises.{QuotedLooked}

@@ -7,7 +7,7 @@ use Rattle.lists.specs.Lists.{laid}
 use Rattle.head.specs.declared.Head.{Head}
 use Rattle.head.specs.Heads.{maxCapacity}
 use Rattle.refusals.specs.Refusals.{numberOf, granted}
-use Rattle.replies.specs.declared.BothReply.{BothReply}
+use Rattle.head.specs.declared.replies.BothReply.{BothReply}
 use Rattle.model.specs.Rows.{Tables}
 use Rattle.model.specs.Changes.{changeLength, changeRoom}
 use Rattle.model.specs.Calls.{Call}

@@ -18,8 +18,8 @@ use head::Desk;
 use head::Head;
 use refusals::Answer;
 use refusals::Refusal;
-use replies::Reply;
-use watches::WatchReply;
+use head::Reply;
+use desk_shares::WatchReply;
 
 // What a call of a tape leaves: its answer, how many bytes of text, and the head and the watches for the next one.
 pub struct Turn {

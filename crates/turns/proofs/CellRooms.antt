@@ -6,9 +6,9 @@ use mathlib.Core.List.{List, [], _++_, append-nil}
 use lib.ListN.{length}
 use borrow.Author.Tests.{ltb-false}
 use Rattle.head.specs.declared.Head.{Head}
-use Rattle.replies.specs.declared.Reply.{Reply}
+use Rattle.head.specs.declared.replies.Reply.{Reply}
 use Rattle.refusals.specs.Refusals.{granted}
-use Rattle.replies.specs.Replies.{Outcome}
+use Rattle.head.specs.Replies.{Outcome}
 use Rattle.refusals.proofs.Numbers.{zero-passed}
 use Rattle.model.specs.Rows.{Tables}
 use Rattle.model.specs.Book.{replyOf, lookCells, lookAnswer, lookReply, pastCells, pastAnswer, pastReply}

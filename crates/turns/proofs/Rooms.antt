@@ -10,7 +10,7 @@ use lib.ListN.{length}
 use borrow.Author.Tests.{ltb-false}
 use Rattle.head.specs.declared.Desk.{Desk}
 use Rattle.head.specs.declared.Head.{Head}
-use Rattle.replies.specs.declared.Reply.{Reply}
+use Rattle.head.specs.declared.replies.Reply.{Reply}
 use Rattle.refusals.proofs.Numbers.{zero-passed}
 use Rattle.model.specs.Rows.{Tables}
 use Rattle.model.specs.Changes.{changeRoom}

@@ -8,7 +8,7 @@ ghost use Rattle.model.specs.Promises.{tables};
 ghost use Rattle.turn_lines.specs.Turns.{textBytes, player, made, Turned};
 use head::Desk;
 use head::Head;
-use sizes::PLACES;
+use head::PLACES;
 use turn_lines::Turn;
 use turn_lines::put_answer;
 use turn_lines::put_changed;
@@ -200,7 +200,7 @@ pub fn pair(
         (tables (now (columns .entry)) (now (positions .entry)) (now («lower_ends» .entry)) (now («upper_ends» .entry)))
         (now (bytes .exit)) (now (text .exit)) ⌝ }
 {
-    let reply = pairing::pair(
+    let reply = watching::pair(
         head,
         n1,
         n2,
@@ -240,7 +240,7 @@ pub fn unpair(
         (tables (now (columns .entry)) (now (positions .entry)) (now («lower_ends» .entry)) (now («upper_ends» .entry)))
         bytes (now (text .exit))) ⌝ }
 {
-    let reply = pairing::unpair(head, columns, positions, lower_ends, upper_ends, watches, 8);
+    let reply = watching::unpair(head, columns, positions, lower_ends, upper_ends, watches, 8);
     let answer = reply.answer;
     let next = reply.head;
     let numbers: [u32; 0] = [];

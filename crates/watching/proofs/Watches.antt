@@ -30,8 +30,8 @@ use Rattle.listing.specs.declared.Follower.the-variants.{Watch}
 use Rattle.listing.specs.Picked.{Window}
 use Rattle.listing.specs.Joins.{joinOf}
 use Rattle.listing.proofs.Joins.{watch-joins}
-use Rattle.watches.specs.Vacancy.{Vacant}
-use Rattle.watches.proofs.Vacancy.{vacant}
+use Rattle.desk_shares.specs.Vacancy.{Vacant}
+use Rattle.desk_shares.proofs.Vacancy.{vacant}
 use Rattle.judging.proofs.Answering.{Passed, InRange, in-range, watchful-passed, lent-asked}
 use Rattle.watching.specs.declared.Judgement.{Judgement}
 use Rattle.watching.specs.Judged.{WatchJudged, EndJudged}

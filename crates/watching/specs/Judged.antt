@@ -7,7 +7,7 @@ use lib.ListN.{length}
 use Rattle.head.specs.declared.Head.{Head}
 use Rattle.head.specs.declared.Desk.{Desk}
 use Rattle.refusals.specs.Refusals.{granted}
-use Rattle.replies.specs.Replies.{outcome}
+use Rattle.head.specs.Replies.{outcome}
 use Rattle.model.specs.Rows.{Tables}
 use Rattle.model.specs.Book.{watchAnswer, watchReply, watchOut, endAnswer, endReply}
 use Rattle.watching.specs.declared.Judgement.{Judgement}

@@ -1,4 +1,8 @@
-// The watch and its end: a list followed, its joins written, and a list no longer followed.
+// The watch and its end: a list followed, its joins written, and a list no longer followed; and the same of the pair's past list.
+mod pairing;
+
+pub use pairing::pair;
+pub use pairing::unpair;
 ghost use mathlib.Core.Path.{_≡_};
 ghost use mathlib.Core.List.{[], _∷_};
 ghost use lib.ListN.{take};
@@ -19,11 +23,11 @@ use listing::start_of;
 use listing::write_joins;
 use refusals::Answer;
 use refusals::Refusal;
-use replies::Reply;
-use watches::WatchReply;
-use watches::find;
-use watches::insert;
-use watches::remove;
+use head::Reply;
+use desk_shares::WatchReply;
+use desk_shares::find;
+use desk_shares::insert;
+use desk_shares::remove;
 
 // What a watch or its end came to before the watches change: its reply, and whether they do.
 pub struct Judgement {

@@ -6,7 +6,7 @@ use mathlib.Core.List.{List, _++_}
 use lib.ListN.{length}
 use Rattle.skyline.specs.Skyline.{windowStart}
 use Rattle.head.specs.declared.Head.{Head}
-use Rattle.replies.specs.declared.Reply.{Reply}
+use Rattle.head.specs.declared.replies.Reply.{Reply}
 use Rattle.refusals.specs.declared.Answer.the-variants.{Accepted}
 use Rattle.head.specs.Heads.{afterQuote}
 use Rattle.model.specs.Book.{tornWatches}

@@ -8,7 +8,7 @@ use changes::write_all_changes;
 use head::Head;
 use pair_changes::write_pair_changes;
 use refusals::Answer;
-use replies::Reply;
+use head::Reply;
 use settling::Finding;
 
 // Writes the changes of every watch, and behind them those of the pair; retired has the places of the rows that the quote retires.

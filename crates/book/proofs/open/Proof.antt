@@ -37,10 +37,10 @@ use denote.Triple.Spec.{Meets, tripleOf}
 use denote.Triple.Table.{entered, cited}
 use denote.Triple.Walked.{says, Stays, stay-dropped, gave-slice, walkOf, goes-dropped, goes-gave-slice, Walks, ends-at, walked, walk-meets}
 use denote.Exit.{yes}
-use Rattle.replies.specs.declared.Reply.{Reply}
+use Rattle.head.specs.declared.replies.Reply.{Reply}
 use Rattle.head.specs.declared.Watch.{Watch}
-use Rattle.replies.proofs.Reply as R
-use Rattle.replies.proofs.Reply.Laws as R′
+use Rattle.head.proofs.replies.Reply as R
+use Rattle.head.proofs.replies.Reply.Laws as R′
 use Rattle.head.proofs.Watch as T
 use Rattle.model.specs.Rows.{Tables as Lent}
 use Rattle.watch_records.specs.Records.{watched, stored}
@@ -54,11 +54,11 @@ use Rattle.watch_records.proofs.store.Symbol as change-def
 use Rattle.watch_records.proofs.store.Symbol.{name as #watch-records·store}
 use Rattle.watch_records.proofs.store.Met as change-thm
 use Rattle.model.specs.Promises.{tables as lent-tables, Opened}
-use Rattle.watches.specs.declared.WatchReply.{WatchReply}
+use Rattle.desk_shares.specs.declared.watches.WatchReply.{WatchReply}
 use Rattle.changed_records.proofs.Fronts.{open-stored}
 use Rattle.shared_records.proofs.Machines.{machines}
-use Rattle.watches.proofs.WatchReply as J
-use Rattle.watches.proofs.WatchReply.Laws as J′
+use Rattle.desk_shares.proofs.watches.WatchReply as J
+use Rattle.desk_shares.proofs.watches.WatchReply.Laws as J′
 use Rattle.opening.proofs.open as callee
 use Rattle.opening.proofs.open.Symbol as callee-def
 use Rattle.opening.proofs.open.Symbol.{name as #opening·open}

@@ -41,12 +41,12 @@ use denote.Triple.Table.{entered, cited}
 use denote.Triple.Walked.{says, Stays, stay-dropped, gave-slice, walkOf, goes-dropped, goes-gave-slice, Walks, ends-at, walked, walk-meets}
 use denote.Exit.{yes}
 use Rattle.head.specs.declared.Head.{Head}
-use Rattle.replies.specs.declared.BothReply.{BothReply}
+use Rattle.head.specs.declared.replies.BothReply.{BothReply}
 use Rattle.head.specs.declared.Watch.{Watch}
 use Rattle.head.proofs.Head as Hd
 use Rattle.head.proofs.Head.Laws as Hd′
-use Rattle.replies.proofs.BothReply as R
-use Rattle.replies.proofs.BothReply.Laws as R′
+use Rattle.head.proofs.replies.BothReply as R
+use Rattle.head.proofs.replies.BothReply.Laws as R′
 use Rattle.head.proofs.Watch as T
 use Rattle.head.proofs.Watch.Laws as T′
 use Rattle.model.specs.Rows.{Tables as Lent}

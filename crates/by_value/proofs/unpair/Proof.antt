@@ -40,12 +40,12 @@ use denote.Triple.Table.{entered, cited}
 use denote.Triple.Walked.{says, Stays, stay-dropped, walkOf, goes-dropped, Walks, ends-at, walked, walk-meets}
 use denote.Exit.{yes}
 use Rattle.head.specs.declared.Head.{Head}
-use Rattle.replies.specs.declared.Reply.{Reply}
+use Rattle.head.specs.declared.replies.Reply.{Reply}
 use Rattle.head.specs.declared.Watch.{Watch}
 use Rattle.head.proofs.Head as Hd
 use Rattle.head.proofs.Head.Laws as Hd′
-use Rattle.replies.proofs.Reply as R
-use Rattle.replies.proofs.Reply.Laws as R′
+use Rattle.head.proofs.replies.Reply as R
+use Rattle.head.proofs.replies.Reply.Laws as R′
 use Rattle.head.proofs.Watch as T
 use Rattle.head.proofs.Watch.Laws as T′
 use Rattle.model.specs.Rows.{Tables as Lent}

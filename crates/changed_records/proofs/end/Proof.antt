@@ -41,15 +41,15 @@ use denote.Exit.{yes}
 use Rattle.lists.specs.Lists.{without, padded}
 use Rattle.head.specs.declared.Head.{Head}
 use Rattle.head.specs.declared.Desk.{Desk}
-use Rattle.replies.specs.declared.Reply.{Reply}
+use Rattle.head.specs.declared.replies.Reply.{Reply}
 use Rattle.head.specs.declared.Watch.{Watch}
 use Rattle.head.specs.Desks.{watchOf}
 use Rattle.head.proofs.Desk as D
 use Rattle.head.proofs.Desk.Laws as D′
 use Rattle.head.proofs.Head as Hd
 use Rattle.head.proofs.Head.Laws as Hd′
-use Rattle.replies.proofs.Reply as R
-use Rattle.replies.proofs.Reply.Laws as R′
+use Rattle.head.proofs.replies.Reply as R
+use Rattle.head.proofs.replies.Reply.Laws as R′
 use Rattle.head.proofs.Watch as T
 use Rattle.model.specs.Rows.{Tables as Lent}
 use Rattle.model.specs.Book.{standing}

@@ -3,7 +3,7 @@ use mathlib.Core.Path.{refl, ap₂, _∙_}
 use mathlib.Core.Bool.{_||_}
 use borrow.Author.Needs.{needs}
 use Rattle.refusals.proofs.Numbers.{accepted-number}
-use Rattle.rows.proofs.Torn.{torn-columns}
+use Rattle.cells.proofs.Torn.{torn-columns}
 use Rattle.judging.specs.Answers.{loanAnswer, rowsAnswer}
 use Rattle.judging.proofs.Answering.{tested, stays, loan-passed}
 use Rattle.judging.proofs.judge_rows.Statement.{statement}
