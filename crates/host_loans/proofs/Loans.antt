@@ -27,13 +27,13 @@ use Rattle.model.specs.Book.{watchfulAnswer, replyOf, openReply, openTables, op
 use Rattle.model.specs.Promises.{Opened, Quoted, QuotedLooked, Previewed, Watched, Ended, Paired, Unpaired}
 use Rattle.model.proofs.Replying.{refused-reply}
 use Rattle.watch_records.specs.Records.{watched}
-use Rattle.judging.specs.Answers.{shortLoanAnswer}
-use Rattle.judging.proofs.Answering.{short-watchful, short-open}
-use Rattle.watching.proofs.Watches as watching
-use Rattle.watching.proofs.Pairs.{pair-refused}
-use Rattle.quoting.proofs.Quotes.{quote-refused}
-use Rattle.previewing.specs.Effects.{effectOf}
-use Rattle.previewing.proofs.Previews.{tells-quote}
+use Rattle.call_judging.specs.Answers.{shortLoanAnswer}
+use Rattle.call_judging.proofs.Answering.{short-watchful, short-open}
+use Rattle.call_watching.proofs.Watches as watching
+use Rattle.call_watching.proofs.Pairs.{pair-refused}
+use Rattle.call_quoting.proofs.Quotes.{quote-refused}
+use Rattle.call_previewing.specs.Effects.{effectOf}
+use Rattle.call_previewing.proofs.Previews.{tells-quote}
 use Rattle.host_cells.specs.Cells.{eightRecords, recordsIn, Answered, OnlyEight}
 
 -- ---- sixteen cells or more

@@ -6,7 +6,7 @@ use Rattle.head.specs.declared.Head.{Head}
 use Rattle.refusals.specs.Refusals.{numberOf}
 use Rattle.head.specs.declared.replies.Reply.{Reply}
 use Rattle.head.specs.Replies.{Finding}
-use Rattle.audit_model.specs.Audit.{auditFinding}
+use Rattle.model_audit.specs.Audit.{auditFinding}
 use Rattle.model.specs.Rows.{Tables}
 use Rattle.model.specs.Promises.{Looked, PastLooked, DueLooked}
 use Rattle.host_cells.specs.Cells.{Answered, Counts}

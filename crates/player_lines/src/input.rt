@@ -1,9 +1,9 @@
 // The input of the book player: its lines found one by one in large pieces of standard input, and read.
 ghost use Prim.Native.Nat.{_≤_};
-use line_fields::line_end;
 use crate::Command;
 use crate::Line;
 use crate::read_line;
+use line_fields::line_end;
 
 // A part of a line that is longer than any that the player can take.
 const TOO_LONG: usize = 200;

@@ -3,13 +3,13 @@
 mod input;
 mod words;
 
+use head::Desk;
 pub use input::Cursor;
 pub use input::next_line;
 pub use words::front;
 pub use words::quoted;
 pub use words::quoted_behind;
 pub use words::read_line;
-use head::Desk;
 
 // What a line asks for; of a watch and its end, whose it is. No line has come, or it is one that the player cannot take.
 pub enum Command {

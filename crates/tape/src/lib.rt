@@ -1,12 +1,12 @@
 // Playing a tape: one frame on a book with lent tables, its lines laid at the start of a lent text.
 mod playing;
 
-pub use playing::play;
-pub use playing::play_known;
 pub use head::CHANGE_BYTES;
 use head::CHANGE_FRAME;
 use head::PLACES;
-pub use turn_lines::Step;
+pub use line_answers::Step;
+pub use playing::play;
+pub use playing::play_known;
 
 // What playing a frame hands back, and how many places later the rows begin where none was moved.
 pub struct SlidStep {

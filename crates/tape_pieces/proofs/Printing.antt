@@ -18,7 +18,7 @@ use Rattle.tape_model.specs.Streams.{ready, settled, linesFrom}
 use Rattle.tape_model.proofs.Agrees.{Alike, at-first, frame-agrees}
 use Rattle.tape_model.proofs.Sliding.{slide-alike}
 use Rattle.tape_model.proofs.Streaming.{ready-same, print-lines, lines-play, lines-drop}
-use Rattle.row_starts.specs.Starts.{Moved, stays, moves}
+use Rattle.table_starts.specs.Starts.{Moved, stays, moves}
 use Rattle.tape_playback.specs.declared.Playback.{Playback}
 use Rattle.tape_playback.specs.Played.{playerOf, SameBook, Plays, none, frame, moved}
 use Rattle.tape_playback.proofs.Advancing.{plays-inside}

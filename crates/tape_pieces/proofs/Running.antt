@@ -21,7 +21,7 @@ use Rattle.tape_model.specs.Streams.{settled}
 use Rattle.tape_model.proofs.Streaming.{may-play}
 use Rattle.tape_both.specs.Tried.{stepBytes}
 use Rattle.tape.proofs.Prints.{cells-kept}
-use Rattle.row_starts.specs.Starts.{Within, onward, Moved, stays}
+use Rattle.table_starts.specs.Starts.{Within, onward, Moved, stays}
 use Rattle.tape_playback.specs.declared.Playback.{Playback}
 use Rattle.tape_playback.specs.Played.{playerOf, Resumes, resumes, Gathered, SameInput, Plays, none, frame, moved}
 use Rattle.tape_playback.proofs.Advancing.{left, advanced, plays-inside}

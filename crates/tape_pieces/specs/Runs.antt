@@ -9,7 +9,7 @@ use Rattle.model.specs.Rows.{Tables}
 use Rattle.model.specs.Reference.{Lengths}
 use Rattle.model.specs.Calls.{lengthsOf}
 use Rattle.tape_model.specs.Play.{Player}
-use Rattle.row_starts.specs.declared.Start.{Start}
+use Rattle.table_starts.specs.declared.Start.{Start}
 use Rattle.tape_playback.specs.declared.Playback.{Playback}
 use Rattle.tape_playback.specs.Played.{playerOf}
 use Rattle.tape_pieces.specs.Pieces.{PiecePlayed}

@@ -6,9 +6,9 @@ ghost use lib.ListN.{length};
 ghost use Rattle.model.specs.Calls.{Reached};
 ghost use Rattle.model.specs.Promises.{tables, world};
 ghost use Rattle.tape_model.specs.Streams.{settled};
-ghost use Rattle.row_starts.specs.Starts.{Long, Within, onward};
+ghost use Rattle.table_starts.specs.Starts.{Long, Within, onward};
 ghost use Rattle.tape_pieces.specs.Pieces.{GoesOn, PiecePlayed};
-use row_starts::rewind;
+use table_starts::rewind;
 use tape_playback::Playback;
 use tape_playback::play_next;
 
@@ -28,7 +28,7 @@ fn plays(playback: Playback, tape: &[u8], room: usize) -> bool
     if playback.ended {
         return true;
     }
-    waiting::settled(tape, playback.place)
+    tape_waiting::settled(tape, playback.place)
 }
 
 // Plays the frames of this piece of the tape, until one is not settled or its lines may find no room.

@@ -18,9 +18,9 @@ use Rattle.frames.specs.Frames.{Reading, readAt}
 use Rattle.frames.proofs.RoundTrips.{read-after-write}
 use Rattle.model.specs.Reference.{Reference, newest, isOpen, withQuote, withQuotes, ample, tells, referenceStep}
 use Rattle.model.specs.Calls.{Quote}
-use Rattle.audit_model.specs.Audit.{plays}
-use Rattle.audit_model.proofs.Plays.{WideAll, plays-on}
-use Rattle.asking.specs.Asking.{misplaced, request, asks, inPlace, placed, asked}
+use Rattle.model_audit.specs.Audit.{plays}
+use Rattle.model_audit.proofs.Plays.{WideAll, plays-on}
+use Rattle.tape_asking.specs.Asking.{misplaced, request, asks, inPlace, placed, asked}
 use Rattle.venue_claims.specs.Merging.{StampedQuote, quoteFrame, Fits}
 use Rattle.venue_claims.proofs.StampedQuotes.{quote-writable}
 use Rattle.venue_claims.specs.Accepted.{quotesOf, acceptedOf}

@@ -54,15 +54,15 @@ use Rattle.watch_records.proofs.store.Symbol as change-def
 use Rattle.watch_records.proofs.store.Symbol.{name as #watch-records·store}
 use Rattle.watch_records.proofs.store.Met as change-thm
 use Rattle.model.specs.Promises.{tables as lent-tables, Opened}
-use Rattle.desk_shares.specs.declared.watches.WatchReply.{WatchReply}
-use Rattle.changed_records.proofs.Fronts.{open-stored}
-use Rattle.shared_records.proofs.Machines.{machines}
-use Rattle.desk_shares.proofs.watches.WatchReply as J
-use Rattle.desk_shares.proofs.watches.WatchReply.Laws as J′
-use Rattle.opening.proofs.open as callee
-use Rattle.opening.proofs.open.Symbol as callee-def
-use Rattle.opening.proofs.open.Symbol.{name as #opening·open}
-use Rattle.opening.proofs.open.Met as callee-thm
+use Rattle.watch_numbers.specs.declared.watches.WatchReply.{WatchReply}
+use Rattle.book_changed_records.proofs.Fronts.{open-stored}
+use Rattle.book_shared_records.proofs.Machines.{machines}
+use Rattle.watch_numbers.proofs.watches.WatchReply as J
+use Rattle.watch_numbers.proofs.watches.WatchReply.Laws as J′
+use Rattle.call_opening.proofs.open as callee
+use Rattle.call_opening.proofs.open.Symbol as callee-def
+use Rattle.call_opening.proofs.open.Symbol.{name as #call-opening·open}
+use Rattle.call_opening.proofs.open.Met as callee-thm
 use Rattle.book.proofs.open.Key.{name as #book·open}
 use Rattle.book.proofs.open as f
 use Rattle.book.proofs.open.Statement as stated
@@ -149,7 +149,7 @@ module _ {M : Type 1} (𝓤 : URA M) (H : Heap 𝓤) (A : Atoms 𝓤) (W : Given
       owned ! R.the-row (Is R.the-row) ((LL.makes R.the-type R′.the-plain) 𝓤 H A) j (machines j) is $ done !
 
   module _ (dimensions-fits : dimensions < 2 ^ 32) (capacity-fits : capacity < 2 ^ 32) (directions-fits : directions < 2 ^ 32) (columns-fits : length (columns .now) < 2 ^ 64) (positions-fits : length (positions .now) < 2 ^ 64) (lowerEnds-fits : length (lowerEnds .now) < 2 ^ 64) (upperEnds-fits : length (upperEnds .now) < 2 ^ 64) (room : Room T.the-row (length ys))
-      (C : Calls 𝓤 H) (Λ : Loops 𝓤 H) (fm : FmC 𝓤 H (W .laws) C) (known-numbers : Triple 𝓤 (C #watch-records·numbers) (Numbers 𝓤 H A mem run)) (known-callee : Triple 𝓤 (C #opening·open) (Callee 𝓤 H A mem run)) (known-change : Triple 𝓤 (C #watch-records·store) (Store 𝓤 H A mem run)) where
+      (C : Calls 𝓤 H) (Λ : Loops 𝓤 H) (fm : FmC 𝓤 H (W .laws) C) (known-numbers : Triple 𝓤 (C #watch-records·numbers) (Numbers 𝓤 H A mem run)) (known-callee : Triple 𝓤 (C #call-opening·open) (Callee 𝓤 H A mem run)) (known-change : Triple 𝓤 (C #watch-records·store) (Store 𝓤 H A mem run)) where
     walk : ent 𝓤 (onEntry 𝓤 H A f.signature (κ₀, (κ₁, (κ₂, (κ₃, (κ₄, tt))))) (q₀, (q₁, (q₂, (q₃, (q₄, tt))))) x at) (WpFn 𝓤 H C Λ code.function given Post)
     walk =
         qed W Entry ∵ enter ! C Λ code.function given _ $
@@ -188,7 +188,7 @@ module _ {M : Type 1} (𝓤 : URA M) (H : Heap 𝓤) (A : Atoms 𝓤) (W : Given
         keep ! (2 ∷ 0 ∷ 6 ∷ 5 ∷ 4 ∷ 3 ∷ 1 ∷ []) $ by ! (exits (zs .1 .1 .1 .0) (zs .1 .1 .1 .1 .0) (zs .1 .1 .1 .1 .1 .0) (zs .1 .1 .1 .1 .1 .1 .0) ws (j .reply) (replied j c has) columns-same positions-same lowerEnds-same upperEnds-same len (open-stored ys e dimensions capacity directions lent (j .watches) eight (m ∙ ap (λ (l : List ℕ). stored l (watched ys)) (map-id (j .watches))) said)))))))))))))))))))))))))))))))))))))))
 
 module _ {M : Type 1} (𝓤 : URA M) (H : Heap 𝓤) (A : Atoms 𝓤) (W : Given 𝓤 H A) (mem : Memory → SProp 𝓤) (run : Routine → Fun 𝓤) (𝓣 : Tables 𝓤 H)
-    (known-numbers : Triple 𝓤 (𝓣 .C #watch-records·numbers) (Numbers 𝓤 H A mem run)) (known-callee : Triple 𝓤 (𝓣 .C #opening·open) (Callee 𝓤 H A mem run)) (known-change : Triple 𝓤 (𝓣 .C #watch-records·store) (Store 𝓤 H A mem run)) where
+    (known-numbers : Triple 𝓤 (𝓣 .C #watch-records·numbers) (Numbers 𝓤 H A mem run)) (known-callee : Triple 𝓤 (𝓣 .C #call-opening·open) (Callee 𝓤 H A mem run)) (known-change : Triple 𝓤 (𝓣 .C #watch-records·store) (Store 𝓤 H A mem run)) where
   open-walks : Walks 𝓤 H A f.ended stayed (WpFn 𝓤 H (𝓣 .C) (𝓣 .Λ) code.function) (f.clauses 𝓤 H A mem run)
   open-walks =
       walked 𝓤 H A f.ended stayed (f.clauses 𝓤 H A mem run) (WpFn 𝓤 H (𝓣 .C) (𝓣 .Λ) code.function) (λ κs. (uint-vals w32, (uint-vals w32, (uint-vals w32, (slice-vals, (slice-vals, (slice-vals, (slice-vals, (slice-vals, tt)))))))))
@@ -210,5 +210,5 @@ open-spec 𝓤 H 𝓜 𝓖 𝓡 =
     (tables 𝓤 H 𝓜 𝓡 code.env .C) (tables 𝓤 H 𝓜 𝓡 code.env .Λ) #book·open code.function (code.unfolded 𝓤 H 𝓜 𝓡)
     (open-meets 𝓤 H (𝓖 .A) (givenOf 𝓤 H 𝓜 𝓖) (𝓜 .mem) (𝓡 .run) (tablesOf 𝓤 H 𝓜 (tables 𝓤 H 𝓜 𝓡 code.env))
     (cited 𝓤 H (Numbers 𝓤 H (𝓖 .A) (𝓜 .mem) (𝓡 .run)) 𝓜 𝓡 code.env #watch-records·numbers numbers-def.routine code.calls-watch-records·numbers (numbers-thm.met 𝓤 H 𝓜 𝓖 𝓡))
-    (cited 𝓤 H (Callee 𝓤 H (𝓖 .A) (𝓜 .mem) (𝓡 .run)) 𝓜 𝓡 code.env #opening·open callee-def.routine code.calls-opening·open (callee-thm.met 𝓤 H 𝓜 𝓖 𝓡))
+    (cited 𝓤 H (Callee 𝓤 H (𝓖 .A) (𝓜 .mem) (𝓡 .run)) 𝓜 𝓡 code.env #call-opening·open callee-def.routine code.calls-call-opening·open (callee-thm.met 𝓤 H 𝓜 𝓖 𝓡))
     (cited 𝓤 H (Store 𝓤 H (𝓖 .A) (𝓜 .mem) (𝓡 .run)) 𝓜 𝓡 code.env #watch-records·store change-def.routine code.calls-watch-records·store (change-thm.met 𝓤 H 𝓜 𝓖 𝓡)))

@@ -2,8 +2,8 @@
 use native.Mathlib.Omega.{arith}
 use mathlib.Core.List.{append-nil}
 use lib.ListN.{length-take}
-use Rattle.judging.proofs.Answering.{lent-all}
-use Rattle.turns.proofs.CellRooms.{cells-room}
+use Rattle.call_judging.proofs.Answering.{lent-all}
+use Rattle.tape_calls.proofs.CellRooms.{cells-room}
 use Rattle.tape_both.proofs.Trying.{tried-none, tried-refused, changes-fit, listed-fit, tried-taken}
 use borrow.Author.Needs.{needs}
 use Rattle.tape_both.proofs.make_both.Statement.{statement}

@@ -4,7 +4,7 @@ use native.Mathlib.Omega.{arith}
 use Rattle.model.specs.Promises.{tables}
 use Rattle.tape_playback.proofs.Advancing.{left}
 use Rattle.tape_pieces.proofs.Playing.{Playing, start, fits, inside, reached, lines-room, finish, less, more}
-use Rattle.row_starts.proofs.Rewinding.{long-same}
+use Rattle.table_starts.proofs.Rewinding.{long-same}
 use Rattle.tape_pieces.proofs.play_piece.Statement.{statement}
 use Rattle.tape_pieces.proofs.play_piece.Tie as tie
 

@@ -1,8 +1,8 @@
 -- `make` meets its contract: each call is made, and its lines are laid.
 use native.Mathlib.Omega.{arith}
 use lib.ListN.{length-take}
-use Rattle.judging.proofs.Answering.{lent-all}
-use Rattle.turns.proofs.Rooms.{quote-fits}
+use Rattle.call_judging.proofs.Answering.{lent-all}
+use Rattle.tape_calls.proofs.Rooms.{quote-fits}
 use Rattle.tape_turns.specs.Making.{taken}
 use Rattle.tape_turns.proofs.Makes.{wanted-made, nothing-turned, quote-made}
 use borrow.Author.Needs.{needs}
