@@ -71,7 +71,8 @@ clear-requires-3 c κs =
 
 clear-requires-4 : tie.Need-clear-requires-4
 clear-requires-4 c κs =
-    let told = c .before .before .before .before .before .before .before .before .before .before .before .before .before in
+    let at-clear-3 = c .before .before .before .before in
+    let told = at-clear-3 .before .before .before .before .before .before .before .before .before in
     let judged = told .before .before in
     let long = open-passed _ _ _ _ _ (judged .before .before .before .before .before .fresh .ensures) (judged .judge-loan .ensures) (told .enum-told .given .1) .1 in
     (omega arith, long .upperEnds)

@@ -37,7 +37,7 @@ returns c =
     let known = c .before .before .before .before in
     let new = tested _ _ _ (known .before .before .judge-watch-size .ensures) (known .before .find .ensures) (known .with-test .ensures) refl in
     let free = tested _ _ _ new (at-full .full .ensures) (at-with-test2 .with-test2 .ensures) refl in
-    let s = c .before .before .before .before .before .before .before .before .before .before .before in
+    let s = known .before .before .before .before .before .before .before in
     watch-asked _ _ _ _ (s .args .watches) (s .args .lent) (omega (arith, s .good)) _ (tested _ _ _ free (c .before .short-output .ensures) (c .with-test3 .ensures) refl)
 
 pub judge-watch-spec : {M : Type 1} → statement M

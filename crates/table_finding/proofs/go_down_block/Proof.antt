@@ -42,7 +42,8 @@ returns-2 c =
 
 go-down-any-requires : tie.Need-go-down-any-requires
 go-down-any-requires c κs =
-    let at-start = c .before .before .before .before .before .before .before .before .before .before in
+    let at-taken-live = c .before .before .before .before .before in
+    let at-start = at-taken-live .before .before .before .before .before in
     let p = at-start .pre in (p .0 .0, p .1)
 
 same-length : tie.Need-same-length
@@ -53,7 +54,8 @@ returns-3 c = search needs
 
 go-down-requires : tie.Need-go-down-requires
 go-down-requires c κs =
-    let at-start = c .before .before .before .before .before .before .before .before .before .before in
+    let at-taken-live = c .before .before .before .before .before in
+    let at-start = at-taken-live .before .before .before .before .before in
     let p = at-start .pre in (p .0 .0, p .1)
 
 same-length-2 : tie.Need-same-length-2

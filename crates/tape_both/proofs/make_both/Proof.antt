@@ -35,7 +35,8 @@ part-cells-end c = search needs
 
 both-known-requires : tie.Need-both-known-requires
 both-known-requires c κs =
-    let s = c .before .before .before .before .before .before .before .before .before .before .before .before .before .before in
+    let at-if1 = c .before .before .before .before .before .before .before in
+    let s = at-if1 .before .before .before .before .before .before .before in
     rw (lent-all (s .args .watches) 8 (omega (arith, s .good)) (omega arith)) (s .pre .1 .1)
 
 enum-told : tie.Need-enum-told
@@ -68,7 +69,7 @@ returns-2 c =
     let on-way = at-told .before .before .before .before .before .before in
     let at-both-known = on-way .before .before .before .before .before .before .before .before .before in
     let at-if1 = at-both-known .before .before .before .before .before .before .before .before in
-    let s = at-both-known .before .before .before .before .before .before .before .before .before .before .before .before .before .before .before in
+    let s = at-if1 .before .before .before .before .before .before .before in
     let made = rw (lent-all (s .args .watches) 8 (omega (arith, s .good)) (omega arith)) at (at-both-known .both-known .ensures) in
     tried-refused _ _ _ _ _ _ made _ (at-if1 .if1 .left) (at-told .enum-told2 .given .1) (c .not-taken2 .ensures)
 
@@ -133,7 +134,7 @@ returns-3 c =
     let on-way = at-told .before .before .before .before .before .before in
     let at-both-known = on-way .before .before .before .before .before .before .before .before .before in
     let at-if1 = at-both-known .before .before .before .before .before .before .before .before in
-    let s = at-both-known .before .before .before .before .before .before .before .before .before .before .before .before .before .before .before in
+    let s = at-if1 .before .before .before .before .before .before .before in
     let made = rw (lent-all (s .args .watches) 8 (omega (arith, s .good)) (omega arith)) at (at-both-known .both-known .ensures) in
     tried-taken _ _ _ _ _ _ made (at-told .enum-told .given .1) _ (at-if1 .if1 .left) (at-put-both .put-both .ensures)
 

@@ -26,7 +26,8 @@ slice-aggregate-quote-known c = let at-match = c .before .before .before in
     simp length-take (omega (arith, s .good, s .pre .0 _ (c .before .before .wanted .given .1)))
 
 quote-known-requires : tie.Need-quote-known-requires
-quote-known-requires c κs = let s = c .before .before .before .before .before .before .before .before .before .before .before .before .before .before .before in
+quote-known-requires c κs = let at-match = c .before .before .before .before .before .before .before .before in
+    let s = at-match .before .before .before .before .before .before .before in
     rw (lent-all (s .args .watches) 8 (omega (arith, s .good)) (omega arith)) (s .pre .1 .1)
 
 put-quote-requires : tie.Need-put-quote-requires

@@ -28,7 +28,7 @@ asked s = watchFrames (s .args .head) (now (s .args .lower-ends)) (book s) (s .a
 
 -- the function's start, from where the kinds are known
 abbrev start : tie.After-kinds-of → tie.Start
-start b = b .before .before .before .before .before .before .before .before .before .before
+start b = let at-size-of = b .before .before in at-size-of .before .before .before .before .before .before .before .before
 
 -- the watched n is from 1 to N
 some : (b : tie.After-kinds-of) → 0 < b .before .before .size-of .result
