@@ -4,10 +4,10 @@
 usage: tools/walks.py
 
 A walk names what it reaches for by its place in the context, which depends on every parameter. Where a signature changes, change it in
-CALLS below and run this, then `rt fmt` and `rt check shared_records by_value`.
+CALLS below and run this, then `rt fmt` and `rt check book_shared_records book_by_value`.
 
-shared_records: the records are lent to `numbers`; the numbers, how many records there are and all else go to the function of `lending`.
-by_value: the records stand in a local array, lent for the call to the function of `shared_records` with the same name.
+book_shared_records: the records are lent to `numbers`; the numbers, how many records there are and all else go to the function of the same name that takes numbers.
+book_by_value: the records stand in a local array, lent for the call to the function of `book_shared_records` with the same name.
 """
 
 # The parameters of each call, in order, with their sorts: head, num (a u32), shr (a &[u32]), mut (a &mut [u32]), out (a &mut [u8]) and
@@ -28,6 +28,8 @@ CALLS = {
              "head n1 n2 lent {ws} (out .now) {j} {out}", "head n1 n2 lent", "Reply"),
     "unpair": ([("head", "head")] + SHARED + RECORDS, "Unpaired", "head lent {ws} {j}", "head lent", "Reply"),
 }
+# The crate of the function of each name that takes the watches as numbers.
+HOMES = {"quote": "quoting", "both": "quote_looking", "preview": "previewing", "pair": "pairing", "unpair": "pairing"}
 # The machine values of a result of each type, and that what a call hands back is spelled so.
 SPELLED = {"Reply": ("machines", "spelled"), "Effect": ("effect-machines", "effect-spelled"), "BothReply": ("both-machines", "both-spelled")}
 MARK = "-- what is had of each parameter at the end"
@@ -272,7 +274,7 @@ class Walk:
 
 
 def shared_walk(name):
-    """The walk of a function of shared_records."""
+    """The walk of a function of book_shared_records."""
     w = Walk(name, True)
     records, k = w.life["records"], len(w.life)
     lives = [i for i in range(k) if i != records]
@@ -282,8 +284,10 @@ def shared_walk(name):
     order = sum([["numbers", "lent"] if n == "records" else [n] for n in w.names], [])
     sorts = dict(w.params, numbers="numbers", lent="lent")
     pick = lambda n, numbers, many, other: {"numbers": numbers, "lent": many}.get(n) or other(n, sorts[n])
-    w.begin(f"`{name}_lent`")
-    w.add(f"  -- what `{name}_lent` binds outside, that it is given what it asks, and what is known of its result",
+    home = HOMES[name]
+    symbol = f"#{home.replace('_', '-')}·{name}"
+    w.begin(f"`{name}` of `{home}`")
+    w.add(f"  -- what `{name}` of `{home}` binds outside, that it is given what it asks, and what is known of its result",
           "  abbrev lives : " + product(["Lft"] * len(lives)), "  lives = " + nest(w.lifetimes("κ", lives)), "",
           "  abbrev Tokens : Item 𝓤", "  Tokens = " + w.tokens(lives), "",
           "  abbrev asked : List ℕ → " + product([pick(n, "List ℕ", "ℕ", lambda _, s: w.denotation(s)) for n in order]),
@@ -303,7 +307,7 @@ def shared_walk(name):
         context.remove(i)
     w.exits(["Tokens", f"‵ (flft κ{low(records)} q{low(records)})"], gather)
     w.add(f"  module _ {w.fits()}",
-          f"      (C : Calls 𝓤 H) (Λ : Loops 𝓤 H) (fm : FmC 𝓤 H (W .laws) C) (known-numbers : Triple 𝓤 (C #watch-records·numbers) (Numbers 𝓤 H A mem run)) (known-callee : Triple 𝓤 (C #lending·{name}-lent) (Callee 𝓤 H A mem run)) where")
+          f"      (C : Calls 𝓤 H) (Λ : Loops 𝓤 H) (fm : FmC 𝓤 H (W .laws) C) (known-numbers : Triple 𝓤 (C #watch-records·numbers) (Numbers 𝓤 H A mem run)) (known-callee : Triple 𝓤 (C {symbol}) (Callee 𝓤 H A mem run)) where")
     w.enter()
     off = k + len(w.params) + 1
     here = w.place(w.local["records"], off)
@@ -324,12 +328,12 @@ def shared_walk(name):
     w.answered(order, "Tokens", "lasts callee.ended lives (asked r) zs", "Promised r j zs", "said", w.place(0, kept + 3))
     places = [w.place(i, kept + 3) for i in range(w.locals)]
     w.leave(places[::-1], [(p, p + 1) for p in places], [0, kept + 1] + list(range(kept, 0, -1)), order, f"({name}-records ys {w.of} e said)", 6)
-    w.close("shared-records", [("known-numbers", "#watch-records·numbers", "Numbers", "numbers"), ("known-callee", f"#lending·{name}-lent", "Callee", "callee")])
+    w.close("book-shared-records", [("known-numbers", "#watch-records·numbers", "Numbers", "numbers"), ("known-callee", symbol, "Callee", "callee")])
     return w.lines
 
 
 def valued_walk(name):
-    """The walk of a function of by_value."""
+    """The walk of a function of book_by_value."""
     w = Walk(name, False)
     k, kept = len(w.life), len(w.kept)
     lives = ["ν" if n == "records" else w.life[n] for n in w.names if n == "records" or n in w.life]
@@ -360,7 +364,7 @@ def valued_walk(name):
           f"  Promised j zs = {w.promise} " + w.promised("(watched records)", "j", {n: f"(zs {'.1 ' * order.index(n)}.0)" for n in w.kept}), "")
     w.exits([f"‵ (flft κ{low(i)} q{low(i)})" for i in range(k)], ["nothing !"] + sum([[at(i, 0), "join !"] for i in range(k, 0, -1)], []))
     w.add(f"  module _ {w.fits()}",
-          f"      (C : Calls 𝓤 H) (Λ : Loops 𝓤 H) (fm : FmC 𝓤 H (W .laws) C) (known : Triple 𝓤 (C #shared-records·{name}) (Callee 𝓤 H A mem run)) where",
+          f"      (C : Calls 𝓤 H) (Λ : Loops 𝓤 H) (fm : FmC 𝓤 H (W .laws) C) (known : Triple 𝓤 (C #book-shared-records·{name}) (Callee 𝓤 H A mem run)) where",
           "    eight : length records ≡ 8", "    eight = is-records .1 .0 .1", "")
     w.enter()
     off, l = k + len(w.params) + 2, low(held)
@@ -397,11 +401,11 @@ def valued_walk(name):
     frees = [(behind(i, items), behind(i, items) + 1) for i in range(held)] + [(0, behind(held + 1, items) + 2)]
     frees += [(behind(i, items) - 1, behind(i, items)) for i in range(held + 1, w.locals)]
     w.leave(forgets, frees, list(range(k, 0, -1)) + list(range(k + kept, k, -1)), order, "kept", 7)
-    w.close("by-value", [("known", f"#shared-records·{name}", "Callee", "callee")])
+    w.close("book-by-value", [("known", f"#book-shared-records·{name}", "Callee", "callee")])
     return w.lines
 
 
-for crate, walk in (("shared_records", shared_walk), ("by_value", valued_walk)):
+for crate, walk in (("book_shared_records", shared_walk), ("book_by_value", valued_walk)):
     for name in CALLS:
         path = f"crates/{crate}/proofs/{name}/Proof.antt"
         with open(path) as file:

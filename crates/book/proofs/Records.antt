@@ -6,9 +6,9 @@ use Rattle.head.specs.declared.Watch as Record
 use Rattle.head.specs.Desks.{deskUnit, deskIn, sizeIn}
 use Rattle.model.specs.Rows.{Tables}
 use Rattle.model.specs.Calls.{Lending, Lent, Seen, World, worldFirst}
-use Rattle.claims.specs.Claims.{AllMade, Refines}
+use Rattle.model_claims.specs.Claims.{AllMade, Refines}
 use Rattle.model.proofs.Desks.{desk-of-record, size-of-record}
-use Rattle.claims.proofs.Refining.{calls-refine}
+use Rattle.model_claims.proofs.Refining.{calls-refine}
 use Rattle.watch_records.specs.Records.{recordNumber, watched}
 
 -- what the model is told of lent tables and records

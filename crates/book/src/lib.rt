@@ -1,19 +1,18 @@
 // The public calls on a book, with the watches in a lent list of records: the opening here, the others handed on.
 ghost use Rattle.watch_records.specs.Records.{watched};
 ghost use Rattle.model.specs.Promises.{tables, Opened};
-pub use changed_records::end;
-pub use changed_records::watch;
-pub use due::due;
+pub use book_changed_records::end;
+pub use book_changed_records::watch;
+pub use book_shared_records::both;
+pub use book_shared_records::pair;
+pub use book_shared_records::preview;
+pub use book_shared_records::quote;
+pub use book_shared_records::unpair;
+pub use call_looking::due;
+pub use call_looking::look;
+pub use call_looking::past;
+use head::Reply;
 use head::Watch;
-use lending::open_lent;
-pub use looking::look;
-pub use looking::past;
-use replies::Reply;
-pub use shared_records::both;
-pub use shared_records::pair;
-pub use shared_records::preview;
-pub use shared_records::quote;
-pub use shared_records::unpair;
 pub use watch_records::find_record;
 use watch_records::numbers;
 use watch_records::store;
@@ -37,7 +36,7 @@ pub fn open(
 {
     let before = numbers(&*watches);
     let lent = watches.len();
-    let judged = open_lent(
+    let made = call_opening::open(
         dimensions,
         capacity,
         directions,
@@ -48,8 +47,6 @@ pub fn open(
         before,
         lent,
     );
-    if judged.accepted {
-        store(&mut *watches, [0; 8]);
-    }
-    judged.reply
+    store(&mut *watches, made.watches);
+    made.reply
 }

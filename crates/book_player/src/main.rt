@@ -1,8 +1,11 @@
 // The book player: makes the calls that the lines of standard input ask for on real buffers, and prints what was seen
 // of each.
+use head::CHANGE_BYTES;
+use head::COLUMN_CELLS;
+use head::PLACES;
 use player_calls::write;
-use player_input::Cursor;
-use player_input::next_line;
+use player_lines::Cursor;
+use player_lines::next_line;
 use player_output::Print;
 use player_print::print_line;
 use player_print::print_tables;
@@ -11,9 +14,6 @@ use player_reads::set;
 use player_state::State;
 use player_state::begin;
 use player_state::poke;
-use sizes::CHANGE_BYTES;
-use sizes::COLUMN_CELLS;
-use sizes::PLACES;
 
 // How many bytes of lines are kept at a time, and how many are gathered before they are written out.
 const PIECE: usize = 65536;

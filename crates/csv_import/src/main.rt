@@ -2,7 +2,7 @@
 // not fit is named on standard error with its number, and nothing is written.
 ghost use Prim.Native.Nat.{_≤_};
 ghost use lib.ListN.{length};
-use imports::Imported;
+use csv_frames::Imported;
 use libc::STDERR_FILENO;
 use libc::STDIN_FILENO;
 use line_fields::read_fields;
@@ -99,7 +99,7 @@ fn import_in(d: u32, file: &mut [u8], out: &mut [u8]) {
     let used = io::read_full(STDIN_FILENO, file);
     let is_whole = at_end();
     let end = file_end(used, is_whole);
-    let imported = imports::import(d, &file[..end], out);
+    let imported = csv_frames::import(d, &file[..end], out);
     answer(imported, is_whole, out);
 }
 

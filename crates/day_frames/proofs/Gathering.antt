@@ -22,9 +22,9 @@ use Rattle.refusals.specs.declared.Answer.the-variants.{Accepted}
 use Rattle.refusals.specs.Refusals.{number, numberOf, firstOf}
 use Rattle.refusals.proofs.Numbers.{zero-passed, number-above, accepted-granted}
 use Rattle.text.specs.Text.{line, Laid}
-use Rattle.sheets.specs.declared.SheetReply.{SheetReply}
+use Rattle.day_skyline.specs.declared.SheetReply.{SheetReply}
 use Rattle.lists.specs.Lists.{laid}
-use Rattle.sheets.specs.Sheet.{longestDay, columnsHold, sheetOf, sheetAnswer, Sheeted}
+use Rattle.day_skyline.specs.Sheet.{longestDay, columnsHold, sheetOf, sheetAnswer, Sheeted}
 use Rattle.day_frames.specs.declared.Gathered.{Gathered}
 use Rattle.day_frames.specs.Gather.{none, overWith, withQuote, afterMessage, afterSaying, stored, gatheredAfter, cellsAfter, Stepped, gatheredIn, cellsIn, Gathers, earlyAnswer, dayAnswer, lineBy, dayLine}
 

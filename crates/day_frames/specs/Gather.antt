@@ -11,7 +11,7 @@ use Rattle.frames.specs.Frames.{Saying, told, ended, refused, Reading, readAt}
 use Rattle.refusals.specs.declared.Refusal.the-variants.{OutOfPlace, Settings, ColumnCount}
 use Rattle.refusals.specs.Refusals.{number, firstOf}
 use Rattle.text.specs.Text.{line}
-use Rattle.sheets.specs.Sheet.{longestDay, columnsHold, sheetOf, sheetAnswer}
+use Rattle.day_skyline.specs.Sheet.{longestDay, columnsHold, sheetOf, sheetAnswer}
 use Rattle.day_frames.specs.declared.Gathered.{Gathered}
 
 -- at first: no frame taken

@@ -3,14 +3,14 @@ ghost use mathlib.Core.Path.{_≡_};
 ghost use Prim.Native.Nat.{_+_, _*_, _≤_};
 ghost use lib.ListN.{length};
 ghost use Rattle.text.specs.Text.{Laid};
-ghost use Rattle.sheets.specs.Sheet.{columnsHold};
+ghost use Rattle.day_skyline.specs.Sheet.{columnsHold};
 ghost use Rattle.day_frames.specs.Gather.{none, overWith, withQuote, afterMessage, stored, Stepped, Gathers, earlyAnswer, dayLine};
+use day_skyline::sheet;
 use frames::Message;
 use frames::read_at;
 use head::Head;
 use refusals::Answer;
 use refusals::Refusal;
-use sheets::sheet;
 use text::put_line;
 
 // The most quotes of a day.

@@ -7,8 +7,8 @@ use lib.ListN.{length}
 use Rattle.head.specs.Heads.{freshHead, settingsHold, lastPosition}
 use Rattle.model.specs.Reference.{opening, skylineOf, referenceStep, tells}
 use Rattle.refusals.specs.Refusals.{granted}
-use Rattle.audit_model.specs.Audit.{tapeOpening, plays}
-use Rattle.audit_model.proofs.Plays.{WideAll, opening-plays, opening-accepted}
+use Rattle.model_audit.specs.Audit.{tapeOpening, plays}
+use Rattle.model_audit.proofs.Plays.{WideAll, opening-plays, opening-accepted}
 use Rattle.drill_model.specs.Drill.{Held, fedBook, lastList}
 
 module _ (d N directions n : ℕ) (hold : settingsHold d N directions ≡ true) where

@@ -13,8 +13,8 @@ use Rattle.lists.proofs.Booleans.{both, neither}
 use Rattle.drill_model.specs.Turns.{First, left, laying, someBelow, eachBelow, wins, keeps, bestPlace}
 use Rattle.drill_model.proofs.Below.{least-none, least-at, each-not}
 use Rattle.drill_model.proofs.Turned.{first-by-place, alone-by-place, pass-first, second-by-each, over-by-list}
-use Rattle.drill_lists.specs.declared.Rules.{Rules}
-use Rattle.drill_lists.specs.Numbers.{wonBy}
+use Rattle.drill_turns.specs.declared.last_list.Rules.{Rules}
+use Rattle.drill_turns.specs.Numbers.{wonBy}
 use Rattle.drill_turns.specs.declared.Play.{Play}
 use Rattle.drill_turns.specs.Plays.{numbersOf, firstHand, secondHand, laidIn, LaidFirst, LaidSecond, placeIn, winsIn}
 use Rattle.drill_turns.proofs.Playing.{length-numbers}

@@ -1,10 +1,12 @@
-// The two turns of the drill, which call each other: each quote laid leaves one fewer in hand.
+// The two turns of the drill, which call each other: each quote laid leaves one fewer in hand; and the last list, on which they end.
+mod last_list;
+
+pub use last_list::Rules;
+pub use last_list::first_stands;
 ghost use mathlib.Core.Path.{_≡_};
 ghost use Prim.Native.Nat.{_+_, _-_, _<_, _≤_};
-ghost use Rattle.drill_lists.specs.Numbers.{Fits};
+ghost use Rattle.drill_turns.specs.Numbers.{Fits};
 ghost use Rattle.drill_turns.specs.Plays.{Fair, LeftOf, Started, LaidFirst, LaidSecond, placeIn, winsIn};
-use drill_lists::Rules;
-use drill_lists::first_stands;
 
 // A play: the numbers of the quotes in each hand, as many as are left, and of those laid, in their order.
 pub struct Play {
@@ -23,7 +25,7 @@ fn left(hand: [u32; 4], i: usize) -> [u32; 4]
     let mut kept = [0u32; 4];
     let mut j: usize = 0;
     while j < 3 {
-        kept[j] = cells::chosen(j < i, hand[j], hand[j + 1]);
+        kept[j] = table_cells::chosen(j < i, hand[j], hand[j + 1]);
         j += 1;
     }
     kept

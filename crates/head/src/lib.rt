@@ -1,4 +1,18 @@
-// The head of a book with its limits, and the records of its watches.
+// The head of a book with its limits, the records of its watches, what the calls and the audit hand back, and how long buffers are that
+// suffice.
+mod replies;
+mod sizes;
+
+pub use replies::BothReply;
+pub use replies::Effect;
+pub use replies::Reply;
+pub use replies::Verdict;
+pub use sizes::CHANGE_BYTES;
+pub use sizes::CHANGE_FRAME;
+pub use sizes::COLUMN_CELLS;
+pub use sizes::PAIR_FRAME;
+pub use sizes::PLACES;
+pub use sizes::WATCHES;
 ghost use mathlib.Core.Path.{_≡_};
 ghost use Rattle.skyline.specs.Skyline.{windowStart};
 ghost use Rattle.head.specs.Heads.{freshHead, settingsHold, afterQuote, withPair, tornPair};

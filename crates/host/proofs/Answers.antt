@@ -14,7 +14,7 @@ use Rattle.frame_kinds.specs.Kinds.{bodyLength}
 use Rattle.frames.specs.Frames.{Reading, reading, stays, readAt, columnsAt}
 use Rattle.frame_kinds.proofs.Shapes.{quote-body}
 use Rattle.frames.proofs.Reading.{read-columns, Found, beyond, at-end, unknown, cut, whole, found}
-use Rattle.standing.specs.Standing.{comparison}
+use Rattle.host_standing.specs.Standing.{comparison}
 use Rattle.host.specs.Host.{kindOf, checkOf, columnCount, columnsOf, compareOf}
 
 -- how many columns a kind gives

@@ -14,8 +14,8 @@ use Rattle.lists.specs.Lists.{run}
 use Rattle.lists.proofs.Booleans.{either, and-false, or-right}
 use Rattle.frame_kinds.specs.Kinds.{within}
 use Rattle.frames.specs.Frames.{columnsAt}
-use Rattle.standing.specs.Standing.{standing, number, comparison}
-use Rattle.standing.proofs.Refusals.{few, unlike, high-bit, stands}
+use Rattle.host_standing.specs.Standing.{standing, number, comparison}
+use Rattle.host_standing.proofs.Refusals.{few, unlike, high-bit, stands}
 use Rattle.host.specs.Host.{kindOf, columnCount, columnsOf, compareOf, byKinds}
 use Rattle.host.proofs.Answers.{quote-count, low-count, other-count, count-cases}
 

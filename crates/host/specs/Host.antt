@@ -6,7 +6,7 @@ use lib.Dec.{ltb, eqb}
 use lib.ListN.{length, getD, take}
 use Rattle.frame_kinds.specs.Kinds.{within, bodyLength}
 use Rattle.frames.specs.Frames.{columnsAt}
-use Rattle.standing.specs.Standing.{standing, number, comparison}
+use Rattle.host_standing.specs.Standing.{standing, number, comparison}
 
 -- the kind of the frame at the start of the bytes
 abbrev pub kindOf : List ℕ → ℕ

@@ -1,11 +1,11 @@
 // The two functions that a C host calls: the check of a frame and the comparison of two quote frames.
 ghost use mathlib.Core.Path.{_≡_};
-ghost use Rattle.standing.specs.Standing.{answered};
+ghost use Rattle.host_standing.specs.Standing.{answered};
 ghost use Rattle.host.specs.Host.{checkOf, columnCount, compareOf};
 use frames::body_length;
 use frames::read_at;
-use standing::Compared;
-use standing::compare_quotes;
+use host_standing::Compared;
+use host_standing::compare_quotes;
 
 // 0 for a whole frame at the start of the bytes, else 1 or 2.
 #[no_mangle]

@@ -37,7 +37,7 @@ pub extern "C" fn bqb_quote_look(
         *listed = 0;
         return short_answer(before);
     }
-    let made = by_value::both(
+    let made = book_by_value::both(
         before,
         quote,
         n,

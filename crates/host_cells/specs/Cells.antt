@@ -11,7 +11,7 @@ use Rattle.head.specs.declared.Desk.{Desk}
 use Rattle.head.specs.declared.Desk.the-variants.{One, Two}
 use Rattle.head.specs.Desks.{recordOf, recordCount}
 use Rattle.refusals.specs.Refusals.{numberOf, granted}
-use Rattle.replies.specs.declared.Reply.{Reply}
+use Rattle.head.specs.declared.replies.Reply.{Reply}
 
 -- the head that eight cells hold: d, N, directions, the newest position, live rows, rows held, and the pair
 unfoldable pub headIn : List ℕ → Head

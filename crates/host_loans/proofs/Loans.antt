@@ -4,8 +4,10 @@ use Prim.Native.Nat.{ℕ, zero, suc, _<_, _≤_, _/_}
 use native.Mathlib.Omega.{arith}
 use mathlib.Core.Bool.{Bool, true, false, not, cond}
 use mathlib.Core.List.{List, [], _∷_}
-use lib.ListN.{length, take, drop}
+use lib.Dec.{ltb}
+use lib.ListN.{length, take, drop, length-take}
 use lib.Seq.{take-all}
+use borrow.Author.Tests.{lt-ltb}
 use Rattle.lists.specs.Lists.{run}
 use Rattle.head.specs.declared.Head.{Head}
 use Rattle.head.specs.declared.Desk.{Desk}
@@ -16,17 +18,22 @@ use Rattle.refusals.specs.declared.Refusal.the-variants.{Settings, ShortLoan}
 use Rattle.refusals.specs.declared.Answer.the-variants.{Refused}
 use Rattle.refusals.specs.Refusals.{number, numberOf, firstOf, granted}
 use Rattle.refusals.proofs.Numbers.{granted-refused, refused-granted, accepted-granted}
-use Rattle.replies.specs.declared.Reply.{Reply}
-use Rattle.replies.specs.declared.Effect.{Effect}
-use Rattle.replies.specs.declared.BothReply.{BothReply}
-use Rattle.replies.specs.Replies.{Outcome, outcome}
+use Rattle.head.specs.declared.replies.Reply.{Reply}
+use Rattle.head.specs.declared.replies.Effect.{Effect}
+use Rattle.head.specs.declared.replies.BothReply.{BothReply}
+use Rattle.head.specs.Replies.{Outcome, outcome}
 use Rattle.model.specs.Rows.{Tables}
-use Rattle.model.specs.Book.{replyOf, openAnswer, openReply, openTables, openWatches, watchAnswer, watchReply, watchWatches, endAnswer, endReply, endWatches}
+use Rattle.model.specs.Book.{watchfulAnswer, replyOf, openReply, openTables, openWatches, quoteAnswer, bothAnswer, bothReply, bothListed, bothTables, bothOut, bothCells, watchAnswer, watchReply, watchWatches, endAnswer, endReply, endWatches, pairAnswer, unpairAnswer, unpairReply}
 use Rattle.model.specs.Promises.{Opened, Quoted, QuotedLooked, Previewed, Watched, Ended, Paired, Unpaired}
+use Rattle.model.proofs.Replying.{refused-reply}
 use Rattle.watch_records.specs.Records.{watched}
-use Rattle.lending.specs.Lent.{judgement, shortLoanAnswer, shortLoanReply}
-use Rattle.lending.proofs.ShortLoan.{quote-short, both-short, preview-short, pair-short, unpair-short, watch-short, end-short, open-short}
-use Rattle.previewing.specs.Effects.{effectOf}
+use Rattle.call_judging.specs.Answers.{shortLoanAnswer}
+use Rattle.call_judging.proofs.Answering.{short-watchful, short-open}
+use Rattle.call_watching.proofs.Watches as watching
+use Rattle.call_watching.proofs.Pairs.{pair-refused}
+use Rattle.call_quoting.proofs.Quotes.{quote-refused}
+use Rattle.call_previewing.specs.Effects.{effectOf}
+use Rattle.call_previewing.proofs.Previews.{tells-quote}
 use Rattle.host_cells.specs.Cells.{eightRecords, recordsIn, Answered, OnlyEight}
 
 -- ---- sixteen cells or more
@@ -58,61 +65,66 @@ short-number h = go (settingsHold (h .dimensions) (h .capacity) (h .directions))
     go true = refl
     go false = refl
 
-short-outcome : (h back : Head) → outcome (shortReply h back) ≡ shortLoanReply h back
-unfolding shortLoanReply replyOf
-short-outcome h back = rw (← short-number h, refused-granted (shortRefusal h) back back, refused-granted {A = ℕ} (shortRefusal h) 0 0)
-
--- nothing is as it is after an accepted call
+-- where it is the call's answer nothing is as it is after an accepted call
 unchanged : {A : Type 0} (h : Head) {k : ℕ} (x y : A) → number (shortRefusal h) ≡ k → y ≡ granted k x y
 unchanged h x y e = sym (ap (λ (n : ℕ). granted n x y) (sym e) ∙ refused-granted (shortRefusal h) x y)
+
+replied : (h back next : Head) (count : ℕ) {k : ℕ} → number (shortRefusal h) ≡ k → outcome (shortReply h back) ≡ replyOf k back next count
+replied h back next count e = refused-reply {a = Refused (shortRefusal h)} e refl back next count
 
 -- the number of the answer is the one that the host is given
 short-answered : (h at : Head) {n : ℕ} → h ≡ at → n ≡ shortLoanAnswer h → n ≡ number (shortRefusal at)
 short-answered h at e a = a ∙ ap shortLoanAnswer e ∙ sym (short-number at)
 
 module _ (cells : List ℕ) (lacking : length cells < 16) where
-  fewer : length cells / 2 < 8
-  fewer = omega arith
+  abbrev ws : List ℕ
+  ws = recordsIn cells
 
-  quote-lacking : (h : Head) (x : List ℕ) (t : Tables) (before : List ℕ) → Quoted h x t (recordsIn cells) before (shortReply h h) t before
+  fewer : ltb (length ws) 8 ≡ true
   unfolding recordsIn
-  quote-lacking h x t before = quote-short (eightRecords cells) (length cells / 2) fewer h x t (short-outcome h h)
+  fewer = lt-ltb (length (take (length cells / 2) (eightRecords cells))) 8 (omega (arith, length-take (length cells / 2) (eightRecords cells)))
+
+  -- its number is the call's answer
+  short-answers : (h : Head) (t : Tables) (more : List (Bool × ℕ)) → number (shortRefusal h) ≡ watchfulAnswer h t ws more
+  short-answers h t more = short-number h ∙ sym (short-watchful ws fewer h t more)
+
+  quote-lacking : (h : Head) (x : List ℕ) (t : Tables) (before : List ℕ) → Quoted h x t ws before (shortReply h h) t before
+  unfolding quoteAnswer
+  quote-lacking h x t before = quote-refused h x t ws before (short-answers h t _) refl
 
   both-lacking : (h : Head) (x : List ℕ) (n : ℕ) (t : Tables) (before list : List ℕ)
-      → QuotedLooked h x n t (recordsIn cells) before list (record { reply = shortReply h h; listed = 0 }) t before list
-  unfolding recordsIn
-  both-lacking h x n t before list = both-short (eightRecords cells) (length cells / 2) fewer h x n t (short-outcome h h) refl
+      → QuotedLooked h x n t ws before list (record { reply = shortReply h h; listed = 0 }) t before list
+  unfolding quoteAnswer bothAnswer bothReply bothListed bothTables bothOut bothCells
+  both-lacking h x n t before list =
+      let answered : number (shortRefusal h) ≡ quoteAnswer h x t ws (length before) = short-answers h t _ in
+      let e : number (shortRefusal h) ≡ bothAnswer h x n t ws (length before) (length list) = answered ∙ unchanged h _ _ answered in
+      record { reply = replied h h _ _ e; listed = unchanged h _ 0 e; lent = unchanged h _ t e; out = unchanged h _ before e; positions = unchanged h _ list e }
 
-  preview-lacking : (h : Head) (x : List ℕ) (t : Tables) (before : List ℕ) → Previewed h x t (recordsIn cells) before (effectOf h (shortReply h h)) before
-  unfolding recordsIn
-  preview-lacking h x t before = preview-short (eightRecords cells) (length cells / 2) fewer h x t (shortReply h h) (short-outcome h h) refl
+  preview-lacking : (h : Head) (x : List ℕ) (t : Tables) (before : List ℕ) → Previewed h x t ws before (effectOf h (shortReply h h)) before
+  preview-lacking h x t before = let m = quote-lacking h x t before in tells-quote h x t ws (shortReply h h) refl (m .reply) (m .out)
 
-  pair-lacking : (h : Head) (n1 n2 : ℕ) (t : Tables) (before : List ℕ) → Paired h n1 n2 t (recordsIn cells) before (shortReply h h) before
-  unfolding recordsIn
-  pair-lacking h n1 n2 t before = pair-short (eightRecords cells) (length cells / 2) fewer h n1 n2 t (short-outcome h h)
+  pair-lacking : (h : Head) (n1 n2 : ℕ) (t : Tables) (before : List ℕ) → Paired h n1 n2 t ws before (shortReply h h) before
+  unfolding pairAnswer
+  pair-lacking h n1 n2 t before = pair-refused h n1 n2 t ws before (short-answers h t _) refl
 
-  unpair-lacking : (h : Head) (t : Tables) → Unpaired h t (recordsIn cells) (shortReply h h)
-  unfolding recordsIn
-  unpair-lacking h t = unpair-short (eightRecords cells) (length cells / 2) fewer h t (short-outcome h h)
+  unpair-lacking : (h : Head) (t : Tables) → Unpaired h t ws (shortReply h h)
+  unfolding unpairReply unpairAnswer
+  unpair-lacking h t = record { reply = replied h h _ _ (short-answers h t _) }
 
-  watch-lacking : (h : Head) (desk : Desk) (n : ℕ) (t : Tables) (before : List ℕ) → Watched h desk n t (recordsIn cells) before (shortReply h h) (recordsIn cells) before
-  unfolding recordsIn judgement watchReply watchWatches replyOf
-  watch-lacking h desk n t before =
-      let told = watch-short (eightRecords cells) (length cells / 2) fewer h desk n t (shortReply h h) (short-outcome h h) {j = judgement (shortReply h h)} refl in
-      record { reply = told .judged .reply; watches = unchanged h _ _ (ap Outcome.number (told .judged .reply)); out = told .out }
+  watch-lacking : (h : Head) (desk : Desk) (n : ℕ) (t : Tables) (before : List ℕ) → Watched h desk n t ws before (shortReply h h) ws before
+  unfolding watchAnswer
+  watch-lacking h desk n t before = watching.watch-left (watching.watch-refused h desk n t ws before {a = Refused (shortRefusal h)} (short-answers h t _) refl) refl
 
-  end-lacking : (h : Head) (desk : Desk) (n : ℕ) (t : Tables) → Ended h desk n t (recordsIn cells) (shortReply h h) (recordsIn cells)
-  unfolding recordsIn judgement endReply endWatches replyOf
-  end-lacking h desk n t =
-      let told = end-short (eightRecords cells) (length cells / 2) fewer h desk n t (shortReply h h) (short-outcome h h) {j = judgement (shortReply h h)} refl in
-      record { reply = told .reply; watches = unchanged h _ _ (ap Outcome.number (told .reply)) }
+  end-lacking : (h : Head) (desk : Desk) (n : ℕ) (t : Tables) → Ended h desk n t ws (shortReply h h) ws
+  unfolding endAnswer
+  end-lacking h desk n t = watching.end-left (watching.end-refused h desk n t ws {a = Refused (shortRefusal h)} (short-answers h t _) refl) refl
 
-  open-lacking : (d N directions : ℕ) (t : Tables) → Opened d N directions t (recordsIn cells) (shortReply (freshHead d N directions) (freshHead 0 0 0)) t (recordsIn cells)
-  unfolding recordsIn judgement openReply openWatches replyOf
+  open-lacking : (d N directions : ℕ) (t : Tables) → Opened d N directions t ws (shortReply (freshHead d N directions) (freshHead 0 0 0)) t ws
+  unfolding openReply openTables openWatches
   open-lacking d N directions t =
       let fresh = freshHead d N directions in
-      let told = open-short (eightRecords cells) (length cells / 2) fewer d N directions t (shortReply fresh (freshHead 0 0 0)) refl refl (short-outcome fresh (freshHead 0 0 0)) {j = judgement (shortReply fresh (freshHead 0 0 0))} refl in
-      record { reply = told .judged .reply; lent = told .lent; watches = unchanged fresh _ _ (ap Outcome.number (told .judged .reply)) }
+      let e = short-number fresh ∙ sym (short-open ws fewer d N directions t) in
+      record { reply = replied fresh (freshHead 0 0 0) _ _ e; lent = unchanged fresh _ t e; watches = unchanged fresh _ ws e }
 
 -- the records that are lent by value are those that the cells hold
 pub lent-eight : (held : List Watch) (cells : List ℕ) → watched held ≡ eightRecords cells → 16 ≤ length cells → watched held ≡ recordsIn cells

@@ -4,9 +4,9 @@ use Prim.Native.Nat.{ℕ}
 use mathlib.Core.List.{List}
 use Rattle.head.specs.declared.Head.{Head}
 use Rattle.refusals.specs.Refusals.{numberOf}
-use Rattle.replies.specs.declared.Reply.{Reply}
-use Rattle.replies.specs.Replies.{Finding}
-use Rattle.audit_model.specs.Audit.{auditFinding}
+use Rattle.head.specs.declared.replies.Reply.{Reply}
+use Rattle.head.specs.Replies.{Finding}
+use Rattle.model_audit.specs.Audit.{auditFinding}
 use Rattle.model.specs.Rows.{Tables}
 use Rattle.model.specs.Promises.{Looked, PastLooked, DueLooked}
 use Rattle.host_cells.specs.Cells.{Answered, Counts}

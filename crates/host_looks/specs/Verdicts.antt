@@ -1,6 +1,6 @@
 -- What an audit says, as the two numbers that a C host is given.
 use Prim.Native.Nat.{ℕ}
-use Rattle.replies.specs.Replies.{Finding, yes, no, refused}
+use Rattle.head.specs.Replies.{Finding, yes, no, refused}
 
 -- 0 for a verdict, else the number of the refusal
 abbrev pub findingNumber : Finding → ℕ

@@ -1,17 +1,17 @@
 // The calls for a C host that are lent no records: look, past look, what is due, and the audit.
 ghost use mathlib.Core.Path.{_≡_};
-ghost use Rattle.audit_model.specs.Audit.{auditFinding};
-ghost use Rattle.replies.specs.Replies.{finding};
+ghost use Rattle.model_audit.specs.Audit.{auditFinding};
+ghost use Rattle.head.specs.Replies.{finding};
 ghost use Rattle.model.specs.Promises.{tables, Looked, PastLooked, DueLooked};
 ghost use Rattle.host_cells.specs.Cells.{headIn, Answered, Counts};
 ghost use Rattle.host_looks.specs.Verdicts.{findingNumber, findingVerdict};
-use audits::audit;
-use due::due;
+use book_audit::audit;
+use call_looking::due;
+use call_looking::look;
+use call_looking::past;
+use head::Verdict;
 use host_cells::head_of;
 use host_cells::number_of;
-use looking::look;
-use looking::past;
-use replies::Verdict;
 
 // Writes the positions of the list of n into lent cells, and hands back how many.
 #[no_mangle]

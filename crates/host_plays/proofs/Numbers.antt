@@ -9,10 +9,10 @@ use Rattle.lists.specs.Lists.{run}
 use Rattle.lists.proofs.Places.{map-places}
 use Rattle.head.specs.declared.Head.{Head}
 use Rattle.head.specs.Desks.{deskIn, sizeIn, recordOf}
-use Rattle.desk_shares.proofs.RecordNumbers.{made-up}
+use Rattle.watch_numbers.proofs.RecordNumbers.{made-up}
 use Rattle.model.specs.Rows.{Tables}
-use Rattle.turn_lines.specs.Turns.{player}
-use Rattle.turn_lines.specs.declared.Step.{Step}
+use Rattle.line_answers.specs.Turns.{player}
+use Rattle.line_answers.specs.declared.Step.{Step}
 use Rattle.tape.specs.Steps.{Stepped}
 use Rattle.host_cells.specs.Cells.{recordAt, eightRecords}
 

@@ -6,8 +6,8 @@ use mathlib.Core.List.{List, [], _∷_}
 use lib.ListN.{getD}
 use Rattle.refusals.specs.Refusals.{numberOf}
 use Rattle.model.specs.Rows.{Tables}
-use Rattle.turn_lines.specs.Turns.{player}
-use Rattle.turn_lines.specs.declared.Step.{Step}
+use Rattle.line_answers.specs.Turns.{player}
+use Rattle.line_answers.specs.declared.Step.{Step}
 use Rattle.tape.specs.Steps.{Stepped}
 use Rattle.host_cells.specs.Cells.{headIn, eightRecords}
 

@@ -4,15 +4,15 @@ ghost use Rattle.head.specs.Desks.{recordOf};
 ghost use Rattle.model.specs.Promises.{tables};
 ghost use Rattle.host_cells.specs.Cells.{eightRecords};
 ghost use Rattle.host_plays.specs.Plays.{flagOf, CellsPlayed};
-use desk_shares::DESK_UNIT;
-use desk_shares::desk_of;
-use desk_shares::size_of;
 use host_cells::head_of;
 use host_cells::number_of;
 use host_cells::store_head;
 use tape::CHANGE_BYTES;
 use tape::TEXT_BYTES;
 use tape::play;
+use watch_numbers::DESK_UNIT;
+use watch_numbers::desk_of;
+use watch_numbers::size_of;
 
 // A record of n and desk as one number.
 fn record_of(n: u32, desk: u32) -> u64

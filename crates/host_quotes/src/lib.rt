@@ -35,7 +35,7 @@ pub extern "C" fn bqb_open(
     if watches.len() < 16 {
         return short_answer(Head::fresh(dimensions, capacity, directions));
     }
-    let made = changed_by_value::open(
+    let made = book_by_value::open(
         dimensions,
         capacity,
         directions,
@@ -83,7 +83,7 @@ pub extern "C" fn bqb_quote(
         *count = 0;
         return short_answer(before);
     }
-    let taken = by_value::quote(
+    let taken = book_by_value::quote(
         before,
         quote,
         columns,
@@ -128,7 +128,7 @@ pub extern "C" fn bqb_preview(
         *held = before.held;
         return short_answer(before);
     }
-    let effect = by_value::preview(
+    let effect = book_by_value::preview(
         before,
         quote,
         columns,

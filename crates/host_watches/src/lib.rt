@@ -36,7 +36,7 @@ pub extern "C" fn bqb_set_watch(
         return short_answer(before);
     }
     let whose = desk_of(desk);
-    let made = changed_by_value::watch(
+    let made = book_by_value::watch(
         before,
         whose,
         n,
@@ -81,7 +81,7 @@ pub extern "C" fn bqb_end_watch(
         return short_answer(before);
     }
     let owner = desk_of(desk);
-    let made = changed_by_value::end(
+    let made = book_by_value::end(
         before,
         owner,
         n,
@@ -126,7 +126,7 @@ pub extern "C" fn bqb_set_pair(
         *count = 0;
         return short_answer(before);
     }
-    let reply = by_value::pair(
+    let reply = book_by_value::pair(
         before,
         n1,
         n2,
@@ -163,7 +163,7 @@ pub extern "C" fn bqb_end_pair(
         return short_answer(before);
     }
     let records = records_of(watches);
-    let left = by_value::unpair(before, columns, positions, lower_ends, upper_ends, records);
+    let left = book_by_value::unpair(before, columns, positions, lower_ends, upper_ends, records);
     let unpaired = left.head;
     let answer = left.answer;
     store_head(unpaired, head);

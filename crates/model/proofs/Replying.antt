@@ -6,7 +6,7 @@ use Rattle.refusals.specs.declared.Refusal.{Refusal}
 use Rattle.refusals.specs.declared.Answer.{Answer}
 use Rattle.refusals.specs.declared.Answer.the-variants.{Accepted, Refused}
 use Rattle.refusals.specs.Refusals.{numberOf, granted}
-use Rattle.replies.specs.Replies.{outcome}
+use Rattle.head.specs.Replies.{outcome}
 use Rattle.refusals.proofs.Numbers.{accepted-number, refused-number, refused-granted}
 use Rattle.model.specs.Book.{replyOf}
 

@@ -12,7 +12,7 @@ use Rattle.head.specs.declared.Desk.the-variants.{One, Two}
 use Rattle.head.specs.Desks.{recordCount, deskNumber, deskIn, sizeIn, watchOf}
 use Rattle.refusals.specs.declared.Refusal.the-variants.{Settings, ColumnCount, WindowSize, TapeFull, AlreadyWatched, NoFreeRecord, NotWatched, ShortLoan, Torn, ShortOutput, WindowOrder}
 use Rattle.refusals.specs.Refusals.{number, firstOf, granted}
-use Rattle.replies.specs.Replies.{Outcome}
+use Rattle.head.specs.Replies.{Outcome}
 use Rattle.head.specs.Heads.{maxCapacity, freshHead, settingsHold, afterQuote, withPair, tornPair, lastPosition}
 use Rattle.model.specs.Rows.{Row, Tables, rowsIn, filled, liveRows, listed, dueRows, dueCells, rowsAfter}
 use Rattle.model.specs.Changes.{join, pairJoin, changes, allChanges, pairChanges, frames, mostChanges, watchRoom, changeRoom}

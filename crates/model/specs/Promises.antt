@@ -5,10 +5,10 @@ use mathlib.Core.List.{List, [], _∷_}
 use lib.ListN.{length}
 use Rattle.head.specs.declared.Head.{Head}
 use Rattle.head.specs.declared.Desk.{Desk}
-use Rattle.replies.specs.declared.Reply.{Reply}
-use Rattle.replies.specs.declared.Effect.{Effect}
-use Rattle.replies.specs.declared.BothReply.{BothReply}
-use Rattle.replies.specs.Replies.{outcome}
+use Rattle.head.specs.declared.replies.Reply.{Reply}
+use Rattle.head.specs.declared.replies.Effect.{Effect}
+use Rattle.head.specs.declared.replies.BothReply.{BothReply}
+use Rattle.head.specs.Replies.{outcome}
 use Rattle.model.specs.Rows.{Tables}
 use Rattle.model.specs.Book
 use Rattle.model.specs.Calls.{World}

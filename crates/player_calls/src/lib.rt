@@ -1,6 +1,8 @@
 // The calls that write the tables, the opening, the quote and the quote and look in one, made on the parts of the buffers that are lent.
 ghost use Prim.Native.Nat.{_≤_};
-use changed_by_value::RecordReply;
+use book_by_value::RecordReply;
+use head::BothReply;
+use head::Reply;
 use player_lines::Command;
 use player_lines::Line;
 use player_lines::quoted;
@@ -10,8 +12,6 @@ use player_state::Seen;
 use player_state::State;
 use player_state::least;
 use refusals::Answer;
-use replies::BothReply;
-use replies::Reply;
 
 // Whether a reply accepts.
 fn accepts(reply: Reply) -> bool {
@@ -56,7 +56,7 @@ fn write_lent(
     let held = state.records;
     match command {
         Command::Open => {
-            let made = changed_by_value::open(
+            let made = book_by_value::open(
                 n[0],
                 n[1],
                 n[2],
@@ -71,14 +71,23 @@ fn write_lent(
         Command::Quote => {
             let head = state.head;
             let quote = quoted(&n, line.count);
-            let reply = by_value::quote(head, quote, columns, positions, lower, upper, held, out);
+            let reply = book_by_value::quote(
+                head,
+                quote,
+                columns,
+                positions,
+                lower,
+                upper,
+                held,
+                out,
+            );
             state.replied(reply)
         }
         Command::Both => {
             let head = state.head;
             let size = n[0];
             let quote = quoted_behind(&n, line.count);
-            let made = by_value::both(
+            let made = book_by_value::both(
                 head,
                 quote,
                 size,

@@ -1,8 +1,11 @@
-// The lines of the book player: a word, the name of a table where the word wants one, and numbers in decimal with one
-// space before each.
+// The lines of the book player: a word, the name of a table where the word wants one, and numbers in decimal with one space before each; and
+// its input, in which they are found (src/input.rt).
+mod input;
 mod words;
 
 use head::Desk;
+pub use input::Cursor;
+pub use input::next_line;
 pub use words::front;
 pub use words::quoted;
 pub use words::quoted_behind;

@@ -1,5 +1,12 @@
 // What is printed of each line of the book player.
+use head::BothReply;
+use head::CHANGE_BYTES;
+use head::COLUMN_CELLS;
+use head::Effect;
 use head::Head;
+use head::PLACES;
+use head::Reply;
+use head::Verdict;
 use head::Watch;
 use player_output::Print;
 use player_output::flush;
@@ -9,13 +16,6 @@ use player_output::put_word;
 use player_state::Seen;
 use player_state::State;
 use refusals::Answer;
-use replies::BothReply;
-use replies::Effect;
-use replies::Reply;
-use replies::Verdict;
-use sizes::CHANGE_BYTES;
-use sizes::COLUMN_CELLS;
-use sizes::PLACES;
 
 // The number of an answer: 0 where it accepts.
 fn number(answer: Answer) -> u32 {

@@ -1,16 +1,18 @@
 // The calls that only read the tables: looks, what is due and the audit, which are lent no records; the preview of a quote,
 // and those that set and end watches and the pair, which are.
-use audits::audit;
 use book::due;
 use book::look;
 use book::past;
-use by_value::pair;
-use by_value::preview;
-use by_value::unpair;
-use changed_by_value::RecordReply;
-use changed_by_value::end;
-use changed_by_value::watch;
+use book_audit::audit;
+use book_by_value::RecordReply;
+use book_by_value::end;
+use book_by_value::pair;
+use book_by_value::preview;
+use book_by_value::unpair;
+use book_by_value::watch;
+use head::COLUMN_CELLS;
 use head::Head;
+use head::PLACES;
 use player_lines::Command;
 use player_lines::Line;
 use player_lines::front;
@@ -18,8 +20,6 @@ use player_lines::quoted;
 use player_state::Seen;
 use player_state::State;
 use player_state::least;
-use sizes::COLUMN_CELLS;
-use sizes::PLACES;
 
 // How many cells as many rows have, two for each.
 fn row_cells(count: usize) -> usize {

@@ -3,17 +3,17 @@
 mod poking;
 
 ghost use Prim.Native.Nat.{_≤_};
+use head::BothReply;
+use head::CHANGE_BYTES;
+use head::COLUMN_CELLS;
+use head::Effect;
 use head::Head;
+use head::PLACES;
+use head::Reply;
+use head::Verdict;
 use head::Watch;
 pub use poking::begin;
 pub use poking::poke;
-use replies::BothReply;
-use replies::Effect;
-use replies::Reply;
-use replies::Verdict;
-use sizes::CHANGE_BYTES;
-use sizes::COLUMN_CELLS;
-use sizes::PLACES;
 
 // What is to be printed of a line: nothing, that it cannot be taken, a reply with bytes, what a preview hands back with
 // bytes, a reply with so many cells of a list, what a quote and look in one hands back with both, a verdict, or the tables.

@@ -2,7 +2,10 @@
 use crate::Loan;
 use crate::Seen;
 use crate::State;
+use head::CHANGE_BYTES;
+use head::COLUMN_CELLS;
 use head::Head;
+use head::PLACES;
 use head::Watch;
 use player_lines::CELLS;
 use player_lines::COLUMNS;
@@ -14,9 +17,6 @@ use player_lines::OUT;
 use player_lines::POSITIONS;
 use player_lines::UPPER;
 use player_lines::WATCHES;
-use sizes::CHANGE_BYTES;
-use sizes::COLUMN_CELLS;
-use sizes::PLACES;
 
 // How long a buffer is that can be lent.
 fn length(name: u64) -> usize {

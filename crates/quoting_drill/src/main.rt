@@ -119,7 +119,7 @@ fn main() {
     line = with_argument(line, 4);
     let used = line.used;
     let bytes = line.bytes;
-    let asked = hand_files::rules_in(front(&bytes[..], used));
+    let asked = drill_hands::rules_in(front(&bytes[..], used));
     if !(asked.valid & line.whole) {
         say_usage();
         return;
@@ -137,9 +137,9 @@ fn main() {
     let rules = asked.rules;
     let a = one.count;
     let b = two.count;
-    let outcome = hand_files::drill_files(rules, read_part(&first, a), read_part(&second, b));
+    let outcome = drill_hands::drill_files(rules, read_part(&first, a), read_part(&second, b));
     let mut text = [0u8; 16];
-    let count = hand_files::put_outcome(outcome, &mut text);
+    let count = drill_hands::put_outcome(outcome, &mut text);
     streams::put_out(
         printed_part(&text, count),
         b"quoting_drill: standard output",

@@ -6,3 +6,4 @@ pub mod Sought
 pub mod Moved
 pub mod Shifted
 pub mod Due
+pub mod Halves

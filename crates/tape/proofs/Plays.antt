@@ -7,16 +7,16 @@ use lib.Dec.{eqb}
 use Rattle.head.specs.declared.Head.{Head}
 use Rattle.frames.specs.Frames.{readAt}
 use Rattle.model.specs.Rows.{Tables}
-use Rattle.asking.specs.declared.Wanted.{Wanted}
-use Rattle.asking.specs.declared.Wanted.the-variants.{Quote, Look, Past, Watch, End, Pair, Unpair, Open, Nothing, Refused, Misplaced}
-use Rattle.asking.specs.Asking.{asked}
-use Rattle.asking.specs.Placing.{wants}
-use Rattle.asking.specs.Reading.{WishAt}
-use Rattle.asking.proofs.Places.{ends, asked-ends}
+use Rattle.tape_asking.specs.declared.Wanted.{Wanted}
+use Rattle.tape_asking.specs.declared.Wanted.the-variants.{Quote, Look, Past, Watch, End, Pair, Unpair, Open, Nothing, Refused, Misplaced}
+use Rattle.tape_asking.specs.Asking.{asked}
+use Rattle.tape_asking.specs.Placing.{wants}
+use Rattle.tape_asking.specs.Reading.{WishAt}
+use Rattle.tape_asking.proofs.Places.{ends, asked-ends}
 use Rattle.tape_model.specs.Play.{Played, playAsked, playAt, Player, bookMake, begun, bookPlay}
-use Rattle.turn_lines.specs.declared.Turn.{Turn}
-use Rattle.turn_lines.specs.Turns.{player, Effect, made, refusedWith}
-use Rattle.turn_lines.specs.declared.Step.{Step}
+use Rattle.line_answers.specs.declared.Turn.{Turn}
+use Rattle.line_answers.specs.Turns.{player, Effect, made, refusedWith}
+use Rattle.line_answers.specs.declared.Step.{Step}
 use Rattle.tape_turns.specs.Making.{taken, Makes}
 use Rattle.tape.specs.Steps.{SteppedTo, StepMade}
 use Rattle.tape.specs.declared.SlidStep.{SlidStep}

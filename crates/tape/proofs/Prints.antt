@@ -11,14 +11,14 @@ use Rattle.frames.specs.Frames.{readAt}
 use Rattle.model.specs.Rows.{Tables}
 use Rattle.model.specs.Reference.{Reference, Lengths, isOpen, unopened}
 use Rattle.model.specs.Calls.{Lent, Outputs, lengthsOf}
-use Rattle.asking.specs.Asking.{Asked, finished, unread, misplaced, request, asked}
+use Rattle.tape_asking.specs.Asking.{Asked, finished, unread, misplaced, request, asked}
 use Rattle.tape_model.specs.Play.{Played, playAsked, playAt, print, referenceMake, Player, bookMake, begun, bookPlay}
 use Rattle.tape_model.specs.Streams.{Streams, drops, fills}
 use Rattle.tape_model.proofs.Agrees.{Alike, at-first}
 use Rattle.tape_model.proofs.Streaming.{printed-in-pieces}
 use Rattle.tape_model.proofs.Sliding.{slide-alike, plays-alike, stops-alike}
-use Rattle.turn_lines.specs.Turns.{player}
-use Rattle.turn_lines.specs.declared.Step.{Step}
+use Rattle.line_answers.specs.Turns.{player}
+use Rattle.line_answers.specs.declared.Step.{Step}
 use Rattle.tape.specs.Steps.{SteppedTo}
 use Rattle.tape.specs.Prints.{left, Prints, goes-on, ends, forgets, reads, slides}
 

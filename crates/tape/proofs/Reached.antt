@@ -7,10 +7,10 @@ use Rattle.model.specs.Calls.{Reached}
 use Rattle.model.proofs.Reached.{reached-step}
 use Rattle.frames.specs.Frames.{readAt}
 use Rattle.model.specs.Promises.{world}
-use Rattle.asking.specs.Asking.{Asked, finished, unread, misplaced, request, asked}
+use Rattle.tape_asking.specs.Asking.{Asked, finished, unread, misplaced, request, asked}
 use Rattle.tape_model.specs.Play.{playAsked, playAt, Player, bookMake, begun, bookPlay}
-use Rattle.turn_lines.specs.Turns.{player}
-use Rattle.turn_lines.specs.declared.Step.{Step}
+use Rattle.line_answers.specs.Turns.{player}
+use Rattle.line_answers.specs.declared.Step.{Step}
 use Rattle.tape.specs.Steps.{Stepped}
 
 module _ (k : Player) (c : Reached (k .world)) where

@@ -12,12 +12,12 @@ use Rattle.head.specs.Heads.{settingsHold}
 use Rattle.model.specs.Rows.{Tables}
 use Rattle.model.specs.Calls.{Reached}
 use Rattle.model.specs.Promises.{world}
-use Rattle.claims.proofs.Places.{reached-in-places}
-use Rattle.quoting.specs.Entered.{later, Slid, stayed, slid}
+use Rattle.model_claims.proofs.Places.{reached-in-places}
+use Rattle.call_quoting.specs.Entered.{later, Slid, stayed, slid}
 use Rattle.tape_model.specs.Play.{Played, Player, bookPlay}
 use Rattle.tape_model.specs.Streams.{ready}
-use Rattle.turn_lines.specs.Turns.{player}
-use Rattle.turn_lines.specs.declared.Step.{Step}
+use Rattle.line_answers.specs.Turns.{player}
+use Rattle.line_answers.specs.declared.Step.{Step}
 use Rattle.tape.specs.Steps.{StepMade}
 use Rattle.tape.specs.Prints.{left, Prints, goes-on, slides}
 use Rattle.tape.proofs.Reached.{step-reached}

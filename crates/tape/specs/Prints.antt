@@ -7,11 +7,11 @@ use mathlib.Core.List.{List, [], _++_}
 use lib.ListN.{length, take}
 use Rattle.head.specs.Heads.{settingsHold}
 use Rattle.model.specs.Rows.{Tables}
-use Rattle.claims.specs.Places.{SamePlaces}
+use Rattle.model_claims.specs.Places.{SamePlaces}
 use Rattle.model.specs.Promises.{world}
 use Rattle.tape_model.specs.Play.{Player, on}
 use Rattle.tape_model.specs.Streams.{ready}
-use Rattle.turn_lines.specs.declared.Step.{Step}
+use Rattle.line_answers.specs.declared.Step.{Step}
 use Rattle.tape.specs.Steps.{Stepped}
 
 -- the player that a step leaves: it keeps its cells for positions

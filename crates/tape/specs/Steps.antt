@@ -7,9 +7,9 @@ use lib.ListN.{length}
 use Rattle.lists.specs.Lists.{laid}
 use Rattle.refusals.specs.Refusals.{numberOf}
 use Rattle.model.specs.Rows.{Tables}
-use Rattle.quoting.specs.Entered.{Slid}
+use Rattle.call_quoting.specs.Entered.{Slid}
 use Rattle.tape_model.specs.Play.{Played, Player, bookPlay}
-use Rattle.turn_lines.specs.declared.Step.{Step}
+use Rattle.line_answers.specs.declared.Step.{Step}
 use Rattle.tape.specs.declared.SlidStep.{SlidStep}
 
 -- what playing frames that come to this hands back, and leaves of tables, bytes and text

@@ -1,12 +1,12 @@
 // Playing a tape: one frame on a book with lent tables, its lines laid at the start of a lent text.
 mod playing;
 
+pub use head::CHANGE_BYTES;
+use head::CHANGE_FRAME;
+use head::PLACES;
+pub use line_answers::Step;
 pub use playing::play;
 pub use playing::play_known;
-pub use sizes::CHANGE_BYTES;
-use sizes::CHANGE_FRAME;
-use sizes::PLACES;
-pub use turn_lines::Step;
 
 // What playing a frame hands back, and how many places later the rows begin where none was moved.
 pub struct SlidStep {

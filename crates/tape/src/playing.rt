@@ -3,18 +3,18 @@ ghost use mathlib.Core.Path.{_≡_};
 ghost use Prim.Native.Nat.{_≤_};
 ghost use lib.ListN.{length};
 ghost use Rattle.model.specs.Promises.{tables};
-ghost use Rattle.quoting.specs.Known.{Known};
+ghost use Rattle.call_quoting.specs.Known.{Known};
 ghost use Rattle.tape_model.specs.Play.{bookPlay};
-ghost use Rattle.turn_lines.specs.Turns.{textBytes, player};
+ghost use Rattle.line_answers.specs.Turns.{textBytes, player};
 ghost use Rattle.tape.specs.Steps.{Stepped, StepMade};
 use crate::CHANGE_BYTES;
 use crate::SlidStep;
 use crate::TEXT_BYTES;
-use asking::wish_at;
 use head::Head;
+use line_answers::Step;
+use line_answers::step_of;
+use tape_asking::wish_at;
 use tape_turns::make;
-use turn_lines::Step;
-use turn_lines::step_of;
 
 // Plays the frame at a place of a tape on tables of which this is known, into a text that has room for the lines of any frame.
 pub fn play_known(

@@ -15,22 +15,22 @@ use Rattle.refusals.specs.declared.Answer.the-variants.{Accepted, Refused}
 use Rattle.refusals.specs.declared.Refusal.{Refusal}
 use Rattle.refusals.specs.Refusals.{number, numberOf, granted}
 use Rattle.refusals.proofs.Numbers.{number-above}
-use Rattle.replies.specs.Replies.{Outcome}
+use Rattle.head.specs.Replies.{Outcome}
 use Rattle.model.specs.Rows.{Tables}
 use Rattle.model.specs.Book.{replyOf, quoteAnswer, quoteHead, quoteBytes, quoteReply, quoteTables, quoteOut, bothList, bothAnswer, bothReply, bothListed, bothOut, bothCells, lookAnswer, bothTables}
 use Rattle.model.specs.Calls.{bookSeen}
 use Rattle.model.specs.Promises.{Quoted, QuotedLooked}
 use Rattle.model.proofs.Replying.{refused-left}
-use Rattle.quoting.specs.Entered.{Slid}
-use Rattle.quote_looking.specs.declared.BothEntered.{BothEntered}
-use Rattle.quote_looking.specs.Made.{BothMade}
+use Rattle.call_quoting.specs.Entered.{Slid}
+use Rattle.call_quote_looking.specs.declared.BothEntered.{BothEntered}
+use Rattle.call_quote_looking.specs.Made.{BothMade}
 use Rattle.text.specs.Text.{line, Laid}
-use Rattle.printed.specs.Printed.{changesText}
+use Rattle.line_changes.specs.Printed.{changesText}
 use Rattle.tape_model.specs.Play.{Player}
-use Rattle.turn_lines.specs.declared.Turn.{Turn}
-use Rattle.turn_lines.specs.Turns.{player, Effect, madeTwo, Turned}
-use Rattle.turn_lines.proofs.InOne.{both-turned}
-use Rattle.turns.proofs.Rooms.{quote-fits}
+use Rattle.line_answers.specs.declared.Turn.{Turn}
+use Rattle.line_answers.specs.Turns.{player, Effect, madeTwo, Turned}
+use Rattle.line_answers.proofs.InOne.{both-turned}
+use Rattle.tape_calls.proofs.Rooms.{quote-fits}
 use Rattle.tape_turns.specs.Making.{tablesOf, Makes}
 use Rattle.tape_both.specs.declared.BothTurn.{BothTurn}
 use Rattle.tape_both.specs.Tried.{takesBoth, BothTried}

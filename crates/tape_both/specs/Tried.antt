@@ -8,7 +8,7 @@ use Rattle.head.specs.Heads.{maxCapacity}
 use Rattle.model.specs.Rows.{Tables}
 use Rattle.tape_model.specs.Play.{Player}
 use Rattle.tape_model.specs.InOne.{seenBoth}
-use Rattle.turn_lines.specs.Turns.{lineBytes, textBytes, madeTwo}
+use Rattle.line_answers.specs.Turns.{lineBytes, textBytes, madeTwo}
 use Rattle.tape_turns.specs.Making.{Makes}
 use Rattle.tape_both.specs.declared.BothTurn.{BothTurn}
 

@@ -7,21 +7,21 @@ ghost use lib.ListN.{length, take};
 ghost use Rattle.head.specs.Heads.{maxCapacity};
 ghost use Rattle.model.specs.Changes.{changeRoom};
 ghost use Rattle.model.specs.Promises.{tables};
-ghost use Rattle.quoting.specs.Known.{Known};
+ghost use Rattle.call_quoting.specs.Known.{Known};
 ghost use Rattle.text.specs.Text.{line, Laid};
-ghost use Rattle.printed.specs.Printed.{changesText};
-ghost use Rattle.turn_lines.specs.Turns.{player};
+ghost use Rattle.line_changes.specs.Printed.{changesText};
+ghost use Rattle.line_answers.specs.Turns.{player};
 ghost use Rattle.tape_both.specs.Tried.{stepBytes, BothTried};
+use call_quote_looking::both_known;
 use head::Desk;
 use head::Head;
-use quote_looking::both_known;
+use head::PLACES;
+use head::Reply;
+use line_answers::Turn;
+use line_answers::put_answer;
+use line_answers::put_changed;
 use refusals::Answer;
-use replies::Reply;
-use sizes::PLACES;
 use tape_turns::TurnMade;
-use turn_lines::Turn;
-use turn_lines::put_answer;
-use turn_lines::put_changed;
 
 // What a quote and look in one came to: whether both are taken, and if so their turn.
 pub struct BothTurn {
@@ -114,6 +114,7 @@ pub fn make_both(
         lower_ends,
         upper_ends,
         watches,
+        8,
         bytes,
         &mut cells[1..],
     );

@@ -20,13 +20,13 @@ use Rattle.frames.specs.Frames.{Saying, told, ended, refused, readAt}
 use Rattle.model.specs.Changes.{changeRoom}
 use Rattle.model.specs.Reference.{Reference, Lengths, unopened, newest, isOpen, headOf, tells, foretells, tellsBoth, referenceStep}
 use Rattle.model.specs.Calls.{Call, Open, Quote, Look, Watch, End, Past, Pair, Unpair, Due, Preview, Both, Outputs, Lent, bookStep, lengthsOf, shown, expectedStep, runs, worldFirst}
-use Rattle.claims.specs.Claims.{isOpening}
+use Rattle.model_claims.specs.Claims.{isOpening}
 use Rattle.model.proofs.Simulation.{Simulation, Agree, referenceWith, Bounded, bounded, in-range, in-pair-range}
 use Rattle.model.proofs.Written.{written-fits, watch-written, pair-written}
 use Rattle.model.proofs.Replay.{call-agrees, replay-ends}
 use Rattle.model.proofs.Lengths.{either-way, long-after, lengths-kept, since-long}
-use Rattle.claims.proofs.Places.{lengths-unread, opened-kept}
-use Rattle.asking.specs.Asking.{Asked, finished, unread, misplaced, request, asks, inPlace, placed, asked}
+use Rattle.model_claims.proofs.Places.{lengths-unread, opened-kept}
+use Rattle.tape_asking.specs.Asking.{Asked, finished, unread, misplaced, request, asks, inPlace, placed, asked}
 use Rattle.tape_model.specs.Print.{Answered, linesOf, textOf}
 use Rattle.tape_model.specs.Play.{Played, playAsked, playAt, printFrom, print, referenceMake, Player, bookMake, begun}
 use Rattle.tape_model.specs.Ample.{Reaches, start, onward}

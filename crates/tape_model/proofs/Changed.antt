@@ -20,10 +20,10 @@ use Rattle.model.specs.Rows.{liveRows}
 use Rattle.model.specs.Reference.{Reference, Lengths, unopened, newest, skylineOf, pastOf, pairOf, rowsOf, headOf, isOpen, outside, outsidePair, withQuote, tells, referenceStep}
 use Rattle.model.specs.Calls.{Call}
 use Rattle.model.proofs.Simulation.{Bounded, bounded, in-pair-range}
-use Rattle.watcher.proofs.Following.{sent-watch, sent-pairing, sent-quote}
+use Rattle.model_watcher.proofs.Following.{sent-watch, sent-pairing, sent-quote}
 use Rattle.text.specs.Text.{line}
-use Rattle.printed.specs.Printed.{changeLines, changesText}
-use Rattle.printed.proofs.Printing.{changes-printed}
+use Rattle.line_changes.specs.Printed.{changeLines, changesText}
+use Rattle.line_changes.proofs.Printing.{changes-printed}
 use Rattle.tape_model.specs.Print.{deskLine, linesOf, textOf}
 use Rattle.tape_model.specs.Play.{referenceMake}
 use Rattle.tape_model.specs.Ample.{Reaches}

@@ -24,8 +24,8 @@ use Rattle.model.specs.Reference.{Reference, Lengths, unopened, newest, skyline
 use Rattle.model.specs.Calls.{Call, Open, Quote, Look, Watch, End, Past, Pair, Unpair, Due, Preview, Both, Outputs, Lent, lengthsOf, worldFirst}
 use Rattle.model.proofs.Simulation.{in-range, in-past-range}
 use Rattle.model.proofs.Short.{skyline-short, past-short}
-use Rattle.asking.specs.Asking.{Asked, finished, unread, misplaced, request, asked, playable}
-use Rattle.asking.proofs.Places.{asksPlayable, asked-playable}
+use Rattle.tape_asking.specs.Asking.{Asked, finished, unread, misplaced, request, asked, playable}
+use Rattle.tape_asking.proofs.Places.{asksPlayable, asked-playable}
 use Rattle.tape_model.specs.Play.{playAsked, playAt, printFrom, print, referenceMake, bookMake, begun}
 use Rattle.tape_model.specs.Ample.{Ample, Unshort}
 use Rattle.tape_model.proofs.Agrees.{print-agrees}

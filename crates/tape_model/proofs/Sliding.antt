@@ -9,11 +9,11 @@ use Rattle.lists.proofs.Booleans.{clash}
 use Rattle.head.specs.declared.Head.{Head}
 use Rattle.head.specs.Heads.{settingsHold}
 use Rattle.model.specs.Rows.{Tables}
-use Rattle.claims.specs.Places.{SamePlaces}
+use Rattle.model_claims.specs.Places.{SamePlaces}
 use Rattle.model.specs.Reference.{Reference, Lengths, unopened, headOf, isOpen}
 use Rattle.model.specs.Calls.{Lent, lengthsOf}
 use Rattle.model.proofs.Simulation.{Invariant}
-use Rattle.claims.proofs.Places.{not-opened, invariant-alike}
+use Rattle.model_claims.proofs.Places.{not-opened, invariant-alike}
 use Rattle.tape_model.specs.Play.{referenceMake, Player, on, begun, bookPlay}
 use Rattle.tape_model.specs.Streams.{ready, Streams, plays, stops}
 use Rattle.tape_model.proofs.Agrees.{Answering, Alike, begun-alike, frame-agrees}

@@ -23,7 +23,7 @@ use Rattle.frame_kinds.proofs.Shapes.{within-bounds, quote-body, size-body, cha
 use Rattle.frames.proofs.Reading.{message-drop, columns-drop, Found, beyond, at-end, unknown, cut, whole, found}
 use Rattle.model.specs.Reference.{unopened, isOpen}
 use Rattle.model.specs.Calls.{Call, Outputs, Lent, lengthsOf, worldFirst}
-use Rattle.asking.specs.Asking.{Asked, finished, unread, misplaced, request, asked}
+use Rattle.tape_asking.specs.Asking.{Asked, finished, unread, misplaced, request, asked}
 use Rattle.tape_model.specs.Print.{Answered}
 use Rattle.tape_model.specs.Play.{Played, playAsked, playAt, printFrom, print, referenceMake, bookMake, begun}
 use Rattle.tape_model.specs.Streams.{ready, settled, linesFrom, further, Streams, plays, stops, drops, fills}

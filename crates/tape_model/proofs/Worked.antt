@@ -16,8 +16,8 @@ use Rattle.model.specs.Shares.{ofDesk, countOf, aboveShares, deskFull}
 use Rattle.model.specs.Rows.{isLive, liveRows}
 use Rattle.model.specs.Reference.{unopened, ample, skylineOf, pastOf, paired, pairOf, rowOf, rowsOf, headOf, isOpen, outside, outsidePast, outsidePair, withQuote, withWatched, withPairOf, opening, tooShort, tells, referenceStep}
 use Rattle.text.specs.Text.{digitsUpTo, digits, field, line, line2}
-use Rattle.printed.specs.Printed.{letterOf, changeLine, changeLines, changesText}
-use Rattle.asking.specs.Asking.{sizedAsks, pairAsks, bareAsks, asks, inPlace, placed, asked}
+use Rattle.line_changes.specs.Printed.{letterOf, changeLine, changeLines, changesText}
+use Rattle.tape_asking.specs.Asking.{sizedAsks, pairAsks, bareAsks, asks, inPlace, placed, asked}
 use Rattle.tape_model.specs.Print.{deskLine, linesOf, refusalLine, textOf}
 use Rattle.tape_model.specs.Play.{playAsked, playAt, printFrom, print, referenceMake}
 use Rattle.tape_model.specs.Worked.{workedTape, workedText, pastTape, pastText, pairTape, pairText, desksTape, desksText}

@@ -7,7 +7,7 @@ use lib.ListN.{take}
 use Rattle.lists.specs.Lists.{headOr}
 use Rattle.frames.specs.Frames.{readAt}
 use Rattle.model.specs.Calls.{Quote, Look, Both, Seen, bookSeen}
-use Rattle.asking.specs.Asking.{request, asked}
+use Rattle.tape_asking.specs.Asking.{request, asked}
 use Rattle.text.specs.Text.{line}
 use Rattle.tape_model.specs.Print.{Answered, linesOf, textOf}
 use Rattle.tape_model.specs.Play.{Played, Player, bookMake, begun, bookPlay}

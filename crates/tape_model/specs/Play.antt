@@ -11,7 +11,7 @@ use Rattle.model.specs.Rows.{Tables}
 use Rattle.model.specs.Reference.{Reference, Lengths, referenceStep}
 use Rattle.model.specs.Calls.{Call, Outputs, World, bookStep}
 use Rattle.model.specs.Promises.{world}
-use Rattle.asking.specs.Asking.{Asked, finished, unread, misplaced, request, asked}
+use Rattle.tape_asking.specs.Asking.{Asked, finished, unread, misplaced, request, asked}
 use Rattle.tape_model.specs.Print.{Answered, refusalLine, textOf}
 
 -- ---- frame by frame

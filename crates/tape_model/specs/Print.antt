@@ -5,10 +5,10 @@ use lib.ListN.{take}
 use Rattle.head.specs.declared.Desk.{Desk}
 use Rattle.head.specs.declared.Desk.the-variants.{One, Two}
 use Rattle.refusals.specs.Refusals.{granted}
-use Rattle.replies.specs.Replies.{Outcome}
+use Rattle.head.specs.Replies.{Outcome}
 use Rattle.model.specs.Calls.{Call, Open, Quote, Look, Watch, End, Past, Pair, Unpair, Due, Preview, Both, Outputs}
 use Rattle.text.specs.Text.{line, line2}
-use Rattle.printed.specs.Printed.{changesText}
+use Rattle.line_changes.specs.Printed.{changesText}
 
 -- what a call answered: what it handed back, and what its outputs hold from their start on
 pub record Answered : Type 0 where

@@ -16,9 +16,9 @@ use Rattle.model.specs.Calls.{Reached}
 use Rattle.tape_both.specs.Tried.{stepBytes}
 use Rattle.tape_steps.specs.Stepping.{playStep}
 use Rattle.tape_playback.specs.declared.Playback.{Playback}
-use Rattle.row_starts.specs.declared.Start.{Start}
-use Rattle.row_starts.specs.Starts.{Long, Within, onward, Moved}
-use Rattle.row_starts.proofs.Rewinding.{long-same}
+use Rattle.table_starts.specs.declared.Start.{Start}
+use Rattle.table_starts.specs.Starts.{Long, Within, onward, Moved}
+use Rattle.table_starts.proofs.Rewinding.{long-same}
 use Rattle.tape_playback.specs.Played.{playerOf, Resumes, resumes, Gathered, SameInput, StepPlayed, Plays, none, moved}
 use Rattle.tape_playback.proofs.Advancing.{left, step-advanced, step-frames, plays-inside}
 use Rattle.tape_playback.proofs.Gathering.{gathered-none, gathered-more, gathered-fits}

@@ -10,7 +10,7 @@ use Rattle.tape_model.specs.Streams.{settled}
 use Rattle.tape_both.specs.Tried.{stepBytes}
 use Rattle.tape_playback.specs.declared.Playback.{Playback}
 use Rattle.tape_playback.specs.Played.{playerOf, Gathered, SameInput, Plays}
-use Rattle.row_starts.specs.Starts.{Within}
+use Rattle.table_starts.specs.Starts.{Within}
 
 -- whether a step is played: the tape is not over, this room is enough for the lines of any step, and it may be played, since its frame is settled or
 -- nothing more comes

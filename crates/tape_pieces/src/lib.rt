@@ -1,13 +1,14 @@
-// What has come of a tape, played: step by step, each with its lines behind those that are gathered, on a book that calls left.
+// What has come of a tape, played: step by step, each with its lines behind those that are gathered, on a book that calls left; and what runs of
+// a printer hand on (specs/Runs.antt).
 ghost use Prim.Native.Nat.{_-_, _≤_};
 ghost use mathlib.Core.Bool.{_||_};
 ghost use lib.ListN.{length};
 ghost use Rattle.model.specs.Calls.{Reached};
 ghost use Rattle.model.specs.Promises.{tables, world};
 ghost use Rattle.tape_model.specs.Streams.{settled};
-ghost use Rattle.row_starts.specs.Starts.{Long, Within, onward};
+ghost use Rattle.table_starts.specs.Starts.{Long, Within, onward};
 ghost use Rattle.tape_pieces.specs.Pieces.{GoesOn, PiecePlayed};
-use row_starts::rewind;
+use table_starts::rewind;
 use tape_playback::Playback;
 use tape_playback::play_next;
 
@@ -27,7 +28,7 @@ fn plays(playback: Playback, tape: &[u8], room: usize) -> bool
     if playback.ended {
         return true;
     }
-    waiting::settled(tape, playback.place)
+    tape_waiting::settled(tape, playback.place)
 }
 
 // Plays the frames of this piece of the tape, until one is not settled or its lines may find no room.

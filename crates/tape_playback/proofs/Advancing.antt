@@ -8,7 +8,7 @@ use lib.ListN.{length, getD}
 use Rattle.lists.proofs.Booleans.{or-right}
 use Rattle.frames.specs.Frames.{messageAt, columnsAt, told, Reading, stays, readAt}
 use Rattle.frames.proofs.Reading.{Found, beyond, at-end, unknown, cut, whole, found}
-use Rattle.asking.specs.Asking.{Asked, finished, unread, misplaced, request, asked}
+use Rattle.tape_asking.specs.Asking.{Asked, finished, unread, misplaced, request, asked}
 use Rattle.tape_model.specs.Play.{Played, playAsked, playAt, Player, bookMake, begun, bookPlay}
 use Rattle.tape_model.specs.Streams.{ready}
 use Rattle.tape_model.specs.InOne.{playTwo}

@@ -9,14 +9,14 @@ use borrow.Rule.Slice.PartMut.{midOf, putMid}
 use Rattle.lists.specs.Lists.{laid}
 use Rattle.model.specs.Rows.{Tables}
 use Rattle.tape_model.specs.Play.{Played, Player}
-use Rattle.turn_lines.specs.Turns.{player}
-use Rattle.turn_lines.specs.declared.Step.{Step}
+use Rattle.line_answers.specs.Turns.{player}
+use Rattle.line_answers.specs.declared.Step.{Step}
 use Rattle.tape.specs.declared.SlidStep.{SlidStep}
 use Rattle.tape.specs.Steps.{SteppedTo, StepMade}
 use Rattle.tape_steps.specs.Stepping.{playStep}
 use Rattle.tape_steps.proofs.Stepping.{step-cells}
-use Rattle.row_starts.specs.declared.Start.{Start}
-use Rattle.row_starts.specs.Starts.{Long, Within, onward}
+use Rattle.table_starts.specs.declared.Start.{Start}
+use Rattle.table_starts.specs.Starts.{Long, Within, onward}
 use Rattle.tape_playback.specs.declared.Playback.{Playback}
 use Rattle.tape_playback.specs.Played.{playerOf, StepPlayed}
 use Rattle.tape_playback.proofs.Gathering.{gathered-behind}

@@ -14,8 +14,8 @@ use Rattle.head.proofs.Settings.{settings-within}
 use Rattle.model.specs.Rows.{Tables}
 use Rattle.model.specs.Calls.{Reached}
 use Rattle.model.specs.Promises.{tables, world}
-use Rattle.quoting.specs.Known.{Roomy}
-use Rattle.quoting.specs.Entered.{later, Slid, stayed, slid}
+use Rattle.call_quoting.specs.Known.{Roomy}
+use Rattle.call_quoting.specs.Entered.{later, Slid, stayed, slid}
 use Rattle.tape_model.specs.Play.{Played, Player}
 use Rattle.tape.specs.Prints.{left}
 use Rattle.tape.proofs.Prints.{its-player}
@@ -23,11 +23,11 @@ use Rattle.tape.proofs.Reached.{frame-reached}
 use Rattle.tape.specs.declared.SlidStep.{SlidStep}
 use Rattle.tape.specs.Steps.{StepMade}
 use Rattle.tape.proofs.Slides.{left-bounded, left-holds}
-use Rattle.row_starts.specs.declared.Start.{Start}
+use Rattle.table_starts.specs.declared.Start.{Start}
 use Rattle.tape_playback.specs.declared.Playback.{Playback}
 use Rattle.tape_playback.specs.Played.{Resumes, resumes, SameBook, Plays, none, frame, moved}
-use Rattle.row_starts.specs.Starts.{Long, Within, FullOpened, onward, Moved, stays, moves}
-use Rattle.row_starts.proofs.Rewinding.{bounded-cells, moved-reached}
+use Rattle.table_starts.specs.Starts.{Long, Within, FullOpened, onward, Moved, stays, moves}
+use Rattle.table_starts.proofs.Rewinding.{bounded-cells, moved-reached}
 
 -- players with the same book: it stands for both, and starts as near
 pub same-reached : {s r : Playback} (t : Tables) → SameBook s r → Reached (world (s .head) (onward (s .start) t) (s .watches)) → Reached (world (r .head) (onward (r .start) t) (r .watches))

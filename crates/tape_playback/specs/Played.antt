@@ -10,8 +10,8 @@ use Rattle.head.specs.Heads.{maxCapacity}
 use Rattle.model.specs.Rows.{Tables}
 use Rattle.tape_model.specs.Play.{Player, on, bookPlay}
 use Rattle.tape_model.specs.Streams.{ready}
-use Rattle.turn_lines.specs.Turns.{player}
-use Rattle.row_starts.specs.Starts.{Within, FullOpened, onward, Moved}
+use Rattle.line_answers.specs.Turns.{player}
+use Rattle.table_starts.specs.Starts.{Within, FullOpened, onward, Moved}
 use Rattle.tape_steps.specs.Stepping.{playStep}
 use Rattle.tape_playback.specs.declared.Playback.{Playback}
 

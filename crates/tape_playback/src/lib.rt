@@ -4,12 +4,12 @@ ghost use Prim.Native.Nat.{_+_, _≤_};
 ghost use lib.ListN.{length};
 ghost use Rattle.model.specs.Calls.{Reached};
 ghost use Rattle.model.specs.Promises.{tables, world};
-ghost use Rattle.row_starts.specs.Starts.{Long, Within, onward};
+ghost use Rattle.table_starts.specs.Starts.{Long, Within, onward};
 ghost use Rattle.tape_both.specs.Tried.{stepBytes};
 ghost use Rattle.tape_playback.specs.Played.{StepPlayed};
 use head::Head;
-use row_starts::Start;
-use row_starts::slid;
+use table_starts::Start;
+use table_starts::slid;
 use tape_steps::play_step;
 
 // Where a player of a tape stands: the head and the watches of the book, where its rows start, the place of the next frame and the end of

@@ -11,7 +11,7 @@ use Rattle.head.specs.Heads.{freshHead}
 use Rattle.model.specs.Promises.{world}
 use Rattle.model.proofs.Reached.{reached-first}
 use Rattle.tape_playback.specs.declared.Playback.{Playback}
-use Rattle.row_starts.specs.Starts.{Long, Within, onward}
+use Rattle.table_starts.specs.Starts.{Long, Within, onward}
 
 -- the buffers are as long as they are declared, the lines stand within the text and what has come of the tape within its buffer, and the book is
 -- one that calls left

@@ -1,8 +1,8 @@
 // The tape printer: plays the tape on standard input, and prints it on standard output. It keeps one piece of the tape at a time.
 use head::Head;
-use row_starts::SLIDING_CELLS;
-use row_starts::SLIDING_PLACES;
-use row_starts::Start;
+use table_starts::SLIDING_CELLS;
+use table_starts::SLIDING_PLACES;
+use table_starts::Start;
 use tape_pieces::play_piece;
 use tape_playback::Playback;
 use tape_streams::flush;

@@ -18,7 +18,7 @@ use Rattle.frames.specs.declared.Read.{Read}
 use Rattle.frames.specs.Frames.{messageBy, messageAt, columnsAt, told, Reading, reading, readAt}
 use Rattle.frames.proofs.Reading.{read-columns, read-next}
 use Rattle.octets.specs.Bytes.{number2}
-use Rattle.asking.specs.Asking.{asks, inPlace, placed, asked}
+use Rattle.tape_asking.specs.Asking.{asks, inPlace, placed, asked}
 use Rattle.tape_model.specs.Play.{Player, begun}
 use Rattle.tape_model.specs.Streams.{ready}
 use Rattle.tape_model.specs.InOne.{behind, InARow}

@@ -16,10 +16,10 @@ use Rattle.tape_model.specs.Play.{Played, Player, begun, bookPlay}
 use Rattle.tape_model.specs.Streams.{ready}
 use Rattle.tape_model.specs.InOne.{seenBoth, behind, InARow, playTwo}
 use Rattle.tape_model.proofs.InOne.{two-is-both}
-use Rattle.turn_lines.specs.declared.Turn.{Turn}
-use Rattle.turn_lines.specs.declared.Step.{Step}
-use Rattle.turn_lines.specs.Turns.{player, madeTwo}
-use Rattle.turn_lines.proofs.InOne.{two-played}
+use Rattle.line_answers.specs.declared.Turn.{Turn}
+use Rattle.line_answers.specs.declared.Step.{Step}
+use Rattle.line_answers.specs.Turns.{player, madeTwo}
+use Rattle.line_answers.proofs.InOne.{two-played}
 use Rattle.tape.specs.declared.SlidStep.{SlidStep}
 use Rattle.tape.specs.Steps.{StepMade}
 use Rattle.tape.proofs.Plays.{playedAs, step-to}

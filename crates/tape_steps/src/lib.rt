@@ -4,8 +4,8 @@ ghost use mathlib.Core.Bool.{true};
 ghost use Prim.Native.Nat.{_≤_};
 ghost use lib.ListN.{length};
 ghost use Rattle.model.specs.Promises.{tables};
-ghost use Rattle.quoting.specs.Known.{Known};
-ghost use Rattle.turn_lines.specs.Turns.{player};
+ghost use Rattle.call_quoting.specs.Known.{Known};
+ghost use Rattle.line_answers.specs.Turns.{player};
 ghost use Rattle.tape.specs.Steps.{StepMade};
 ghost use Rattle.tape_both.specs.Tried.{stepBytes};
 ghost use Rattle.tape_steps.specs.Stepping.{lookBehind, noneAt, bothAt, playStep};
@@ -13,12 +13,12 @@ use frame_kinds::LOOK;
 use frame_kinds::MAX_COLUMNS;
 use frames::read_at;
 use head::Head;
+use head::PLACES;
+use line_answers::step_of;
 use octets::two_at;
-use sizes::PLACES;
 use tape::SlidStep;
 use tape::play_known;
 use tape_both::make_both;
-use turn_lines::step_of;
 
 // How many bytes the line of a look has room in: as that of a change, with n and all positions.
 pub const LOOK_LINE: usize = 3 + 11 * (1 + PLACES);

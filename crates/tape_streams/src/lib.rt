@@ -36,7 +36,7 @@ pub fn refill(playback: Playback, tape: &mut [u8]) -> Playback
 {
     let mut now = playback;
     let end = now.end;
-    if now.over | now.ended | waiting::settled(&tape[..end], now.place) {
+    if now.over | now.ended | tape_waiting::settled(&tape[..end], now.place) {
         return now;
     }
     let rest = end - now.place;

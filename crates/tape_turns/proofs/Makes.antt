@@ -7,17 +7,17 @@ use lib.ListN.{length, take}
 use Rattle.lists.specs.Lists.{laid}
 use Rattle.head.specs.declared.Head.{Head}
 use Rattle.refusals.specs.declared.Answer.the-variants.{Accepted}
-use Rattle.replies.specs.Replies.{Outcome}
+use Rattle.head.specs.Replies.{Outcome}
 use Rattle.model.specs.Rows.{Tables}
 use Rattle.model.specs.Book.{quoteTables, quoteReply}
 use Rattle.model.specs.Calls.{Call, bookSeen, headAfter, worldAfter, bookStep}
-use Rattle.quoting.specs.declared.Entered.{Entered}
-use Rattle.quoting.specs.Entered.{stayed, QuoteEntered}
-use Rattle.asking.specs.declared.Wanted.{Wanted}
-use Rattle.asking.specs.declared.Wanted.the-variants.{Quote}
+use Rattle.call_quoting.specs.declared.Entered.{Entered}
+use Rattle.call_quoting.specs.Entered.{stayed, QuoteEntered}
+use Rattle.tape_asking.specs.declared.Wanted.{Wanted}
+use Rattle.tape_asking.specs.declared.Wanted.the-variants.{Quote}
 use Rattle.tape_model.specs.Play.{Player, bookMake}
-use Rattle.turn_lines.specs.declared.Turn.{Turn}
-use Rattle.turn_lines.specs.Turns.{player, Effect, made, Turned}
+use Rattle.line_answers.specs.declared.Turn.{Turn}
+use Rattle.line_answers.specs.Turns.{player, Effect, made, Turned}
 use Rattle.tape_turns.specs.Making.{nothing, taken, tablesOf, Makes}
 
 -- on the tables that the book model leaves

@@ -8,11 +8,11 @@ use Rattle.refusals.specs.declared.Refusal.the-variants.{OutOfPlace}
 use Rattle.refusals.specs.Refusals.{number}
 use Rattle.model.specs.Rows.{Tables}
 use Rattle.model.specs.Calls.{Call}
-use Rattle.quoting.specs.Entered.{Slid}
-use Rattle.asking.specs.declared.Wanted.{Wanted}
-use Rattle.asking.specs.declared.Wanted.the-variants.{Quote, Look, Past, Watch, End, Pair, Unpair, Open, Nothing, Refused, Misplaced}
+use Rattle.call_quoting.specs.Entered.{Slid}
+use Rattle.tape_asking.specs.declared.Wanted.{Wanted}
+use Rattle.tape_asking.specs.declared.Wanted.the-variants.{Quote, Look, Past, Watch, End, Pair, Unpair, Open, Nothing, Refused, Misplaced}
 use Rattle.tape_model.specs.Play.{Player}
-use Rattle.turn_lines.specs.Turns.{Effect, made, refusedWith, Turned}
+use Rattle.line_answers.specs.Turns.{Effect, made, refusedWith, Turned}
 use Rattle.tape_turns.specs.declared.TurnMade.{TurnMade}
 
 -- nothing is done, and nothing printed

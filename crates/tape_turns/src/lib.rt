@@ -2,22 +2,22 @@
 ghost use mathlib.Core.Path.{_≡_};
 ghost use Prim.Native.Nat.{ℕ, _≤_};
 ghost use lib.ListN.{length};
-ghost use Rattle.asking.specs.declared.Wanted.the-variants.{Quote};
+ghost use Rattle.tape_asking.specs.declared.Wanted.the-variants.{Quote};
 ghost use Rattle.model.specs.Changes.{changeRoom};
 ghost use Rattle.model.specs.Promises.{tables};
-ghost use Rattle.quoting.specs.Known.{Known};
-ghost use Rattle.turn_lines.specs.Turns.{textBytes, player};
+ghost use Rattle.call_quoting.specs.Known.{Known};
+ghost use Rattle.line_answers.specs.Turns.{textBytes, player};
 ghost use Rattle.tape_turns.specs.Making.{taken, Makes};
-use asking::Wanted;
+use call_opening::open;
+use call_quoting::quote_known;
 use head::Head;
-use opening::open;
-use quoting::quote_known;
+use line_answers::Turn;
+use line_answers::put_opening;
+use line_answers::put_quote;
+use line_answers::put_refusal;
 use refusals::Answer;
 use refusals::Refusal;
-use turn_lines::Turn;
-use turn_lines::put_opening;
-use turn_lines::put_quote;
-use turn_lines::put_refusal;
+use tape_asking::Wanted;
 
 // What a call came to, and how many places later the rows begin where none was moved.
 pub struct TurnMade {
@@ -60,6 +60,7 @@ pub fn make(
                 lower_ends,
                 upper_ends,
                 watches,
+                8,
                 bytes,
             );
             TurnMade {
@@ -77,6 +78,7 @@ pub fn make(
                 lower_ends,
                 upper_ends,
                 watches,
+                8,
             );
             TurnMade {
                 turn: put_opening(head, d as u32, n as u32, directions as u32, replied, text),
@@ -84,7 +86,7 @@ pub fn make(
             }
         }
         Wanted::Look(n) => TurnMade {
-            turn: turns::look(
+            turn: tape_calls::look(
                 head,
                 n as u32,
                 columns,
@@ -97,7 +99,7 @@ pub fn make(
             by: 0,
         },
         Wanted::Past(n1, n2) => TurnMade {
-            turn: turns::past(
+            turn: tape_calls::past(
                 head,
                 n1 as u32,
                 n2 as u32,
@@ -111,7 +113,7 @@ pub fn make(
             by: 0,
         },
         Wanted::Watch(desk, n) => TurnMade {
-            turn: turns::watch(
+            turn: tape_calls::watch(
                 head,
                 desk,
                 n as u32,
@@ -126,7 +128,7 @@ pub fn make(
             by: 0,
         },
         Wanted::End(desk, n) => TurnMade {
-            turn: turns::end(
+            turn: tape_calls::end(
                 head,
                 desk,
                 n as u32,
@@ -140,7 +142,7 @@ pub fn make(
             by: 0,
         },
         Wanted::Pair(n1, n2) => TurnMade {
-            turn: turns::pair(
+            turn: tape_calls::pair(
                 head,
                 n1 as u32,
                 n2 as u32,
@@ -155,7 +157,7 @@ pub fn make(
             by: 0,
         },
         Wanted::Unpair => TurnMade {
-            turn: turns::unpair(
+            turn: tape_calls::unpair(
                 head,
                 columns,
                 positions,

@@ -4,13 +4,13 @@ ghost use mathlib.Core.Path.{_≡_};
 ghost use mathlib.Core.Bool.{true};
 ghost use Prim.Native.Nat.{_+_, _≤_};
 ghost use lib.ListN.{length};
-ghost use Rattle.tape_lines.specs.Written.{stopAt, comes};
+ghost use Rattle.line_writer.specs.Written.{stopAt, comes};
 use libc::STDERR_FILENO;
 use line_fields::line_end;
-use tape_lines::Writer;
-use tape_lines::flush;
-use tape_lines::refill;
-use tape_lines::take_line;
+use line_writer::Writer;
+use line_writer::flush;
+use line_writer::refill;
+use line_writer::take_line;
 
 // How many bytes the longest frame has.
 const LONGEST_FRAME: usize = 25;

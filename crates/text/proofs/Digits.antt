@@ -18,7 +18,7 @@ use Rattle.lists.proofs.Booleans.{either}
 use Rattle.text.specs.Text.{digitsUpTo, digits, Laid}
 
 -- the last k decimal digits of a number
-pub fixed : ℕ → ℕ → List ℕ
+unfoldable pub fixed : ℕ → ℕ → List ℕ
 fixed zero n = []
 fixed (suc k) n = fixed k (n / 10) ++ ((48 + n % 10) ∷ [])
 
@@ -44,7 +44,7 @@ shorter (suc k) n b h =
     let v : 10 ^ suc k * 10 ≤ n = rw (pow-suc 10 (suc k)) at h in
     record { below = omega arith; reached = inr (omega arith) }
 
-digits-fixed : (k j n : ℕ) → Sized k n → digitsUpTo (suc k + j) n ≡ fixed (suc k) n
+pub digits-fixed : (k j n : ℕ) → Sized k n → digitsUpTo (suc k + j) n ≡ fixed (suc k) n
 unfolding digitsUpTo fixed
 digits-fixed zero j n s =
     let b : n < 10 = s .below in

@@ -119,6 +119,37 @@ module _ (letter : ℕ) (numbers : List ℕ) where
       let done : Front (line letter numbers) (set before 0 letter) (set text at 10) (at + 1) = rw (whole-line, e) (front-store (v .fields .front) 10 short) in
       record { long = done .long ∙ length-set before 0 letter; place = done .place; cells = done .cells ∙ over-first letter (line letter numbers) before (omega (arith, done .place)) }
 
+-- ---- a line of two numbers
+
+module _ (letter a b : ℕ) (before : List ℕ) {last : List ℕ} {used : ℕ} (h : 24 ≤ length before)
+    (l : Laid (field a) (midOf 1 (length (set before 0 letter) - 1) (set before 0 letter)) used last) where
+  -- the text with the first field behind the letter
+  abbrev one-in : List ℕ
+  one-in = putMid 1 (length (set before 0 letter) - 1) (set before 0 letter) last
+
+  pub one-laid : Line letter (a ∷ b ∷ []) (set before 0 letter) one-in (1 + used) 1
+  one-laid = line-more letter (a ∷ b ∷ []) (line-start letter (a ∷ b ∷ []) before h) (omega arith) l
+
+  -- there is room for the second field and the newline
+  pub one-room : 1 + used + 12 ≤ length one-in
+  one-room = omega (arith, line-room letter (a ∷ b ∷ []) one-laid)
+
+  module _ {last' : List ℕ} {more : ℕ} (m : Laid (field b) (midOf (1 + used) (length one-in - (1 + used)) one-in) more last') where
+    -- the text with both fields behind the letter
+    abbrev both-in : List ℕ
+    both-in = putMid (1 + used) (length one-in - (1 + used)) one-in last'
+
+    both-laid : Line letter (a ∷ b ∷ []) (set before 0 letter) both-in (1 + used + more) 2
+    both-laid = line-more letter (a ∷ b ∷ []) one-laid (omega arith) m
+
+    -- there is room for the newline
+    pub both-room : 1 + used + more + 1 ≤ length both-in
+    both-room = omega (arith, line-room letter (a ∷ b ∷ []) both-laid)
+
+    -- the whole line stands at the front
+    pub two-laid : Front (line letter (a ∷ b ∷ [])) before (set both-in (1 + used + more) 10) (1 + used + more + 1)
+    two-laid = line-finish letter (a ∷ b ∷ []) both-laid (omega arith)
+
 -- how long a line of two letters is at most
 pub line2-short : (first second : ℕ) (numbers : List ℕ) → length (line2 first second numbers) ≤ 3 + 11 * length numbers
 unfolding line2

@@ -1,6 +1,7 @@
 // Lines of print, laid at the start of a lent text.
 ghost use mathlib.Core.Path.{_≡_};
-ghost use Prim.Native.Nat.{_+_, _*_, _≤_};
+ghost use mathlib.Core.List.{[], _∷_};
+ghost use Prim.Native.Nat.{_+_, _*_, _/_, _≤_, _<_};
 ghost use lib.ListN.{length};
 ghost use Rattle.text.specs.Text.{digits, field, line, line2, Laid};
 
@@ -38,8 +39,8 @@ fn digit_count(n: u32) -> usize
     10
 }
 
-// Lays a number in decimal at the start of the text, and returns how many bytes.
-pub fn put_number(n: u32, text: &mut [u8]) -> usize
+// Lays a number in decimal at the start of the text, digit by digit from the last, and returns how many bytes.
+fn put_long(n: u32, text: &mut [u8]) -> usize
     requires { ⌜ 10 ≤ length (now text) ⌝ }
     ensures { λ r. ⌜ Laid (digits n) (now (text .entry)) r (now (text .exit)) ⌝ }
 {
@@ -52,6 +53,77 @@ pub fn put_number(n: u32, text: &mut [u8]) -> usize
         rest = rest / 10;
     }
     count
+}
+
+// How many tens a number below 100 has.
+fn tens_of(n: u32) -> u32
+    requires { ⌜ n < 100 ⌝ }
+    ensures { λ r. ⌜ r ≡ n / 10 ⌝ }
+{
+    n * 103 / 1024
+}
+
+// How many hundreds a number below 10,000 has.
+fn hundreds_of(n: u32) -> u32
+    requires { ⌜ n < 10000 ⌝ }
+    ensures { λ r. ⌜ r ≡ n / 100 ⌝ }
+{
+    n * 5243 / 524288
+}
+
+// Lays a number below 100 in decimal at the start of the text, and returns how many bytes.
+fn put_tens(n: u32, text: &mut [u8]) -> usize
+    requires { ⌜ n < 100 ⌝ }
+    requires { ⌜ 10 ≤ length (now text) ⌝ }
+    ensures { λ r. ⌜ Laid (digits n) (now (text .entry)) r (now (text .exit)) ⌝ }
+{
+    if n < 10 {
+        text[0] = 48 + n as u8;
+        return 1;
+    }
+    let tens = tens_of(n);
+    text[0] = 48 + tens as u8;
+    text[1] = 48 + (n - 10 * tens) as u8;
+    2
+}
+
+// Lays a number from 100 to 9,999 in decimal at the start of the text, and returns how many bytes.
+fn put_hundreds(n: u32, text: &mut [u8]) -> usize
+    requires { ⌜ 100 ≤ n ⌝ }
+    requires { ⌜ n < 10000 ⌝ }
+    requires { ⌜ 10 ≤ length (now text) ⌝ }
+    ensures { λ r. ⌜ Laid (digits n) (now (text .entry)) r (now (text .exit)) ⌝ }
+{
+    let hundreds = hundreds_of(n);
+    let rest = n - 100 * hundreds;
+    let tens = tens_of(rest);
+    let ones = rest - 10 * tens;
+    if hundreds < 10 {
+        text[0] = 48 + hundreds as u8;
+        text[1] = 48 + tens as u8;
+        text[2] = 48 + ones as u8;
+        return 3;
+    }
+    let thousands = tens_of(hundreds);
+    text[0] = 48 + thousands as u8;
+    text[1] = 48 + (hundreds - 10 * thousands) as u8;
+    text[2] = 48 + tens as u8;
+    text[3] = 48 + ones as u8;
+    4
+}
+
+// Lays a number in decimal at the start of the text, and returns how many bytes.
+pub fn put_number(n: u32, text: &mut [u8]) -> usize
+    requires { ⌜ 10 ≤ length (now text) ⌝ }
+    ensures { λ r. ⌜ Laid (digits n) (now (text .entry)) r (now (text .exit)) ⌝ }
+{
+    if 10000 <= n {
+        return put_long(n, text);
+    }
+    if n < 100 {
+        return put_tens(n, text);
+    }
+    put_hundreds(n, text)
 }
 
 // Lays a space and a number at the start of the text, and returns how many bytes.
@@ -79,6 +151,20 @@ pub fn put_line(letter: u8, numbers: &[u32], text: &mut [u8]) -> usize
     }
     text[at] = 10;
     at + 1
+}
+
+// Lays a line of two numbers at the start of the text. Returns how many bytes.
+pub fn put_two(letter: u8, first: u32, second: u32, text: &mut [u8]) -> usize
+    requires { ⌜ 24 ≤ length (now text) ⌝ }
+    ensures { λ r. ⌜ Laid (line letter (first ∷ second ∷ [])) (now (text .entry)) r (now (text .exit)) ⌝ }
+{
+    text[0] = letter;
+    let used = put_field(first, &mut text[1..]);
+    let at = 1 + used;
+    let more = put_field(second, &mut text[at..]);
+    let end = at + more;
+    text[end] = 10;
+    end + 1
 }
 
 // Lays a line of two letters at the start of the text. Returns how many bytes.

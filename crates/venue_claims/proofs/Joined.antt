@@ -13,9 +13,9 @@ use Rattle.lists.specs.Lists.{flat}
 use Rattle.venue_tapes.specs.VenueTapes.{Ahead, pair, done, refuses, aheadBy, next}
 use Rattle.venue_tapes.proofs.Glimpses.{sort-end, next-other}
 use Rattle.venue_tapes.proofs.Pairs.{is-pair}
-use Rattle.venues.specs.declared.Venue.{Venue}
-use Rattle.venues.specs.Join.{Choice, ofFirst, ofSecond, atEnds, refused, chosen, venue, joinAt, passed, partBy, partAt, endNumber, answerOf, Joined}
-use Rattle.venues.proofs.Joins.{Taken, was-chosen, took-first, took-second, end-at-ends, refusal-numbered, end-stays, refusal-stays}
+use Rattle.venue_join.specs.declared.Venue.{Venue}
+use Rattle.venue_join.specs.Join.{Choice, ofFirst, ofSecond, atEnds, refused, chosen, venue, joinAt, passed, partBy, partAt, endNumber, answerOf, Joined}
+use Rattle.venue_join.proofs.Joins.{Taken, was-chosen, took-first, took-second, end-at-ends, refusal-numbered, end-stays, refusal-stays}
 use Rattle.venue_claims.specs.Merging.{StampedQuote, framesOf, InOrder, Whole, mergeAt, merge}
 use Rattle.venue_claims.specs.Runs.{Runs, stops, goes, Bytes, Merges, Ends}
 use Rattle.venue_claims.proofs.Merges.{interleaved, not-falling, order-rises}

@@ -2,3 +2,4 @@
 pub mod Merges
 pub mod StampedQuotes
 pub mod Joined
+pub mod Positions

@@ -1,3 +1,4 @@
 -- The definitions of the crate.
 pub mod Merging
 pub mod Runs
+pub mod Accepted

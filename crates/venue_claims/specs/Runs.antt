@@ -3,8 +3,8 @@ use mathlib.Core.Path.{_≡_}
 use Prim.Native.Nat.{ℕ, _+_, _-_, _*_, _≤_, _<_}
 use mathlib.Core.List.{List, [], _∷_, map}
 use lib.ListN.{length, getD}
-use Rattle.venues.specs.declared.Venue.{Venue}
-use Rattle.venues.specs.Join.{venue, endNumber, Joined}
+use Rattle.venue_join.specs.declared.Venue.{Venue}
+use Rattle.venue_join.specs.Join.{venue, endNumber, Joined}
 use Rattle.venue_claims.specs.Merging.{StampedQuote, framesOf, Whole, merge, Interleaved, NotFalling}
 
 -- calls of the join on two tapes, each meeting its contract on what the one before left: the parts of those that handed back a pair, and

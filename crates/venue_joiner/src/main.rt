@@ -5,10 +5,10 @@ ghost use Prim.Native.Nat.{_≤_};
 ghost use lib.ListN.{length};
 ghost use Rattle.io.specs.Counts.{Counts};
 use libc::STDERR_FILENO;
+use venue_join::Venue;
 use venue_pieces::Joiner;
 use venue_pieces::has_enough;
 use venue_pieces::join_piece;
-use venues::Venue;
 
 // How many bytes of a tape are kept at a time, and how many are gathered before they are written out.
 const PIECE: usize = 65536;

@@ -13,9 +13,9 @@ use borrow.Author.Tests.{leb-true}
 use Rattle.lists.proofs.Booleans.{or-cases}
 use Rattle.venue_tapes.specs.VenueTapes.{Ahead, pair, done, refuses, next, further}
 use Rattle.venue_tapes.proofs.Local.{next-local}
-use Rattle.venues.specs.declared.Venue.{Venue}
-use Rattle.venues.specs.Join.{Choice, ofFirst, ofSecond, atEnds, refused, chosen, venue, moved, Joint, jointBy, jointOf, joinAt, passed, partBy, partAt}
-use Rattle.venues.proofs.Joins.{took-first, took-second}
+use Rattle.venue_join.specs.declared.Venue.{Venue}
+use Rattle.venue_join.specs.Join.{Choice, ofFirst, ofSecond, atEnds, refused, chosen, venue, moved, Joint, jointBy, jointOf, joinAt, passed, partBy, partAt}
+use Rattle.venue_join.proofs.Joins.{took-first, took-second}
 use Rattle.venue_pieces.specs.Pieces.{enough, Came, onward, jointOnward}
 
 -- ---- one tape

@@ -10,9 +10,9 @@ use borrow.Author.Tests.{le-leb, lt-leb, leb-true, leb-false, eqb-true, eq-eqb, 
 use Rattle.lists.proofs.Booleans.{agree, and-left, and-right}
 use Rattle.octets.specs.Placed.{placed}
 use Rattle.venue_tapes.proofs.Pairs.{is-pair, pair-size}
-use Rattle.venues.specs.declared.Venue.{Venue}
-use Rattle.venues.specs.Join.{Choice, ofFirst, ofSecond, atEnds, refused, Joint, joinAt, passed, partBy, partAt, answerOf, Joined}
-use Rattle.venues.proofs.Joins.{took-first, took-second, refusal-numbered, end-stays, refusal-stays}
+use Rattle.venue_join.specs.declared.Venue.{Venue}
+use Rattle.venue_join.specs.Join.{Choice, ofFirst, ofSecond, atEnds, refused, Joint, joinAt, passed, partBy, partAt, answerOf, Joined}
+use Rattle.venue_join.proofs.Joins.{took-first, took-second, refusal-numbered, end-stays, refusal-stays}
 use Rattle.venue_pieces.specs.declared.Joiner.{Joiner}
 use Rattle.venue_pieces.specs.Pieces.{enough, outputOf, leftOut, JoinedOne, goesOn, Joins, PieceJoined}
 

@@ -6,8 +6,8 @@ use mathlib.Core.List.{List, [], _++_}
 use lib.Dec.{leb, eqb}
 use lib.ListN.{length, drop}
 use Rattle.octets.specs.Placed.{placed}
-use Rattle.venues.specs.declared.Venue.{Venue}
-use Rattle.venues.specs.Join.{venue, Joint, joinAt, partAt, answerOf}
+use Rattle.venue_join.specs.declared.Venue.{Venue}
+use Rattle.venue_join.specs.Join.{venue, Joint, joinAt, partAt, answerOf}
 use Rattle.venue_pieces.specs.declared.Joiner.{Joiner}
 
 -- what is judged of a tape has come: thirty bytes from its place on, as many as the longest pair has, or the tape has ended

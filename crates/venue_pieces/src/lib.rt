@@ -4,8 +4,8 @@ ghost use Prim.Native.Nat.{_+_, _-_, _≤_};
 ghost use lib.ListN.{length, drop};
 ghost use Rattle.octets.specs.Placed.{placed};
 ghost use Rattle.venue_pieces.specs.Pieces.{enough, leftOut, JoinedOne, goesOn, PieceJoined};
-use venues::Venue;
-use venues::join;
+use venue_join::Venue;
+use venue_join::join;
 
 // Where a joiner stands: both tapes' places and last stamps, how many bytes are gathered, and the number of the last answer.
 pub struct Joiner {

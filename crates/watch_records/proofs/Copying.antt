@@ -11,7 +11,7 @@ use Rattle.lists.proofs.Growing.{padded-more, laid-more}
 use Rattle.head.specs.declared.Watch.{Watch}
 use Rattle.head.specs.Desks.{deskUnit, recordOf}
 use Rattle.watch_records.specs.Records.{recordNumber, watched, firstEight, stored}
-use Rattle.desk_shares.proofs.RecordNumbers.{made-up}
+use Rattle.watch_numbers.proofs.RecordNumbers.{made-up}
 use Rattle.watch_records.proofs.Records.{front-is}
 
 -- the numbers after i steps of reading

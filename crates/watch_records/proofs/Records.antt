@@ -15,8 +15,8 @@ use Rattle.lists.proofs.Rising.{length-insert}
 use Rattle.head.specs.declared.Watch.{Watch}
 use Rattle.model.specs.Book.{standing, tornWatches}
 use Rattle.watch_records.specs.Records.{recordNumber, watched, firstEight, stored}
-use Rattle.watches.specs.Vacancy.{Vacant}
-use Rattle.watches.proofs.Inserting.{none-stand}
+use Rattle.watch_numbers.specs.Vacancy.{Vacant}
+use Rattle.watch_numbers.proofs.Inserting.{none-stand}
 
 -- zeros behind a list, as far as it is too short
 pub front-is : (n k : ℕ) (l : List ℕ) → n ≤ k → take n (l ++ replicate k 0) ≡ take n l ++ replicate (n - length l) 0

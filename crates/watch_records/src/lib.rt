@@ -6,13 +6,13 @@ ghost use Rattle.lists.specs.Lists.{contains, insert, without, padded};
 ghost use Rattle.head.specs.Desks.{watchOf};
 ghost use Rattle.model.specs.Book.{standing};
 ghost use Rattle.watch_records.specs.Records.{watched, firstEight, stored};
-ghost use Rattle.watches.specs.Vacancy.{Vacant};
-use desk_shares::DESK_UNIT;
+ghost use Rattle.watch_numbers.specs.Vacancy.{Vacant};
 use head::Desk;
 use head::Watch;
-use watches::find;
-use watches::insert;
-use watches::remove;
+use watch_numbers::DESK_UNIT;
+use watch_numbers::find;
+use watch_numbers::insert;
+use watch_numbers::remove;
 
 // The first eight records as numbers; 0 where there is no record.
 pub fn numbers(records: &[Watch]) -> [u64; 8]

@@ -2,7 +2,7 @@
 use native.Mathlib.Omega.{arith}
 use lib.ListN.{length-take}
 use borrow.Author.Needs.{needs}
-use Rattle.imports.proofs.Importing.{imported-inside}
+use Rattle.csv_frames.proofs.Importing.{imported-inside}
 use Rattle.csv_import.proofs.import_in.Statement.{statement}
 use Rattle.csv_import.proofs.import_in.Tie as tie
 

@@ -2,7 +2,7 @@
 use mathlib.Core.Path.{sym, _∙_}
 use borrow.Author.Needs.{needs}
 use borrow.Author.Tests.{not-true, not-false}
-use Rattle.sheets.proofs.Answering.{settled}
+use Rattle.day_skyline.proofs.Answering.{settled}
 use Rattle.day_frames.proofs.Gathering.{frames-refused, settings-refused, columns-refused, none-refused}
 use Rattle.day_frames.proofs.judge.Statement.{statement}
 use Rattle.day_frames.proofs.judge.Tie as tie

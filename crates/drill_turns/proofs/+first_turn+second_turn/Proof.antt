@@ -13,7 +13,7 @@ use Rattle.drill_turns.proofs.+first_turn+second_turn.Lts-first_turn as
 use Rattle.drill_turns.proofs.second_turn.Reads as second-turn
 use Rattle.drill_turns.proofs.second_turn.Kinds as second-turn-kinds
 use Rattle.drill_turns.proofs.+first_turn+second_turn.Lts-second_turn as second-turn-lts
-use Rattle.drill_lists.proofs.first_stands.Reads as first-stands-reads
+use Rattle.drill_turns.proofs.last_list.first_stands.Reads as first-stands-reads
 use Rattle.drill_turns.proofs.Play.lay_first.Reads as lay-first-reads
 use Rattle.drill_turns.proofs.Play.lay_second.Reads as lay-second-reads
 use Rattle.drill_turns.proofs.+first_turn+second_turn.{statement}

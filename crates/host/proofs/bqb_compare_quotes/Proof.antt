@@ -3,7 +3,7 @@ use mathlib.Core.Path.{_≡_, sym, ap₂, _∙_}
 use native.Mathlib.Omega.{arith}
 use lib.Seq.{length-take-le}
 use borrow.Author.Needs.{needs}
-use Rattle.standing.specs.Standing.{comparison}
+use Rattle.host_standing.specs.Standing.{comparison}
 use Rattle.host.specs.Host.{checkOf}
 use Rattle.host.proofs.Answers.{uncut-some, count-fits, columns-read, first-cut, second-cut, uncut}
 use Rattle.host.proofs.bqb_compare_quotes.Statement.{statement}

@@ -1,7 +1,7 @@
 -- `number_of` meets its contract: each case is asked for its number.
 use mathlib.Core.Path.{_∙_, sym, ap}
 use borrow.Author.Needs.{needs}
-use Rattle.standing.specs.Standing.{answered}
+use Rattle.host_standing.specs.Standing.{answered}
 use Rattle.host.proofs.number_of.Statement.{statement}
 use Rattle.host.proofs.number_of.Tie as tie
 

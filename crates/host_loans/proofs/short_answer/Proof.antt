@@ -1,7 +1,7 @@
 -- `short_answer` meets its contract.
 use borrow.Author.Needs.{needs}
 use Rattle.refusals.specs.Refusals.{firstOf}
-use Rattle.lending.specs.Lent.{shortLoanAnswer}
+use Rattle.call_judging.specs.Answers.{shortLoanAnswer}
 use Rattle.host_loans.proofs.short_answer.Statement.{statement}
 use Rattle.host_loans.proofs.short_answer.Tie as tie
 

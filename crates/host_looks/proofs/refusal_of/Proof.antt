@@ -1,7 +1,7 @@
 -- `refusal_of` meets its contract, by the cases of the verdict.
 use mathlib.Core.Path.{sym, _∙_, ap}
-use Rattle.replies.specs.declared.Verdict.{Verdict}
-use Rattle.replies.specs.Replies.{finding}
+use Rattle.head.specs.declared.replies.Verdict.{Verdict}
+use Rattle.head.specs.Replies.{finding}
 use Rattle.host_looks.specs.Verdicts.{findingNumber}
 use borrow.Author.Needs.{needs}
 use Rattle.host_looks.proofs.refusal_of.Statement.{statement}

@@ -45,7 +45,8 @@ returns c =
     let at-flag-of = c .before .before in
     let at-store-numbers = at-flag-of .before in
     let at-store-head = at-store-numbers .before .before in
-    let at-play = at-store-head .before .before .before .before .before .before .before .before .before .before .before .before in
+    let at-lower-ends = at-store-head .before .before .before .before .before .before .before in
+    let at-play = at-lower-ends .before .before .before .before .before in
     let at-numbers-of = at-play .before .before .before in
     let at-head-of = at-numbers-of .before .before .before .before .before .before in
     record {

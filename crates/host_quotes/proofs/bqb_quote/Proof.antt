@@ -48,7 +48,8 @@ same-length-5 c = search needs
 returns-2 : tie.Need-returns-2
 returns-2 c =
     let at-store-head = c .before in
-    let at-quote = at-store-head .before .before .before .before .before .before .before .before .before .before .before .before .before in
+    let at-upper-ends = at-store-head .before .before .before .before .before .before in
+    let at-quote = at-upper-ends .before .before .before .before .before .before .before in
     let at-records-of = at-quote .before .before in
     let at-if1 = at-records-of .before .before .before .before .before in
     let at-head-of = at-if1 .before in

@@ -2,7 +2,8 @@
 use native.Mathlib.Omega.{arith}
 use mathlib.Core.List.{append-nil}
 use lib.ListN.{length-take}
-use Rattle.turns.proofs.CellRooms.{cells-room}
+use Rattle.call_judging.proofs.Answering.{lent-all}
+use Rattle.tape_calls.proofs.CellRooms.{cells-room}
 use Rattle.tape_both.proofs.Trying.{tried-none, tried-refused, changes-fit, listed-fit, tried-taken}
 use borrow.Author.Needs.{needs}
 use Rattle.tape_both.proofs.make_both.Statement.{statement}
@@ -33,7 +34,10 @@ part-cells-end : tie.Need-part-cells-end
 part-cells-end c = search needs
 
 both-known-requires : tie.Need-both-known-requires
-both-known-requires c κs = search needs
+both-known-requires c κs =
+    let at-if1 = c .before .before .before .before .before .before .before in
+    let s = at-if1 .before .before .before .before .before .before .before in
+    rw (lent-all (s .args .watches) 8 (omega (arith, s .good)) (omega arith)) (s .pre .1 .1)
 
 enum-told : tie.Need-enum-told
 enum-told c = search needs
@@ -65,7 +69,9 @@ returns-2 c =
     let on-way = at-told .before .before .before .before .before .before in
     let at-both-known = on-way .before .before .before .before .before .before .before .before .before in
     let at-if1 = at-both-known .before .before .before .before .before .before .before .before in
-    tried-refused _ _ _ _ _ _ (at-both-known .both-known .ensures) _ (at-if1 .if1 .left) (at-told .enum-told2 .given .1) (c .not-taken2 .ensures)
+    let s = at-if1 .before .before .before .before .before .before .before in
+    let made = rw (lent-all (s .args .watches) 8 (omega (arith, s .good)) (omega arith)) at (at-both-known .both-known .ensures) in
+    tried-refused _ _ _ _ _ _ made _ (at-if1 .if1 .left) (at-told .enum-told2 .given .1) (c .not-taken2 .ensures)
 
 array-write-cells : tie.Need-array-write-cells
 array-write-cells c = search needs
@@ -75,21 +81,21 @@ add-end c =
     let at-told = c .before in
     let on-way = at-told .before .before .before .before .before .before in
     let at-both-known = on-way .before .before .before .before .before .before .before .before .before in
-    omega (arith, listed-fit _ _ _ _ _ _ (at-both-known .both-known .ensures) (at-told .enum-told .given .1) (at-both-known .both-known .kept .1 .1 .1 .1 .1 .1 .1 .1 .1 .1 .0))
+    omega (arith, listed-fit _ _ _ _ _ _ (at-both-known .both-known .ensures) (at-told .enum-told .given .1) (at-both-known .both-known .kept .1 .1 .1 .1 .1 .1 .1 .1 .1 .1 .1 .0))
 
 array-share-prefix-cells : tie.Need-array-share-prefix-cells
 array-share-prefix-cells c =
     let at-told = c .before in
     let on-way = at-told .before .before .before .before .before .before in
     let at-both-known = on-way .before .before .before .before .before .before .before .before .before in
-    cells-room (at-both-known .both-known .last .1 .1 .1 .1 .1 .1 .1 .1 .1 .1 .0) (listed-fit _ _ _ _ _ _ (at-both-known .both-known .ensures) (at-told .enum-told .given .1) (at-both-known .both-known .kept .1 .1 .1 .1 .1 .1 .1 .1 .1 .1 .0)) (at-both-known .both-known .kept .1 .1 .1 .1 .1 .1 .1 .1 .1 .1 .0)
+    cells-room (at-both-known .both-known .last .1 .1 .1 .1 .1 .1 .1 .1 .1 .1 .1 .0) (listed-fit _ _ _ _ _ _ (at-both-known .both-known .ensures) (at-told .enum-told .given .1) (at-both-known .both-known .kept .1 .1 .1 .1 .1 .1 .1 .1 .1 .1 .1 .0)) (at-both-known .both-known .kept .1 .1 .1 .1 .1 .1 .1 .1 .1 .1 .1 .0)
 
 slice-aggregate-put-both : tie.Need-slice-aggregate-put-both
 slice-aggregate-put-both c =
     let at-told = c .before .before in
     let on-way = at-told .before .before .before .before .before .before in
     let at-both-known = on-way .before .before .before .before .before .before .before .before .before in
-    simp (append-nil, length-take) (omega (arith, listed-fit _ _ _ _ _ _ (at-both-known .both-known .ensures) (at-told .enum-told .given .1) (at-both-known .both-known .kept .1 .1 .1 .1 .1 .1 .1 .1 .1 .1 .0), at-both-known .both-known .kept .1 .1 .1 .1 .1 .1 .1 .1 .1 .1 .0))
+    simp (append-nil, length-take) (omega (arith, listed-fit _ _ _ _ _ _ (at-both-known .both-known .ensures) (at-told .enum-told .given .1) (at-both-known .both-known .kept .1 .1 .1 .1 .1 .1 .1 .1 .1 .1 .1 .0), at-both-known .both-known .kept .1 .1 .1 .1 .1 .1 .1 .1 .1 .1 .1 .0))
 
 put-both-requires : tie.Need-put-both-requires
 put-both-requires c κs =
@@ -99,8 +105,8 @@ put-both-requires c κs =
     let on-path = at-both-known .before .before .before .before .before .before in
     let s = on-path .before .before .before .before .before .before .before .before .before in
     let told = at-told .enum-told .given .1 in (
-      (omega (arith, changes-fit _ _ _ _ _ _ (at-both-known .both-known .ensures) told, at-both-known .both-known .kept .1 .1 .1 .1 .1 .1 .1 .1 .1 .0), omega (arith, s .pre .1 .0, at-both-known .both-known .kept .1 .1 .1 .1 .1 .1 .1 .1 .1 .0)),
-      (simp (append-nil, length-take) (omega (arith, listed-fit _ _ _ _ _ _ (at-both-known .both-known .ensures) (told) (at-both-known .both-known .kept .1 .1 .1 .1 .1 .1 .1 .1 .1 .1 .0), at-both-known .both-known .kept .1 .1 .1 .1 .1 .1 .1 .1 .1 .1 .0)), omega (arith, s .pre .1 .0)),
+      (omega (arith, changes-fit _ _ _ _ _ _ (at-both-known .both-known .ensures) told, at-both-known .both-known .kept .1 .1 .1 .1 .1 .1 .1 .1 .1 .1 .0), omega (arith, s .pre .1 .0, at-both-known .both-known .kept .1 .1 .1 .1 .1 .1 .1 .1 .1 .1 .0)),
+      (simp (append-nil, length-take) (omega (arith, listed-fit _ _ _ _ _ _ (at-both-known .both-known .ensures) (told) (at-both-known .both-known .kept .1 .1 .1 .1 .1 .1 .1 .1 .1 .1 .1 .0), at-both-known .both-known .kept .1 .1 .1 .1 .1 .1 .1 .1 .1 .1 .1 .0)), omega (arith, s .pre .1 .0)),
     )
 
 same-length-6 : tie.Need-same-length-6
@@ -128,7 +134,9 @@ returns-3 c =
     let on-way = at-told .before .before .before .before .before .before in
     let at-both-known = on-way .before .before .before .before .before .before .before .before .before in
     let at-if1 = at-both-known .before .before .before .before .before .before .before .before in
-    tried-taken _ _ _ _ _ _ (at-both-known .both-known .ensures) (at-told .enum-told .given .1) _ (at-if1 .if1 .left) (at-put-both .put-both .ensures)
+    let s = at-if1 .before .before .before .before .before .before .before in
+    let made = rw (lent-all (s .args .watches) 8 (omega (arith, s .good)) (omega arith)) at (at-both-known .both-known .ensures) in
+    tried-taken _ _ _ _ _ _ made (at-told .enum-told .given .1) _ (at-if1 .if1 .left) (at-put-both .put-both .ensures)
 
 pub make-both-spec : {M : Type 1} → statement M
 make-both-spec =

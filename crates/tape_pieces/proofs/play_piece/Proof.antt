@@ -4,7 +4,7 @@ use native.Mathlib.Omega.{arith}
 use Rattle.model.specs.Promises.{tables}
 use Rattle.tape_playback.proofs.Advancing.{left}
 use Rattle.tape_pieces.proofs.Playing.{Playing, start, fits, inside, reached, lines-room, finish, less, more}
-use Rattle.row_starts.proofs.Rewinding.{long-same}
+use Rattle.table_starts.proofs.Rewinding.{long-same}
 use Rattle.tape_pieces.proofs.play_piece.Statement.{statement}
 use Rattle.tape_pieces.proofs.play_piece.Tie as tie
 
@@ -14,6 +14,13 @@ Inv-loop tape columns₀ positions₀ lower-ends₀ upper-ends₀ bytes₀ text�
 
 abbrev μ-loop : tie.MeasureT-loop
 μ-loop tape columns₀ positions₀ lower-ends₀ upper-ends₀ bytes₀ text₀ now₀ columns positions lower-ends upper-ends bytes text now = left tape (now .place) (now .over)
+
+-- the step that was played, from where the rows may be rewound
+abbrev played : tie.After-rewind-arg4 Inv-loop μ-loop → tie.After-play-next Inv-loop μ-loop
+played c =
+    let at-text = c .before .before .before .before .before .before .before in
+    let at-lower-ends = at-text .before .before .before .before in
+    at-lower-ends .before .before .before .before .before
 
 loop-holds : tie.Need-loop-holds Inv-loop μ-loop
 loop-holds c =
@@ -33,23 +40,27 @@ play-next-requires c κs =
 
 rewind-requires : tie.Need-rewind-requires Inv-loop μ-loop
 rewind-requires c κs =
-    let at-play-next = c .before .before .before .before .before .before .before .before .before .before .before .before .before .before .before .before in
-    let at-loop = at-play-next .before .before .before .before .before .before .before .before .before in
+    let at-play-next = played c in
+    let at-if1 = at-play-next .before .before .before .before .before .before .before in
+    let at-loop = at-if1 .before .before in
     let i = at-loop .loop .inv in
     let made = at-play-next .play-next in
     (long-same (made .kept .1 .1 .0) (made .kept .1 .1 .1 .0) (made .kept .1 .1 .1 .1 .0) (made .kept .1 .1 .1 .1 .1 .0) (i .tables-long), (made .ensures .starts, made .ensures .opened))
 
 loop-less : tie.Need-loop-less Inv-loop μ-loop
 loop-less c =
-    let at-play-next = c .before .before .before .before .before .before .before .before .before .before .before .before .before .before .before .before .before .before .before .before .before .before .before .before .before in
+    let at-positions2 = c .before .before .before .before .before in
+    let at-rewind = at-positions2 .before .before .before in
+    let at-play-next = played (at-rewind .before) in
     let at-if1 = at-play-next .before .before .before .before .before .before .before in
     let at-plays = at-if1 .before in
     less (at-plays .before .loop .inv) (at-plays .plays .ensures) (at-if1 .if1 .taken) (at-play-next .play-next .ensures)
 
 loop-again : tie.Need-loop-again Inv-loop μ-loop
 loop-again c =
-    let at-rewind = c .before .before .before .before .before .before .before .before in
-    let at-play-next = at-rewind .before .before .before .before .before .before .before .before .before .before .before .before .before .before .before .before .before in
+    let at-positions2 = c .before .before .before .before .before in
+    let at-rewind = at-positions2 .before .before .before in
+    let at-play-next = played (at-rewind .before) in
     let at-if1 = at-play-next .before .before .before .before .before .before .before in
     let at-plays = at-if1 .before in
     let made = at-play-next .play-next in

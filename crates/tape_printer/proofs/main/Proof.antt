@@ -18,6 +18,12 @@ Inv-loop columns₀ positions₀ lower-ends₀ upper-ends₀ bytes₀ tape₀ te
 abbrev μ-loop : tie.MeasureT-loop
 μ-loop columns₀ positions₀ lower-ends₀ upper-ends₀ bytes₀ tape₀ text₀ playback₀ turns₀ columns positions lower-ends upper-ends bytes tape text playback turns = turns
 
+-- the turn of the loop, from behind the refill
+abbrev turn : tie.After-refill Inv-loop μ-loop → tie.At-loop Inv-loop μ-loop
+turn c =
+    let at-flush = c .before .before in
+    at-flush .before .before .before .before .before
+
 fresh-requires : tie.Need-fresh-requires Inv-loop μ-loop
 fresh-requires c κs = search needs
 
@@ -68,35 +74,34 @@ slice-aggregate-play-piece c = simp length-take (omega (arith, c .before .before
 
 slice-aggregate-play-piece-2 : tie.Need-slice-aggregate-play-piece-2 Inv-loop μ-loop
 slice-aggregate-play-piece-2 c =
-    let at-loop = c .before .before .before .before .before .before .before .before .before .before in
-    sym (at-loop .loop .inv .columns)
+    let at-refill = c .before .before .before in
+    sym (turn at-refill .loop .inv .columns)
 
 slice-aggregate-play-piece-3 : tie.Need-slice-aggregate-play-piece-3 Inv-loop μ-loop
 slice-aggregate-play-piece-3 c =
-    let at-loop = c .before .before .before .before .before .before .before .before .before .before .before in
-    sym (at-loop .loop .inv .positions)
+    let at-refill = c .before .before .before .before in
+    sym (turn at-refill .loop .inv .positions)
 
 slice-aggregate-play-piece-4 : tie.Need-slice-aggregate-play-piece-4 Inv-loop μ-loop
 slice-aggregate-play-piece-4 c =
-    let at-loop = c .before .before .before .before .before .before .before .before .before .before .before .before in
-    sym (at-loop .loop .inv .lowerEnds)
+    let at-refill = c .before .before .before .before .before in
+    sym (turn at-refill .loop .inv .lowerEnds)
 
 slice-aggregate-play-piece-5 : tie.Need-slice-aggregate-play-piece-5 Inv-loop μ-loop
 slice-aggregate-play-piece-5 c =
-    let at-loop = c .before .before .before .before .before .before .before .before .before .before .before .before .before in
-    sym (at-loop .loop .inv .upperEnds)
+    let at-refill = c .before .before .before .before .before .before in
+    sym (turn at-refill .loop .inv .upperEnds)
 
 slice-aggregate-play-piece-6 : tie.Need-slice-aggregate-play-piece-6 Inv-loop μ-loop
 slice-aggregate-play-piece-6 c =
-    let at-loop = c .before .before .before .before .before .before .before .before .before .before .before .before .before .before .before in
-    sym (at-loop .loop .inv .text-long)
+    let at-refill = c .before .before .before .before .before .before .before .before in
+    sym (turn at-refill .loop .inv .text-long)
 
 play-piece-requires : tie.Need-play-piece-requires Inv-loop μ-loop
 play-piece-requires c κs =
     let at-refill = c .before .before .before .before .before .before .before .before in
     let at-flush = at-refill .before .before in
-    let at-loop = at-flush .before .before .before .before .before in
-    let i = at-loop .loop .inv in
+    let i = turn at-refill .loop .inv in
     let f = at-flush .flush .ensures in
     let r = at-refill .refill .ensures in (
       (omega (arith, r .used, f .used), simp length-take (omega (arith, r .inside, r .within, at-refill .refill .kept .1 .0))),
@@ -105,7 +110,9 @@ play-piece-requires c κs =
 
 loop-less : tie.Need-loop-less Inv-loop μ-loop
 loop-less c =
-    let at-loop-test = c .before .before .before .before .before .before .before .before .before .before .before .before .before .before .before .before .before .before .before .before in
+    let at-play-piece = c .before .before .before .before .before in
+    let at-refill = at-play-piece .before .before .before .before .before .before .before .before .before in
+    let at-loop-test = at-refill .before .before .before .before .before .before in
     omega (arith, at-loop-test .loop-test .taken)
 
 loop-again : tie.Need-loop-again Inv-loop μ-loop
@@ -113,8 +120,7 @@ loop-again c =
     let at-play-piece = c .before .before .before .before .before in
     let at-refill = at-play-piece .before .before .before .before .before .before .before .before .before in
     let at-flush = at-refill .before .before in
-    let at-loop = at-flush .before .before .before .before .before in
-    let i = at-loop .loop .inv in
+    let i = turn at-refill .loop .inv in
     let f = at-flush .flush .ensures in
     let r = at-refill .refill in
     let p = at-play-piece .play-piece in

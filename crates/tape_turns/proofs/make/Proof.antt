@@ -1,7 +1,8 @@
 -- `make` meets its contract: each call is made, and its lines are laid.
 use native.Mathlib.Omega.{arith}
 use lib.ListN.{length-take}
-use Rattle.turns.proofs.Rooms.{quote-fits}
+use Rattle.call_judging.proofs.Answering.{lent-all}
+use Rattle.tape_calls.proofs.Rooms.{quote-fits}
 use Rattle.tape_turns.specs.Making.{taken}
 use Rattle.tape_turns.proofs.Makes.{wanted-made, nothing-turned, quote-made}
 use borrow.Author.Needs.{needs}
@@ -25,7 +26,9 @@ slice-aggregate-quote-known c = let at-match = c .before .before .before in
     simp length-take (omega (arith, s .good, s .pre .0 _ (c .before .before .wanted .given .1)))
 
 quote-known-requires : tie.Need-quote-known-requires
-quote-known-requires c κs = search needs
+quote-known-requires c κs = let at-match = c .before .before .before .before .before .before .before .before in
+    let s = at-match .before .before .before .before .before .before .before in
+    rw (lent-all (s .args .watches) 8 (omega (arith, s .good)) (omega arith)) (s .pre .1 .1)
 
 put-quote-requires : tie.Need-put-quote-requires
 put-quote-requires c κs = let on-way = c .before .before .before .before .before .before .before .before in
@@ -159,7 +162,8 @@ returns c = let at-put-quote = c .before .before in
     let on-way = at-put-quote .before .before .before .before .before .before .before .before in
     let at-quote-known = on-way .before .before .before .before .before in
     let at-wanted = at-quote-known .before .before .before .before .before .before .before .before in
-    let entered = at-quote-known .quote-known .ensures in
+    let s = at-wanted .before .before .before .before .before .before .before .before in
+    let entered = rw (lent-all (s .args .watches) 8 (omega (arith, s .good)) (omega arith)) at (at-quote-known .quote-known .ensures) in
     quote-made _ _ _ _ _ (at-wanted .wanted .given .1) entered (at-put-quote .put-quote .ensures _ _ _ _ _ (entered .quoted))
 
 same-length-7 : tie.Need-same-length-7
@@ -183,7 +187,10 @@ returns-2 c = let at-put-opening = c .before .before in
     let on-way = at-put-opening .before .before .before .before .before .before .before .before in
     let at-open = on-way .before .before in
     let at-wanted2 = at-open .before .before .before .before .before .before in
-    wanted-made _ _ (at-wanted2 .wanted2 .given .1) (at-put-opening .put-opening .ensures _ _ _ _ (at-open .«open» .ensures))
+    let s = at-wanted2 .before .before .before .before .before .before .before .before in
+    let made = at-open .«open» in
+    let opened = rw (lent-all (s .args .watches) 8 (omega (arith, s .good)) (omega arith), lent-all (made .result .watches) 8 (made .ensures .1) (omega arith)) at (made .ensures .0) in
+    wanted-made _ _ (at-wanted2 .wanted2 .given .1) (at-put-opening .put-opening .ensures _ _ _ _ opened)
 
 same-length-12 : tie.Need-same-length-12
 same-length-12 c = search needs

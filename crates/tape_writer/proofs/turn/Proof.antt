@@ -22,7 +22,8 @@ slice-reshare-prefix-write-on c = search needs
 
 slice-aggregate-write-on : tie.Need-slice-aggregate-write-on
 slice-aggregate-write-on c =
-    let at-start = c .before .before .before .before .before .before .before .before in
+    let at-line-end = c .before .before .before .before in
+    let at-start = at-line-end .before .before .before .before in
     simp length-take (omega (arith, at-start .pre))
 
 write-on-requires : tie.Need-write-on-requires
@@ -42,7 +43,9 @@ same-length-2 c = search needs
 returns : tie.Need-returns
 returns c =
     let at-write-on = c .before .before in
-    let at-start = at-write-on .before .before .before .before .before .before .before .before .before .before in
+    let at-if1 = at-write-on .before .before .before in
+    let at-line-end = at-if1 .before .before .before in
+    let at-start = at-line-end .before .before .before .before in
     let wrote = at-write-on .«write-on» .ensures in
     let inside = rw length-take at (wrote .0 .1) in
     ((omega (arith, inside, wrote .1, at-start .pre .0), omega (arith, wrote .1, at-start .pre .0)), wrote .0 .0)

@@ -2,7 +2,7 @@
 use mathlib.Core.Path.{_∙_}
 use native.Mathlib.Omega.{arith}
 use borrow.Author.Needs.{needs}
-use Rattle.tape_lines.proofs.Laying.{taken-inside, taken-fits}
+use Rattle.line_writer.proofs.Laying.{taken-inside, taken-fits}
 use Rattle.tape_writer.proofs.write_on.Statement.{statement}
 use Rattle.tape_writer.proofs.write_on.Tie as tie
 

@@ -13,8 +13,9 @@ same-length c = search needs
 
 returns : tie.Need-returns
 returns c =
-    let f = c .before .flush .ensures in
-    let p = c .before .before .before .before .before .before .before .before .pre in (
+    let at-flush = c .before in
+    let f = at-flush .flush .ensures in
+    let p = at-flush .before .before .before .before .before .before .before .pre in (
       omega (arith, f .0),
       omega (arith, f .1, f .2, p .1 .0 .0),
       omega (arith, f .2, p .1 .0 .1),
@@ -24,14 +25,16 @@ returns c =
 
 refill-requires : tie.Need-refill-requires
 refill-requires c κs =
-    let f = c .before .before .flush .ensures in
-    let p = c .before .before .before .before .before .before .before .before .before .pre in
+    let at-flush = c .before .before in
+    let f = at-flush .flush .ensures in
+    let p = at-flush .before .before .before .before .before .before .before .pre in
     (omega (arith, f .1, f .2, p .1 .0 .0), omega (arith, f .2, p .1 .0 .1))
 
 refill-requires-2 : tie.Need-refill-requires-2
 refill-requires-2 c κs =
-    let f = c .before .before .before .before .before .before .flush .ensures in
-    let p = c .before .before .before .before .before .before .before .before .before .before .before .before .before .pre in
+    let at-flush = c .before .before .before .before .before .before in
+    let f = at-flush .flush .ensures in
+    let p = at-flush .before .before .before .before .before .before .before .pre in
     (omega (arith, f .3, f .4, p .1 .1 .0), omega (arith, f .4, p .1 .1 .1))
 
 slice-reshare-prefix-join-on : tie.Need-slice-reshare-prefix-join-on
@@ -52,9 +55,12 @@ slice-aggregate-join-on-2 c =
 
 join-on-requires : tie.Need-join-on-requires
 join-on-requires c κs =
-    let f = c .before .before .before .before .before .before .before .before .before .before .before .before .flush .ensures in
-    let r = c .before .before .before .before .before .before .before .before .before .refill in
-    let q = c .before .before .before .before .before .refill2 in
+    let at-refill2 = c .before .before .before .before .before in
+    let at-refill = at-refill2 .before .before .before .before in
+    let at-flush = at-refill .before .before .before in
+    let f = at-flush .flush .ensures in
+    let r = at-refill .refill in
+    let q = at-refill2 .refill2 in
     (omega (arith, f .0), (simp length-take (omega (arith, r .ensures .0, r .ensures .1, r .kept .1 .0)), simp length-take (omega (arith, q .ensures .0, q .ensures .1, q .kept .1 .0))))
 
 same-length-2 : tie.Need-same-length-2
@@ -68,9 +74,12 @@ same-length-4 c = search needs
 
 returns-2 : tie.Need-returns-2
 returns-2 c =
-    let e = c .before .before .join-on .ensures in
-    let r = c .before .before .before .before .before .before .before .before .before .before .before .before .refill in
-    let q = c .before .before .before .before .before .before .before .before .refill2 in (
+    let at-join-on = c .before .before in
+    let at-refill2 = at-join-on .before .before .before .before .before .before in
+    let at-refill = at-refill2 .before .before .before .before in
+    let e = at-join-on .join-on .ensures in
+    let r = at-refill .refill in
+    let q = at-refill2 .refill2 in (
       omega (arith, e .0),
       omega (arith, e .1, simp length-take at (e .3)),
       omega (arith, e .1, r .ensures .1),

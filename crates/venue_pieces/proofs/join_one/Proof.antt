@@ -24,7 +24,11 @@ same-length : tie.Need-same-length
 same-length c = search needs
 
 returns : tie.Need-returns
-returns c = joined-one _ _ _ _ (c .before .before .before .before .before .join .ensures) (c .before .before .before .before .left-out .ensures) (c .before .before .gather .ensures)
+returns c =
+    let at-gather = c .before .before in
+    let at-left-out = at-gather .before .before in
+    let at-join = at-left-out .before in
+    joined-one _ _ _ _ (at-join .join .ensures) (at-left-out .left-out .ensures) (at-gather .gather .ensures)
 
 pub join-one-spec : {M : Type 1} → statement M
 join-one-spec =

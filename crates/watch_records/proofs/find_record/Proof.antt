@@ -52,10 +52,10 @@ use Rattle.watch_records.proofs.Calling.{Numbers, calls-numbers, handed
 use Rattle.watch_records.proofs.numbers.Symbol as numbers-def
 use Rattle.watch_records.proofs.numbers.Symbol.{name as #watch-records·numbers}
 use Rattle.watch_records.proofs.numbers.Met as numbers-thm
-use Rattle.watches.proofs.find as find
-use Rattle.watches.proofs.find.Symbol as find-def
-use Rattle.watches.proofs.find.Symbol.{name as #watches·find}
-use Rattle.watches.proofs.find.Met as find-thm
+use Rattle.watch_numbers.proofs.find as find
+use Rattle.watch_numbers.proofs.find.Symbol as find-def
+use Rattle.watch_numbers.proofs.find.Symbol.{name as #watch-numbers·find}
+use Rattle.watch_numbers.proofs.find.Met as find-thm
 use Rattle.watch_records.proofs.find_record.Key.{name as #watch-records·find-record}
 use Rattle.watch_records.proofs.find_record as f
 use Rattle.watch_records.proofs.find_record.Statement as stated
@@ -107,7 +107,7 @@ module _ {M : Type 1} (𝓤 : URA M) (H : Heap 𝓤) (A : Atoms 𝓤) (W : Given
       suffices ! _ (ends-at 𝓤 H A f.ended stayed (f.clauses 𝓤 H A mem run) W (((κ, tt), (q, tt), tt, x, at), tt) w a (tt, (tt, (tt, tt))) (tt, (tt, (tt, tt)))) $ says ! e $
       frame ! $ frame ! $ owned ! bool (Is bool) (bool-makes 𝓤 H A W) a _ is $ done !
 
-  module _ (C : Calls 𝓤 H) (Λ : Loops 𝓤 H) (fm : FmC 𝓤 H (W .laws) C) (known-numbers : Triple 𝓤 (C #watch-records·numbers) (Numbers 𝓤 H A mem run)) (known-find : Triple 𝓤 (C #watches·find) (Find 𝓤 H A mem run)) where
+  module _ (C : Calls 𝓤 H) (Λ : Loops 𝓤 H) (fm : FmC 𝓤 H (W .laws) C) (known-numbers : Triple 𝓤 (C #watch-records·numbers) (Numbers 𝓤 H A mem run)) (known-find : Triple 𝓤 (C #watch-numbers·find) (Find 𝓤 H A mem run)) where
     walk : ent 𝓤 (onEntry 𝓤 H A f.signature (κ, tt) (q, tt) x at) (WpFn 𝓤 H C Λ code.function (v ∷ desk-value desk ∷ vint w32 n ∷ []) Post)
     walk =
         qed W ((‵ (flft κ q) ⊛ ‵ ftrue) ∷ ‵ (owns (ShrSlice (named 0) κ T.the-row ∷ D.the-row ∷ u32 ∷ []) x at) ∷ []) ∵ enter ! C Λ code.function (v ∷ desk-value desk ∷ vint w32 n ∷ []) _ $
@@ -124,7 +124,7 @@ module _ {M : Type 1} (𝓤 : URA M) (H : Heap 𝓤) (A : Atoms 𝓤) (W : Given
         move ! (3 ∷ 4 ∷ []) $ fjoin ! $ move ! (2 ∷ 3 ∷ []) $ join ! $ keep ! (0 ∷ 1 ∷ []) $ by ! (exits a w isa (e′ ∙ (ap (λ (l : List ℕ). contains watch (standing l)) e ∙ ap (contains watch) (standing-first (watched ys)))))))))))))))
 
 module _ {M : Type 1} (𝓤 : URA M) (H : Heap 𝓤) (A : Atoms 𝓤) (W : Given 𝓤 H A) (mem : Memory → SProp 𝓤) (run : Routine → Fun 𝓤) (𝓣 : Tables 𝓤 H)
-    (known-numbers : Triple 𝓤 (𝓣 .C #watch-records·numbers) (Numbers 𝓤 H A mem run)) (known-find : Triple 𝓤 (𝓣 .C #watches·find) (Find 𝓤 H A mem run)) where
+    (known-numbers : Triple 𝓤 (𝓣 .C #watch-records·numbers) (Numbers 𝓤 H A mem run)) (known-find : Triple 𝓤 (𝓣 .C #watch-numbers·find) (Find 𝓤 H A mem run)) where
   find-record-walks : Walks 𝓤 H A f.ended stayed (WpFn 𝓤 H (𝓣 .C) (𝓣 .Λ) code.function) (f.clauses 𝓤 H A mem run)
   find-record-walks = walked 𝓤 H A f.ended stayed (f.clauses 𝓤 H A mem run) (WpFn 𝓤 H (𝓣 .C) (𝓣 .Λ) code.function) (λ κs. (slice-vals, (desk-values, (uint-vals w32, tt)))) (λ κs. (shr-slice-tells (named 0) (κs .0) T.the-row, (EL.tells D.the-type D′.the-laws, (uint-tells w32, tt))))
       (λ κs qs bounds a g are. via 𝓤 _ (fst∗ 𝓤 _ (emp 𝓤))
@@ -142,4 +142,4 @@ find-record-spec 𝓤 H 𝓜 𝓖 𝓡 =
     (tables 𝓤 H 𝓜 𝓡 code.env .C) (tables 𝓤 H 𝓜 𝓡 code.env .Λ) #watch-records·find-record code.function (code.unfolded 𝓤 H 𝓜 𝓡)
     (find-record-meets 𝓤 H (𝓖 .A) (givenOf 𝓤 H 𝓜 𝓖) (𝓜 .mem) (𝓡 .run) (tablesOf 𝓤 H 𝓜 (tables 𝓤 H 𝓜 𝓡 code.env))
     (cited 𝓤 H (Numbers 𝓤 H (𝓖 .A) (𝓜 .mem) (𝓡 .run)) 𝓜 𝓡 code.env #watch-records·numbers numbers-def.routine code.calls-watch-records·numbers (numbers-thm.met 𝓤 H 𝓜 𝓖 𝓡))
-    (cited 𝓤 H (Find 𝓤 H (𝓖 .A) (𝓜 .mem) (𝓡 .run)) 𝓜 𝓡 code.env #watches·find find-def.routine code.calls-watches·find (find-thm.met 𝓤 H 𝓜 𝓖 𝓡)))
+    (cited 𝓤 H (Find 𝓤 H (𝓖 .A) (𝓜 .mem) (𝓡 .run)) 𝓜 𝓡 code.env #watch-numbers·find find-def.routine code.calls-watch-numbers·find (find-thm.met 𝓤 H 𝓜 𝓖 𝓡)))

@@ -41,7 +41,7 @@ use Rattle.head.proofs.Desk.Laws as D′
 use Rattle.head.proofs.Watch as T
 use Rattle.model.specs.Book.{standing}
 use Rattle.watch_records.specs.Records.{watched, firstEight, stored}
-use Rattle.watches.specs.Vacancy.{Vacant}
+use Rattle.watch_numbers.specs.Vacancy.{Vacant}
 use Rattle.watch_records.proofs.Records.{many, changed, vacant-first, bounded-inserted}
 use Rattle.watch_records.proofs.DeskValues.{desk-value, desk-values}
 use Rattle.watch_records.proofs.Lending.{at-name}
@@ -53,10 +53,10 @@ use Rattle.watch_records.proofs.numbers.Met as numbers-thm
 use Rattle.watch_records.proofs.store.Symbol as store-def
 use Rattle.watch_records.proofs.store.Symbol.{name as #watch-records·store}
 use Rattle.watch_records.proofs.store.Met as store-thm
-use Rattle.watches.proofs.insert as change
-use Rattle.watches.proofs.insert.Symbol as change-def
-use Rattle.watches.proofs.insert.Symbol.{name as #watches·insert}
-use Rattle.watches.proofs.insert.Met as change-thm
+use Rattle.watch_numbers.proofs.insert as change
+use Rattle.watch_numbers.proofs.insert.Symbol as change-def
+use Rattle.watch_numbers.proofs.insert.Symbol.{name as #watch-numbers·insert}
+use Rattle.watch_numbers.proofs.insert.Met as change-thm
 use Rattle.watch_records.proofs.insert_record.Key.{name as #watch-records·insert-record}
 use Rattle.watch_records.proofs.insert_record as f
 use Rattle.watch_records.proofs.insert_record.Statement as stated
@@ -106,14 +106,14 @@ module _ {M : Type 1} (𝓤 : URA M) (H : Heap 𝓤) (A : Atoms 𝓤) (W : Given
       suffices ! _ (ends-at 𝓤 H A f.ended stayed (f.clauses 𝓤 H A mem run) W (((κ, tt), (q, tt), tt, x, at), tt) vunit tt (zs, (tt, (tt, tt))) (len, (tt, (tt, tt)))) $
       says ! (e ∙ changed (watched ys) (many ys enough) (insert watch) (bounded-inserted watch (watched ys) vacant)) $ nothing ! $ move ! (1 ∷ 0 ∷ []) $ join ! $ frame ! $ fjoin ! $ frame ! $ feqI ! (List Val) (vunit ∷ []) (vunit ∷ []) refl $ done !
 
-  module _ (𝓣 : Tables 𝓤 H) (known-numbers : Triple 𝓤 (𝓣 .C #watch-records·numbers) (Numbers 𝓤 H A mem run)) (known-change : Triple 𝓤 (𝓣 .C #watches·insert) (Change 𝓤 H A mem run)) (known-store : Triple 𝓤 (𝓣 .C #watch-records·store) (Store 𝓤 H A mem run)) where
+  module _ (𝓣 : Tables 𝓤 H) (known-numbers : Triple 𝓤 (𝓣 .C #watch-records·numbers) (Numbers 𝓤 H A mem run)) (known-change : Triple 𝓤 (𝓣 .C #watch-numbers·insert) (Change 𝓤 H A mem run)) (known-store : Triple 𝓤 (𝓣 .C #watch-records·store) (Store 𝓤 H A mem run)) where
     walk : ent 𝓤 (onEntry 𝓤 H A f.signature (κ, tt) (q, tt) x at) (WpFn 𝓤 H (𝓣 .C) (𝓣 .Λ) code.function (sliceVal (b, o) (length ys) ∷ desk-value desk ∷ vint w32 n ∷ []) Post)
     walk =
-        changes 𝓤 H A W mem run κ q b o γ ys desk n n-fits room (𝓣 .C) (𝓣 .Λ) (fmOf 𝓤 H (W .laws) 𝓣) known-numbers known-store #watches·insert (F watch) ensures
+        changes 𝓤 H A W mem run κ q b o γ ys desk n n-fits room (𝓣 .C) (𝓣 .Λ) (fmOf 𝓤 H (W .laws) 𝓣) known-numbers known-store #watch-numbers·insert (F watch) ensures
         (λ r u is e. via 𝓤 (Change 𝓤 H A mem run .pre (to r u)) (goes r u is e) (known-change (to r u))) said Post exits
 
 module _ {M : Type 1} (𝓤 : URA M) (H : Heap 𝓤) (A : Atoms 𝓤) (W : Given 𝓤 H A) (mem : Memory → SProp 𝓤) (run : Routine → Fun 𝓤) (𝓣 : Tables 𝓤 H)
-    (known-numbers : Triple 𝓤 (𝓣 .C #watch-records·numbers) (Numbers 𝓤 H A mem run)) (known-change : Triple 𝓤 (𝓣 .C #watches·insert) (Change 𝓤 H A mem run)) (known-store : Triple 𝓤 (𝓣 .C #watch-records·store) (Store 𝓤 H A mem run)) where
+    (known-numbers : Triple 𝓤 (𝓣 .C #watch-records·numbers) (Numbers 𝓤 H A mem run)) (known-change : Triple 𝓤 (𝓣 .C #watch-numbers·insert) (Change 𝓤 H A mem run)) (known-store : Triple 𝓤 (𝓣 .C #watch-records·store) (Store 𝓤 H A mem run)) where
   insert-record-walks : Walks 𝓤 H A f.ended stayed (WpFn 𝓤 H (𝓣 .C) (𝓣 .Λ) code.function) (f.clauses 𝓤 H A mem run)
   insert-record-walks = walked 𝓤 H A f.ended stayed (f.clauses 𝓤 H A mem run) (WpFn 𝓤 H (𝓣 .C) (𝓣 .Λ) code.function) (λ κs. (slice-vals, (desk-values, (uint-vals w32, tt)))) (λ κs. (mut-slice-tells (named 0) (κs .0) T.the-row, (EL.tells D.the-type D′.the-laws, (uint-tells w32, tt))))
       (λ κs qs bounds a g are. needs 𝓤 ((8 ≤ length (a .0 .now)) × Vacant (watched (a .0 .now))) _ (λ ok.
@@ -131,5 +131,5 @@ insert-record-spec 𝓤 H 𝓜 𝓖 𝓡 =
     (tables 𝓤 H 𝓜 𝓡 code.env .C) (tables 𝓤 H 𝓜 𝓡 code.env .Λ) #watch-records·insert-record code.function (code.unfolded 𝓤 H 𝓜 𝓡)
     (insert-record-meets 𝓤 H (𝓖 .A) (givenOf 𝓤 H 𝓜 𝓖) (𝓜 .mem) (𝓡 .run) (tablesOf 𝓤 H 𝓜 (tables 𝓤 H 𝓜 𝓡 code.env))
     (cited 𝓤 H (Numbers 𝓤 H (𝓖 .A) (𝓜 .mem) (𝓡 .run)) 𝓜 𝓡 code.env #watch-records·numbers numbers-def.routine code.calls-watch-records·numbers (numbers-thm.met 𝓤 H 𝓜 𝓖 𝓡))
-    (cited 𝓤 H (Change 𝓤 H (𝓖 .A) (𝓜 .mem) (𝓡 .run)) 𝓜 𝓡 code.env #watches·insert change-def.routine code.calls-watches·insert (change-thm.met 𝓤 H 𝓜 𝓖 𝓡))
+    (cited 𝓤 H (Change 𝓤 H (𝓖 .A) (𝓜 .mem) (𝓡 .run)) 𝓜 𝓡 code.env #watch-numbers·insert change-def.routine code.calls-watch-numbers·insert (change-thm.met 𝓤 H 𝓜 𝓖 𝓡))
     (cited 𝓤 H (Store 𝓤 H (𝓖 .A) (𝓜 .mem) (𝓡 .run)) 𝓜 𝓡 code.env #watch-records·store store-def.routine code.calls-watch-records·store (store-thm.met 𝓤 H 𝓜 𝓖 𝓡)))

@@ -46,7 +46,7 @@ use Rattle.head.proofs.Watch as T
 use Rattle.head.proofs.Watch.Laws as T′
 use Rattle.watch_records.specs.Records.{watched}
 use Rattle.head.specs.Desks.{deskUnit}
-use Rattle.desk_shares.proofs.RecordNumbers.{wide, unit-fits, record-fits}
+use Rattle.watch_numbers.proofs.RecordNumbers.{wide, unit-fits, record-fits}
 use Rattle.watch_records.proofs.Copying.{empty, copied, length-copied, read-on, all-read}
 use Rattle.watch_records.proofs.Turns.{goes-on, stops}
 use Rattle.watch_records.proofs.LocalArray.{machine, zeros, taken-apart, put-together}

@@ -46,7 +46,7 @@ use Rattle.head.specs.declared.Watch.{Watch}
 use Rattle.head.proofs.Watch as T
 use Rattle.head.proofs.Watch.Laws as T′
 use Rattle.watch_records.specs.Records.{watched}
-use Rattle.desk_shares.proofs.RecordNumbers.{desk-fits, size-fits, wide}
+use Rattle.watch_numbers.proofs.RecordNumbers.{desk-fits, size-fits, wide}
 use Rattle.watch_records.proofs.Copying.{recordAt, putIn, length-putIn, all-put}
 use Rattle.watch_records.proofs.Turns.{goes-on, stops}
 use Rattle.watch_records.proofs.LocalArray.{machine, taken-apart, put-together}

@@ -1,7 +1,7 @@
 -- `play` meets its contract: nothing is known of the tables.
 use mathlib.Core.Path.{refl}
 use native.Mathlib.Omega.{arith}
-use Rattle.quoting.proofs.Reaching.{unknown}
+use Rattle.call_quoting.proofs.Reaching.{unknown}
 use Rattle.tape.proofs.Plays.{step-anywhere}
 use borrow.Author.Needs.{needs}
 use Rattle.tape.proofs.playing.play.Statement.{statement}

@@ -1,0 +1,3 @@
+-- The definitions of the crate.
+pub mod Shown
+pub mod Due

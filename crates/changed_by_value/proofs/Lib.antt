@@ -1,2 +1,0 @@
--- What the calls hand back, and its machine value.
-pub mod RecordReplies

@@ -1,3 +1,0 @@
--- The definitions of the crate.
-pub mod Lines
-pub mod Spelling

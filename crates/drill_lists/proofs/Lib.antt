@@ -1,3 +1,0 @@
--- The proofs of the crate.
-pub mod Laid
-pub mod Scans

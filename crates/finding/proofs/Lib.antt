@@ -1,7 +1,0 @@
--- The laws of the crate.
-pub mod Comparisons
-pub mod Blocks
-pub mod Looping
-pub mod Youngest
-pub mod Passing
-pub mod Going

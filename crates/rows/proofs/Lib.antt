@@ -1,4 +1,0 @@
--- The laws of the crate.
-pub mod Reading
-pub mod Passing
-pub mod Torn

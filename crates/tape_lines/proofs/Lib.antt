@@ -1,3 +1,0 @@
--- The laws of the crate.
-pub mod Laying
-pub mod Refilling

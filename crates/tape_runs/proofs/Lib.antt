@@ -1,3 +1,0 @@
--- The laws of the crate.
-pub mod Printing
-pub mod Running

@@ -1,1 +1,0 @@
-// Joined quotes on a book: which of them get which positions (specs/), and the theorems (proofs/).
