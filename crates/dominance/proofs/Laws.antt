@@ -1,6 +1,6 @@
 -- Dominance is a strict partial order, for every number of columns.
 use mathlib.Core.Path.{◌≡◌}
-use Prim.Native.Nat.{ℕ, ◌<◌}
+use Prim.Native.Nat.{ℕ}
 use native.Mathlib.Nat.{le_refl}
 use native.Mathlib.Omega.{arith}
 use mathlib.Core.Bool.{Bool, true, false}
@@ -9,7 +9,7 @@ use lib.ListN.{get_or}
 use borrow.Author.Tests.{ltb-true, ltb-false, lt-ltb, le-ltb}
 use Rattle.lists.proofs.Booleans.{clash, refute, and_left}
 use Rattle.dominance.specs.Dominance.{higher, better, better_at, no_worse, some_better, dominates}
-use Rattle.dominance.proofs.Columns.{Dominates, no_worse_at, dominates_columns, columns_dominate}
+use Rattle.dominance.proofs.Columns.{no_worse_at, dominates_columns, columns_dominate}
 
 pub better_irreflexive : (h : Bool) (x : ℕ) → better h x x ≡ false
 unfolding better

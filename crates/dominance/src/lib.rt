@@ -1,11 +1,13 @@
 // Dominance of one quote over another (01: beats).
+#![tactic(auto)]
+
 ghost use Rattle.std.specs.Prelude.{◌≡◌, ◌&&◌, not, ◌+◌, ◌≤◌, length, drop};
 ghost use Rattle.dominance.specs.Dominance.{better, higher};
 ghost use Rattle.dominance.specs.Compared.{compared};
 ghost use Rattle.dominance.specs.Turned.{mask};
 
 // How a quote stands to another: whether it is better in some column, and whether it is worse in some column.
-#[derive(Drop)]
+#[derive(Clone, Copy)]
 pub struct Comparison {
     pub better: bool,
     pub worse: bool,

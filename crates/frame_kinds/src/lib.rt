@@ -1,10 +1,12 @@
 // The kinds of frames: the shape of each kind's body, and how many bytes follow the kind.
+#![tactic(auto)]
+
 ghost use Rattle.std.specs.Prelude.{◌≡◌};
 ghost use Rattle.frame_kinds.specs.Kinds.{shape_of, code_of, has_shape, body_length};
 
 // What stands in the body of a frame: columns; n; n and a position; n1 and n2; nothing; a position; the settings of an opening; or the kind
 // is unknown.
-#[derive(Drop)]
+#[derive(Clone, Copy)]
 pub enum Shape {
     Columns,
     Size,

@@ -1,4 +1,6 @@
 // The writer: the frame of a message, over the front of a lent output.
+#![tactic(auto)]
+
 ghost use Rattle.std.specs.Prelude.{◌≡◌, ◌+◌, ◌*◌, ◌≤◌, [], true, length};
 ghost use Rattle.lists.specs.Lists.{laid};
 ghost use Rattle.frames.specs.Frames.{framed, kind_of, frame};
@@ -10,7 +12,7 @@ use octets::{lay_change, lay_number, lay_position, put_four, put_two};
 use refusals::{Answer, Refusal};
 
 // What was written: the answer, and how many bytes.
-#[derive(Drop)]
+#[derive(Clone, Copy)]
 pub struct Written {
     pub answer: Answer,
     pub count: usize,

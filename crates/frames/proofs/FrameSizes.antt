@@ -9,7 +9,6 @@ use Rattle.lists.proofs.Booleans.{clash}
 use Rattle.octets.specs.Bytes.{bytes2, bytes4}
 use Rattle.octets.proofs.Cells.{length_cells}
 use Rattle.frame_kinds.specs.declared.Shape.{Shape}
-use Rattle.frame_kinds.specs.declared.Shape.TheVariants as Shape
 use Rattle.frame_kinds.specs.Kinds.{kinds, shape_in, shape_of, has_shape, length_of, body_length}
 use Rattle.frame_kinds.proofs.Shapes.{quote_kinds, shape_told, body_by}
 use Rattle.frames.specs.declared.Message.{Message}

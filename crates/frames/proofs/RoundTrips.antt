@@ -17,7 +17,6 @@ use Rattle.octets.specs.Bytes.{bytes2, bytes4, number2, number4}
 use Rattle.octets.proofs.Numbers.{two_bytes, four_bytes, bytes2_again, bytes4_again}
 use Rattle.octets.proofs.Cells.{length_cells, cell_again, cells_again}
 use Rattle.frame_kinds.specs.declared.Shape.{Shape}
-use Rattle.frame_kinds.specs.declared.Shape.TheVariants as Shape
 use Rattle.frames.specs.declared.Message.{Message}
 use Rattle.frames.specs.declared.Message.TheVariants.{Quote, Sized, Change, Pair, Bare, Position, Open, EndOfTape, Refused}
 use Rattle.frame_kinds.specs.Kinds.{leave_kind, join_kind, pair_leave_kind, pair_join_kind, open_kind, kinds, shape_in, shape_of, code_of, has_shape, length_of, body_length}

@@ -5,7 +5,6 @@ use Rattle.refusals.specs.declared.Refusal.TheVariants.{UnknownKind, CutFrame}
 use Rattle.refusals.specs.Refusals.{number}
 use Rattle.octets.specs.Bytes.{bytes2, bytes4, number2, number4}
 use Rattle.frame_kinds.specs.declared.Shape.{Shape}
-use Rattle.frame_kinds.specs.declared.Shape.TheVariants as Shape
 use Rattle.frames.specs.declared.Message.{Message}
 use Rattle.frames.specs.declared.Message.TheVariants.{Quote, Sized, Change, Pair, Bare, Position, Open, EndOfTape, Refused}
 use Rattle.frames.specs.declared.Read.{Read}

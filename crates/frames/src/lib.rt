@@ -1,4 +1,6 @@
 // Frames: the message of a frame, and reading one from a tape, at a place or by a lent one.
+#![tactic(auto)]
+
 mod places;
 mod reader;
 
@@ -11,7 +13,7 @@ pub use reader::read_at;
 use refusals::Refusal;
 
 // A message: what a frame says, or that there is none to read. A quote's columns stand beside it.
-#[derive(Drop)]
+#[derive(Clone, Copy)]
 pub enum Message {
     // How many columns.
     Quote(u8),
@@ -32,7 +34,7 @@ pub enum Message {
 }
 
 // What was read: the message, a quote's columns with zeros behind them, and the place behind the frame.
-#[derive(Drop)]
+#[derive(Clone, Copy)]
 pub struct Read {
     pub message: Message,
     pub columns: [u32; 6],
@@ -40,7 +42,7 @@ pub struct Read {
 }
 
 // A place of a tape: how many bytes stand before it.
-#[derive(Drop)]
+#[derive(Clone, Copy)]
 pub struct Place {
     pub at: usize,
 }

@@ -1,5 +1,7 @@
 // The head of a book with its limits, the records of its watches, what the calls and the audit hand back, and how long buffers are that
 // suffice.
+#![tactic(auto)]
+
 mod replies;
 mod sizes;
 
@@ -12,7 +14,7 @@ pub use sizes::{CHANGE_BYTES, CHANGE_FRAME, COLUMN_CELLS, PAIR_FRAME, PLACES, WA
 
 // The head of a book: its settings (01: d, N, directions), the newest position (01: M), the numbers of live rows
 // and of all rows held, and the pair whose past list is watched, 0 and 0 when unset.
-#[derive(Drop)]
+#[derive(Clone, Copy)]
 pub struct Head {
     pub dimensions: u32,
     pub capacity: u32,
@@ -25,14 +27,14 @@ pub struct Head {
 }
 
 // A desk: of whom a watch is.
-#[derive(Drop)]
+#[derive(Clone, Copy)]
 pub enum Desk {
     One,
     Two,
 }
 
 // One record of the watch list: n and the number of its desk, 0 and 0 where it is empty.
-#[derive(Drop)]
+#[derive(Clone, Copy)]
 pub struct Watch {
     pub n: u32,
     pub desk: u32,

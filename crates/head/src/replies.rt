@@ -3,7 +3,7 @@ use crate::Head;
 use refusals::{Answer, Refusal};
 
 // What a call hands back: its answer, the head for the next call, and how many bytes or positions it wrote.
-#[derive(Drop)]
+#[derive(Clone, Copy)]
 pub struct Reply {
     pub answer: Answer,
     pub head: Head,
@@ -12,7 +12,7 @@ pub struct Reply {
 
 // What a preview of a quote hands back: the quote's answer and count with the head as it came, and how many rows the quote would leave
 // live and held.
-#[derive(Drop)]
+#[derive(Clone, Copy)]
 pub struct Effect {
     pub reply: Reply,
     pub live: u32,
@@ -21,14 +21,14 @@ pub struct Effect {
 
 // What a quote and look in one hands back: the quote's answer, head and count of bytes, and how many positions the look wrote; refused, 0
 // for both counts.
-#[derive(Drop)]
+#[derive(Clone, Copy)]
 pub struct BothReply {
     pub reply: Reply,
     pub listed: usize,
 }
 
 // What the audit says of a saved book.
-#[derive(Drop)]
+#[derive(Clone, Copy)]
 pub enum Verdict {
     Yes,
     No,

@@ -7,7 +7,7 @@ use native.Mathlib.Omega.{arith}
 use mathlib.Core.Bool.{Bool, true, false, ◌&&◌, not, cond}
 use mathlib.Core.List.{List, [], ◌∷◌, ◌++◌, map, append_assoc, append-nil}
 use lib.Dec.{ltb, eqb}
-use lib.ListN.{length, get_or, set, replicate, length-append}
+use lib.ListN.{length, set, replicate, length-append}
 use lib.Seq.{get_or-append_seam, set_at}
 use borrow.Author.Tests.{ltb-true, ltb-false, lt-ltb, ne_eqb}
 use Rattle.lists.specs.Lists.{flat}
@@ -15,7 +15,7 @@ use Rattle.lists.proofs.Booleans.{either, and_left, and_right}
 use Rattle.text.specs.Text.{digits_up_to, digits}
 use Rattle.line_fields.specs.declared.Fields.{Fields}
 use Rattle.line_fields.specs.declared.Scan.{Scan}
-use Rattle.line_fields.specs.Fields.{field_by, small, no_field, scan_of, fields_by, begun, grown, step, after, fields_from}
+use Rattle.line_fields.specs.Fields.{field_by, small, no_field, scan_of, fields_by, grown, step, after, fields_from}
 use Rattle.line_fields.proofs.Steps.{begun_next, grown_next, step_separator, step_digit}
 
 -- the fields with numbers before the last, the last number and what stands behind it

@@ -4,20 +4,20 @@ use mathlib.Core.Logic.{◌⊎◌, inl, inr}
 use Prim.Native.Nat.{ℕ, zero, suc, ◌+◌, ◌-◌, ◌*◌, ◌/◌, ◌%◌, ◌^◌, ◌≤◌, ◌<◌}
 use native.Mathlib.Nat.{pow-suc}
 use native.Mathlib.Omega.{arith}
-use mathlib.Core.Bool.{Bool, true, false, ◌&&◌, ◌||◌, not, cond}
+use mathlib.Core.Bool.{true, false, cond}
 use mathlib.Core.List.{List, [], ◌∷◌, ◌++◌, map, append_assoc, append-nil}
 use lib.Dec.{ltb, leb, eqb}
 use lib.ListN.{length, length-append}
-use borrow.Author.Tests.{ltb-true, ltb-false, lt-ltb, le-ltb, leb-true, leb-false, le-leb, eqb-true, eqb-false, eq-eqb, ne_eqb}
+use borrow.Author.Tests.{ltb-true, ltb-false, lt-ltb, le-ltb, leb-true, eqb-true, eqb-false}
 use Rattle.lists.specs.Lists.{flat}
-use Rattle.lists.proofs.Booleans.{either, clash, both, neither, and_left, and_right, and_false}
+use Rattle.lists.proofs.Booleans.{either, clash, both, and_left, and_right}
 use Rattle.lists.proofs.Filters.{flat_append, map-append}
 use Rattle.text.specs.Text.{digits_up_to, digits}
 use Rattle.line_fields.specs.declared.Fields.{Fields}
 use Rattle.line_fields.specs.declared.Scan.{Scan}
 use Rattle.line_fields.specs.Fields.{field_by, small, no_field, scan_of, fields_by, invalid, step, after, fields_from, in_fields}
 use Rattle.line_fields.proofs.Steps.{begun_empty, begun_full, grown_none, grown_zero, grown_large, step_separator, step_digit}
-use Rattle.line_fields.proofs.Invalid.{broken, broken_invalid, invalid_stays, after_foreign}
+use Rattle.line_fields.proofs.Invalid.{broken_invalid, invalid_stays, after_foreign}
 use Rattle.line_fields.proofs.Spelled.{fields_with, fields_of, scan_with, scan_with_lem, separator_more, digit_more}
 
 -- ---- digits

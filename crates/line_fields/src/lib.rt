@@ -1,9 +1,11 @@
 // The lines of a text: where one ends, and its fields, a separator and a decimal number each, read byte by byte.
+#![tactic(auto)]
+
 ghost use Rattle.std.specs.Prelude.{◌≡◌, cond, ◌+◌, ◌-◌, ◌*◌, drop};
 ghost use Rattle.line_fields.specs.Fields.{no_field, one_field, scan_of, invalid, begun, grown, step, fields_from, in_fields, fields_at, line_length};
 
 // The fields read so far: whether they are valid, whether the last has no digit yet, how many are begun, and their numbers.
-#[derive(Drop)]
+#[derive(Clone, Copy)]
 pub struct Fields {
     pub valid: bool,
     pub empty: bool,
@@ -12,14 +14,14 @@ pub struct Fields {
 }
 
 // The fields that were read of a text, and where they end.
-#[derive(Drop)]
+#[derive(Clone, Copy)]
 pub struct Scanned {
     pub fields: Fields,
     pub end: usize,
 }
 
 // The place of a scan: the fields read so far with the last number alone.
-#[derive(Drop)]
+#[derive(Clone, Copy)]
 struct Scan {
     valid: bool,
     empty: bool,

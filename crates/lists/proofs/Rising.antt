@@ -5,13 +5,13 @@ use Prim.Native.Nat.{ℕ, zero, suc, ◌+◌, ◌-◌, ◌≤◌, ◌<◌}
 use native.Mathlib.Nat.{le_refl}
 use native.Mathlib.Omega.{arith}
 use lib.Arith.{lt_of_le-ne}
-use mathlib.Core.Bool.{Bool, true, false, ◌&&◌, ◌||◌, not, cond}
+use mathlib.Core.Bool.{Bool, true, false, ◌&&◌, ◌||◌, cond}
 use mathlib.Core.List.{List, [], ◌∷◌, Memᴰ}
 use lib.Dec.{ltb, leb, eqb}
 use lib.ListN.{length}
 use borrow.Author.Tests.{ltb-true, ltb-false, leb-true, le-leb, eqb-false, eq-eqb, ne_eqb}
-use Rattle.lists.specs.Lists.{keep, filter, any, run, between, contains, rising, insert, without}
-use Rattle.lists.proofs.Booleans.{either, and_left, and_right, both, none_left, none_right, or_swap}
+use Rattle.lists.specs.Lists.{keep, filter, any, run, between, contains, rising, insert}
+use Rattle.lists.proofs.Booleans.{either, and_left, and_right, none_left, none_right, or_swap}
 use Rattle.lists.proofs.Members.{of_filter}
 use Rattle.lists.proofs.Runs.{filter_same, filter_none, filter_from, of_run}
 

@@ -1,5 +1,5 @@
 -- Lists by a Boolean test, runs of numbers, and lists written over the front of what stood before.
-use Rattle.std.specs.Prelude.{ℕ, zero, suc, ◌+◌, ◌-◌, Bool, true, false, ◌&&◌, ◌||◌, not, cond, List, [], ◌∷◌, ◌++◌, ltb, leb, eqb, length, drop, replicate}
+use Rattle.std.specs.Prelude.{ℕ, zero, suc, ◌-◌, Bool, true, false, ◌&&◌, ◌||◌, not, cond, List, [], ◌∷◌, ◌++◌, ltb, leb, eqb, length, drop, replicate}
 
 module _ {A : Type 0} where
   -- x in front of xs, if the test of x passed

@@ -1,4 +1,6 @@
 // Numbers in bytes, the low byte first: read at a place, stored from a place on, and laid behind a kind over the front of an output.
+#![tactic(auto)]
+
 ghost use Rattle.std.specs.Prelude.{◌≡◌, ◌+◌, ◌*◌, ◌≤◌, ◌∷◌, ◌++◌, length};
 ghost use Rattle.lists.specs.Lists.{laid};
 ghost use Rattle.octets.specs.Bytes.{bytes2, bytes4, number2, number4};

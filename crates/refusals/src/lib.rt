@@ -1,9 +1,11 @@
 // The refusals with their numbers, and the answer of a call.
+#![tactic(auto)]
+
 ghost use Rattle.std.specs.Prelude.{◌≡◌};
 ghost use Rattle.refusals.specs.Refusals.{number};
 
 // Why a call is refused (01: a no). The numbers are 01's and 02's.
-#[derive(Drop)]
+#[derive(Clone, Copy)]
 pub enum Refusal {
     UnknownKind,
     CutFrame,
@@ -56,7 +58,7 @@ impl Refusal {
 }
 
 // Whether a call did what it was asked, or why not.
-#[derive(Drop)]
+#[derive(Clone, Copy)]
 pub enum Answer {
     Accepted,
     Refused(Refusal),

@@ -1,11 +1,11 @@
 -- Numbers below 10,000 in decimal: their digits one by one, stored from the first to the last.
 use mathlib.Core.Path.{◌≡◌, refl, ap, ◌∙◌}
 use mathlib.Core.Logic.{inl, inr}
-use Prim.Native.Nat.{ℕ, zero, suc, ◌+◌, ◌/◌, ◌%◌, ◌≤◌, ◌<◌}
+use Prim.Native.Nat.{ℕ, suc, ◌+◌, ◌/◌, ◌%◌, ◌≤◌, ◌<◌}
 use native.Mathlib.Omega.{arith}
 use mathlib.Core.List.{List, [], ◌∷◌}
 use lib.ListN.{length, set}
-use Rattle.lists.proofs.Laying.{Front, front_none, front_store}
+use Rattle.lists.proofs.Laying.{front_none, front_store}
 use Rattle.text.specs.Text.{digits_up_to, digits, Laid}
 use Rattle.text.proofs.Digits.{Sized, fixed, digits_fixed}
 use Rattle.text.proofs.Lines.{of_front}

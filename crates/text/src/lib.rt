@@ -1,4 +1,6 @@
 // Lines of print, laid at the start of a lent text.
+#![tactic(auto)]
+
 ghost use Rattle.std.specs.Prelude.{◌≡◌, [], ◌∷◌, ◌+◌, ◌*◌, ◌/◌, ◌≤◌, ◌<◌, length};
 ghost use Rattle.text.specs.Text.{digits, field, line, line2, Laid};
 
