@@ -1,5 +1,7 @@
 // Cells of one lent table: rows moved to the front, one row more put behind them, zeros up to a place, and cells stored at listed places;
 // and the test of torn rows.
+#![tactic(auto)]
+
 mod rows;
 
 ghost use Rattle.std.specs.Prelude.{◌≡◌, cond, ◌+◌, ◌-◌, ◌≤◌, ◌<◌, min, ◌++◌, map, length, take, drop};

@@ -6,7 +6,7 @@ use frames::{JOIN, JOIN_TWO, LEAVE, LEAVE_TWO};
 use watch_numbers::desk_of;
 
 // The kinds of a watch's leaves and joins.
-#[derive(Drop)]
+#[derive(Clone, Copy)]
 pub struct Kinds {
     pub leave: u8,
     pub join: u8,

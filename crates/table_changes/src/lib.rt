@@ -1,4 +1,6 @@
 // The changes that a quote makes to the lists of the watches, by the rows held before it, written as frames.
+#![tactic(auto)]
+
 mod each_watch;
 mod kinds;
 mod leaves;
@@ -9,7 +11,7 @@ pub use each_watch::{shift_of, write_all_changes};
 pub use seeking::next_equal;
 
 // How the window of a watch moves at a quote: its start before and after it.
-#[derive(Drop)]
+#[derive(Clone, Copy)]
 pub struct Shift {
     pub before: u32,
     pub after: u32,

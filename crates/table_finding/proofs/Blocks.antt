@@ -1,7 +1,6 @@
 -- Blocks of rows: how many are live, and those that need not be gone through row by row.
-use mathlib.Core.Path.{◌≡◌, refl, sym, ap, ◌∙◌}
-use Prim.Native.Nat.{ℕ, zero, suc, ◌+◌, ◌-◌, ◌*◌, ◌≤◌, ◌<◌}
-use native.Mathlib.Nat.{add_assoc}
+use mathlib.Core.Path.{◌≡◌, refl, ap}
+use Prim.Native.Nat.{ℕ, zero, suc, ◌+◌, ◌*◌, ◌≤◌, ◌<◌}
 use native.Mathlib.Numerals.{add-one}
 use native.Mathlib.Decide.{dec_le}
 use native.Mathlib.Omega.{arith}
@@ -10,9 +9,9 @@ use mathlib.Core.List.{List, []}
 use lib.ListN.{length, drop, length-append}
 use borrow.Author.Tests.{not-true, not-false}
 use Rattle.lists.specs.Lists.{keep, filter, any, run}
-use Rattle.lists.proofs.Booleans.{clash, either, and_left, and_right}
+use Rattle.lists.proofs.Booleans.{and_left, and_right}
 use Rattle.lists.proofs.Filters.{filter_append, any_append}
-use Rattle.lists.proofs.Runs.{run_snoc, filter_from, none_any}
+use Rattle.lists.proofs.Runs.{run_snoc, none_any}
 use Rattle.dominance.specs.declared.Comparison.{Comparison}
 use Rattle.dominance.specs.Dominance.{some_better}
 use Rattle.dominance.specs.Compared.{compared}

@@ -1,6 +1,6 @@
 -- The invariant of the loops that go through rows from the youngest back, and blocks of rows that need not be gone through.
 use mathlib.Core.Path.{◌≡◌, refl, sym, ◌∙◌}
-use mathlib.Core.Logic.{◌⊎◌, inl, inr}
+use mathlib.Core.Logic.{inl}
 use Prim.Native.Nat.{ℕ, suc, ◌+◌, ◌-◌, ◌≤◌, ◌<◌}
 use native.Mathlib.Nat.{le_refl}
 use native.Mathlib.Omega.{arith}
@@ -12,7 +12,7 @@ use lib.Seq.{drop-length}
 use borrow.Author.Tests.{eqb-true, ltb-true, not-true}
 use Rattle.lists.specs.Lists.{filter, run}
 use Rattle.lists.proofs.Booleans.{and_left, and_right}
-use Rattle.table_finding.specs.Found.{live, taken_live, Rows, over, under, retires, retired, Room, Sound, Finds, Passing, Idle}
+use Rattle.table_finding.specs.Found.{live, taken_live, Rows, over, under, retires, retired, Room, Finds, Passing, Idle}
 use Rattle.table_finding.specs.declared.Found.{Found}
 use Rattle.table_finding.proofs.Looping.{none_taken}
 use Rattle.table_finding.proofs.Youngest.{youngest_none, sound_later}

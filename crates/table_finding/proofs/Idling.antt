@@ -1,25 +1,25 @@
 -- Rows that say nothing: columns compared up to the first that is worse, and rows passed over.
 use mathlib.Core.Path.{◌≡◌, refl, sym, ◌∙◌}
 use mathlib.Core.Logic.{◌⊎◌, inl, inr}
-use Prim.Native.Nat.{ℕ, zero, suc, ◌+◌, ◌-◌, ◌*◌, ◌/◌, ◌^◌, ◌≤◌, ◌<◌}
+use Prim.Native.Nat.{ℕ, ◌+◌, ◌-◌, ◌*◌, ◌/◌, ◌^◌, ◌≤◌, ◌<◌}
 use native.Mathlib.Nat.{add-zero, div-one, le_refl}
 use native.Mathlib.Decide.{dec_lt}
 use native.Mathlib.Omega.{arith}
-use mathlib.Core.Bool.{Bool, true, false, ◌&&◌, not}
+use mathlib.Core.Bool.{Bool, true, false, not}
 use mathlib.Core.List.{List}
 use lib.Dec.{eqb}
-use lib.ListN.{length, get_or, take, drop, length-drop}
+use lib.ListN.{length, take, drop, length-drop}
 use lib.Seq.{take_all, get_or-drop}
-use borrow.Author.Tests.{eqb-true, not-true, not-false}
+use borrow.Author.Tests.{not-true, not-false}
 use Rattle.lists.proofs.Booleans.{clash, refute, and_false}
 use Rattle.dominance.specs.declared.Comparison.{Comparison}
 use Rattle.dominance.specs.Dominance.{better_at, no_worse, some_better}
 use Rattle.dominance.specs.Compared.{compared}
 use Rattle.dominance.proofs.Comparing.{shifted, halved, no_worse_by}
 use Rattle.dominance.proofs.Columns.{no_worse_at, at_no_worse}
-use Rattle.table_finding.specs.Found.{live, Rows, over, under, retires, Room, Finds, Passing, Idle}
+use Rattle.table_finding.specs.Found.{live, Rows, over, under, retires, Finds, Idle}
 use Rattle.table_finding.specs.declared.Found.{Found}
-use Rattle.table_finding.proofs.Comparisons.{over_by, under_by, live_zero, live_not}
+use Rattle.table_finding.proofs.Comparisons.{over_by, under_by}
 use Rattle.table_finding.proofs.Passing.{passed, eqb_above}
 
 -- a number that is not another, which is no more, is above it

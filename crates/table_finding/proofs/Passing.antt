@@ -10,16 +10,15 @@ use mathlib.Core.List.{List}
 use lib.Dec.{eqb, ltb}
 use lib.ListN.{length, get_or, set, drop, length-set}
 use lib.Seq.{drop-set-lt, drop-cons, get_or-set_same}
-use borrow.Author.Tests.{eqb-true, ltb-true, ltb-false, not-true}
+use borrow.Author.Tests.{eqb-true, ltb-true, ltb-false}
 use Rattle.lists.specs.Lists.{filter, run}
-use Rattle.lists.proofs.Booleans.{clash, refute, and_left, and_right}
+use Rattle.lists.proofs.Booleans.{clash}
 use Rattle.lists.proofs.Runs.{filter_from}
 use Rattle.dominance.specs.declared.Comparison.{Comparison}
 use Rattle.dominance.specs.Compared.{compared}
-use Rattle.table_finding.specs.Found.{live, taken_live, Rows, over, under, retires, retired, youngest, Room, Sound, Finds}
+use Rattle.table_finding.specs.Found.{live, Rows, under, retires, retired, youngest, Room, Sound, Finds}
 use Rattle.table_finding.specs.declared.Found.{Found}
 use Rattle.table_finding.proofs.Comparisons.{over_by, under_by, retired_cons}
-use Rattle.table_finding.proofs.Looping.{none_taken}
 use Rattle.table_finding.proofs.Youngest.{Clear, youngest_none, youngest_at, none_youngest, youngest_same, none_under, none_retired}
 
 -- a number other than 0 is above it

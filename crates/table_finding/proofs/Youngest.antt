@@ -1,11 +1,10 @@
 -- The youngest row over a quote, and rows whose ends are sound: beyond the youngest live row over the quote there is nothing to find.
 use mathlib.Core.Path.{◌≡◌}
 use mathlib.Core.Logic.{◌⊎◌, inl, inr}
-use Prim.Native.Nat.{ℕ, zero, suc, ◌+◌, ◌-◌, ◌≤◌, ◌<◌}
+use Prim.Native.Nat.{ℕ, suc, ◌+◌, ◌-◌, ◌≤◌, ◌<◌}
 use native.Mathlib.Decide.{dec_le}
 use native.Mathlib.Omega.{arith}
-use mathlib.Core.Bool.{Bool, true, false}
-use mathlib.Core.List.{List}
+use mathlib.Core.Bool.{true, false}
 use Rattle.lists.specs.Lists.{filter, last_or, run}
 use Rattle.lists.proofs.Booleans.{clash, refute}
 use Rattle.lists.proofs.Runs.{Last, last_spec, last_none, last_at}

@@ -1,5 +1,5 @@
 -- What a quote finds among the rows of a table: those that it retires, and the youngest row over it.
-use Rattle.std.specs.Prelude.{◌≡◌, ℕ, zero, suc, ◌+◌, ◌-◌, ◌*◌, ◌≤◌, ◌<◌, Bool, true, false, ◌&&◌, not, cond, List, ltb, eqb, length, get_or, take, drop}
+use Rattle.std.specs.Prelude.{◌≡◌, ℕ, suc, ◌-◌, ◌*◌, ◌≤◌, ◌<◌, Bool, true, false, ◌&&◌, not, cond, List, ltb, eqb, length, get_or, take, drop}
 use Rattle.lists.specs.Lists.{filter, any, last_or, run}
 use Rattle.dominance.specs.Dominance.{no_worse, dominates, some_better}
 use Rattle.table_finding.specs.declared.Found.{Found}

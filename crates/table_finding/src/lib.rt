@@ -1,4 +1,6 @@
 // What a quote finds among the rows of a table: those that it retires, and the youngest row over it, sought from the youngest row back.
+#![tactic(auto)]
+
 ghost use Rattle.std.specs.Prelude.{◌≡◌, true, not, cond, ℕ, suc, ◌+◌, ◌-◌, ◌*◌, ◌≤◌, ◌<◌, length, set, drop};
 ghost use Rattle.dominance.specs.Dominance.{no_worse};
 ghost use Rattle.table_finding.specs.Found.{live_in, taken_live, dull_in, rows, retires, Fits, Room, Sound, Finds, Passing, Idle};
@@ -7,7 +9,7 @@ use dominance::{compare, compare_unrolled};
 
 // What was found: the place in the list of retired rows from which on they are listed, and the number of the youngest row over the
 // quote, counted from 1, or 0.
-#[derive(Drop)]
+#[derive(Clone, Copy)]
 pub struct Found {
     pub at: usize,
     pub last: usize,

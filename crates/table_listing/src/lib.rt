@@ -1,5 +1,7 @@
 // The list of a window by the ends of its rows, whose positions follow one another: counted, written into cells, and written as joins; and
 // the rows that are due, counted and written.
+#![tactic(auto)]
+
 mod due;
 
 ghost use Rattle.std.specs.Prelude.{◌≡◌, ◌≤◌, ◌&&◌, ◌||◌, [], map, ltb, eqb, length};
@@ -18,7 +20,7 @@ use head::{Desk, Head};
 use octets::{lay_change, lay_position};
 
 // What follows a list: a desk's watch of n, or the pair.
-#[derive(Drop)]
+#[derive(Clone, Copy)]
 pub enum Follower {
     Watch(Desk, u16),
     Pair,

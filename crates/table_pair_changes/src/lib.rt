@@ -1,4 +1,6 @@
 // The changes that a quote makes to the past list of the pair, by the rows held before it, written as frames.
+#![tactic(auto)]
+
 ghost use Rattle.std.specs.Prelude.{◌≡◌, ◌≤◌, true, length};
 ghost use Rattle.lists.specs.Lists.{laid};
 ghost use Rattle.skyline.specs.Skyline.{window_start};

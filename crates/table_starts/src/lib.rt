@@ -1,5 +1,7 @@
 // Where the rows of a book start in tables of twice the places that it needs: slid by a place, and moved to the front when the places are
 // used up.
+#![tactic(auto)]
+
 ghost use Rattle.std.specs.Prelude.{◌≡◌, ◌+◌, ◌*◌, ◌≤◌};
 ghost use Rattle.head.specs.Heads.{max_capacity};
 ghost use Rattle.model.specs.Promises.{tables};
@@ -15,7 +17,7 @@ pub const SLIDING_PLACES: usize = 2 * PLACES;
 pub const SLIDING_CELLS: usize = 2 * COLUMN_CELLS;
 
 // Where the rows of the book start: at which place of the tables, and at which cell of the columns.
-#[derive(Drop)]
+#[derive(Clone, Copy)]
 pub struct Start {
     pub row: usize,
     pub cell: usize,

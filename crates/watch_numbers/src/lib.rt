@@ -1,4 +1,6 @@
 // A watch record as one number, the desks' shares of the eight records, and the watches of a book, eight such numbers.
+#![tactic(auto)]
+
 mod desks;
 mod shares;
 mod watches;

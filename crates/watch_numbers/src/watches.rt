@@ -9,7 +9,7 @@ use crate::{above_shares, desk_of, size_of, watch_of};
 use head::{Desk, Reply};
 
 // What a call that may change the watches hands back: its reply, and the watches after it.
-#[derive(Drop)]
+#[derive(Clone, Copy)]
 pub struct WatchReply {
     pub reply: Reply,
     pub watches: [u64; 8],

@@ -2,6 +2,7 @@
 use mathlib.Core.Path.{◌≡◌, refl, sym, ap, ◌∙◌}
 use Prim.Native.Nat.{ℕ, zero, suc, ◌+◌, ◌-◌, ◌*◌, ◌/◌, ◌%◌, ◌≤◌, min}
 use native.Mathlib.Decide.{dec_le}
+use native.Mathlib.Numerals.{add-one}
 use native.Mathlib.Omega.{arith}
 use mathlib.Core.List.{List, [], ◌∷◌, ◌++◌, map, append-nil}
 use lib.ListN.{length, get_or, take, drop, set, replicate, length-append, length-drop, length-set, length-take, length-map, get_or-map}
@@ -63,11 +64,16 @@ take_least n l = go (dec_le n (length l))
     go (yes h) = let e : min n (length l) ≡ n = omega arith in rw e
     go (no h) = let e : min n (length l) ≡ length l = omega arith in rw (e, take-length l, take_all n l (omega arith))
 
+-- nothing is read
+pub none_read : (ws : List ℕ) → replicate 8 0 ≡ copied ws 0
+unfolding copied
+none_read ws = refl
+
 -- one more is read
 pub read_on : (records : List Watch) (i : ℕ)
-    → set (copied (watched records) i) i ((get_or records i empty).desk * desk_unit + (get_or records i empty).n) ≡ copied (watched records) (suc i)
+    → set (copied (watched records) i) i ((get_or records i empty).desk * desk_unit + (get_or records i empty).n) ≡ copied (watched records) (i + 1)
 unfolding copied watched record_of
-read_on records i = ap (set (copied (map record_number records) i) i) (sym (get_or-map record_number records i empty))
+read_on records i = rw add-one (ap (set (copied (map record_number records) i) i) (sym (get_or-map record_number records i empty)))
 
 -- what reading comes to
 pub all_read : (records : List Watch) → copied (watched records) (min 8 (length records)) ≡ first_eight (watched records)
@@ -81,6 +87,16 @@ all_read records =
     ∙ (rw (take_least 8 ws, length-take 8 ws, e, append-nil, front_is 8 8 ws (omega arith)))
 
 -- ---- storing
+
+-- nothing is stored
+pub put_none : (records : List Watch) (watches : List ℕ) → records ≡ put_in records watches 0
+unfolding put_in
+put_none records watches = refl
+
+-- one more is stored
+pub put_on : (records : List Watch) (watches : List ℕ) (i : ℕ) → set (put_in records watches i) i (record_at (get_or watches i 0)) ≡ put_in records watches (i + 1)
+unfolding put_in
+put_on records watches i = rw add-one refl
 
 map_set : {A B : Type 0} (f : A → B) (l : List A) (i : ℕ) (y : A) → map f (set l i y) ≡ set (map f l) i (f y)
 map_set f [] i y = refl

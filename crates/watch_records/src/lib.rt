@@ -1,4 +1,6 @@
 // The lent list of records that holds the watches of a book: read as numbers, stored, sought, and changed.
+#![tactic(auto)]
+
 ghost use Rattle.std.specs.Prelude.{◌≡◌, ◌≤◌, length};
 ghost use Rattle.lists.specs.Lists.{contains, insert, without, padded};
 ghost use Rattle.head.specs.Desks.{watch_of};

@@ -1,0 +1,10 @@
+-- `next_equal` meets its contract: blocks are passed, then cells.
+use Prim.Native.Nat.{◌-◌}
+use Rattle.table_changes.specs.Sought.{Unequal}
+use Rattle.table_changes.proofs.seeking.next_equal.Given as goal
+
+abbrev pub invariant-loop-i : goal.invariant-loop-i
+invariant-loop-i l = Unequal l.cells l.x l.from l.to l.i
+
+abbrev pub decreases-loop-i : goal.decreases-loop-i
+decreases-loop-i l = l.to - l.i

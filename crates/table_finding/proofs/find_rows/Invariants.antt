@@ -1,0 +1,12 @@
+-- `find_rows` meets its contract: each turn goes through one block.
+use lib.ListN.{length}
+use Rattle.table_finding.specs.Found.{rows}
+use Rattle.table_finding.proofs.Going.{Going}
+use Rattle.table_finding.proofs.find_rows.Given as goal
+
+abbrev pub invariant-loop-i : goal.invariant-loop-i
+invariant-loop-i l =
+    Going (rows l.d l.directions l.columns l.uppers l.quote) l.sound l.from l.to l.initial.places (record { at = length l.initial.places; last = 0 }) l.places l.i l.so_far
+
+abbrev pub decreases-loop-i : goal.decreases-loop-i
+decreases-loop-i l = l.i
