@@ -1,4 +1,6 @@
 // The audit of a saved book: whether some tape leaves exactly these tables, this newest position and these counts.
+#![tactic(auto)]
+
 ghost use Rattle.std.specs.Prelude.{◌≡◌, ◌+◌, ◌*◌, ◌≤◌, ◌<◌, not, [], length};
 ghost use Rattle.lists.specs.Lists.{any, run};
 ghost use Rattle.head.specs.Replies.{finding};

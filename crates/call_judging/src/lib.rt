@@ -1,4 +1,6 @@
 // The judgements that the calls begin with: settings (3), lengths (11), torn (12), on shared slices.
+#![tactic(auto)]
+
 ghost use Rattle.std.specs.Prelude.{◌≡◌, not, [], ◌∷◌, ltb, take};
 ghost use Rattle.refusals.specs.declared.Refusal.TheVariants.{Settings};
 ghost use Rattle.head.specs.Heads.{settings_hold};

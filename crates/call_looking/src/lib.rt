@@ -1,4 +1,6 @@
 // The looks: the list of n, and the past list of n1 and n2, written into lent cells; and what is due of the pair.
+#![tactic(auto)]
+
 mod due_rows;
 
 ghost use Rattle.std.specs.Prelude.{◌≡◌, ◌+◌, ◌-◌, ◌≤◌, ◌||◌, ltb, length};

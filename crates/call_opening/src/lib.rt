@@ -1,4 +1,6 @@
 // The opening: new settings, and nothing in the tables and watches.
+#![tactic(auto)]
+
 ghost use Rattle.std.specs.Prelude.{◌≡◌, length, take};
 ghost use Rattle.model.specs.Promises.{tables, Opened};
 

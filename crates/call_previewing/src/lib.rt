@@ -1,5 +1,7 @@
 // The preview of a quote, by the quote's own stages but the last: it is judged, what it would do to the rows is found, its changes are
 // written. The tables and the watches stay.
+#![tactic(auto)]
+
 ghost use Rattle.std.specs.Prelude.{◌≡◌, take};
 ghost use Rattle.model.specs.Promises.{tables, Previewed};
 ghost use Rattle.call_previewing.specs.Effects.{effect_of};

@@ -1,5 +1,7 @@
 // A quote and, behind it, a look at the list of n, in one, by the quote's own stages: both are judged; what the quote does to the rows is
 // found; the quote is entered; the list is written from the tables that it leaves. Nothing is judged or compared twice.
+#![tactic(auto)]
+
 ghost use Rattle.std.specs.Prelude.{◌≡◌, ◌≤◌, true, ◌&&◌, ltb, length, take, drop};
 ghost use Rattle.lists.specs.Lists.{laid};
 ghost use Rattle.head.specs.Heads.{last_position};
@@ -20,7 +22,7 @@ use table_changes::shift_of;
 use table_listing::{count_listed, start_of, write_listed};
 
 // What a quote and look in one hands back, and how many places later its rows begin where none was moved.
-#[derive(Drop)]
+#[derive(Clone, Copy)]
 pub struct BothEntered {
     pub both: BothReply,
     pub by: usize,

@@ -1,5 +1,7 @@
 // The quote in stages: it is judged; what it does to the rows is found; its changes are written; the tables are settled, one at a time.
 // There is one set of stages for any tables and for a reachable book in tables with a place to spare, where no row is moved.
+#![tactic(auto)]
+
 ghost use Rattle.std.specs.Prelude.{◌≡◌, true, length, take};
 ghost use Rattle.model.specs.Book.{quote_answer};
 ghost use Rattle.model.specs.Promises.{tables, Quoted};
@@ -16,7 +18,7 @@ pub use judged::judge;
 use refusals::Answer;
 
 // What a quote hands back, and how many places later its rows begin where none was moved.
-#[derive(Drop)]
+#[derive(Clone, Copy)]
 pub struct Entered {
     pub reply: Reply,
     pub by: usize,

@@ -1,4 +1,6 @@
 // What a quote finds among the rows that a book holds, on shared tables, and the tables settled by it, one at a time.
+#![tactic(auto)]
+
 ghost use Rattle.std.specs.Prelude.{◌≡◌, ◌+◌, ◌*◌, ◌≤◌, ◌<◌, true, length};
 ghost use Rattle.head.specs.Heads.{last_position};
 ghost use Rattle.model.specs.Rows.{expiring};
@@ -15,7 +17,7 @@ use table_finding::find_rows;
 // lower end that names it, from where on the places of the retired rows are listed, the quote's lower end, how many rows are live and held
 // after it, and whether the book is known to be a reachable one, in tables with a place to spare: its row is then put behind the others,
 // none of which is moved.
-#[derive(Drop)]
+#[derive(Clone, Copy)]
 pub struct Finding {
     pub by: usize,
     pub gone: u32,

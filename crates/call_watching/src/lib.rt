@@ -1,4 +1,6 @@
 // The watch and its end: a list followed, its joins written, and a list no longer followed; and the same of the pair's past list.
+#![tactic(auto)]
+
 mod pairing;
 
 ghost use Rattle.std.specs.Prelude.{◌≡◌, [], ◌∷◌, take};
@@ -16,7 +18,7 @@ use table_listing::{Follower, start_of, write_joins};
 use watch_numbers::{WatchReply, find, full, insert, remove};
 
 // What a watch or its end came to before the watches change: its reply, and whether they do.
-#[derive(Drop)]
+#[derive(Clone, Copy)]
 pub struct Judgement {
     pub reply: Reply,
     pub accepted: bool,

@@ -1,4 +1,6 @@
 // The changes of a quote, written on shared tables, and what an accepted quote hands back.
+#![tactic(auto)]
+
 ghost use Rattle.std.specs.Prelude.{◌≡◌, length};
 ghost use Rattle.lists.specs.Lists.{laid};
 ghost use Rattle.call_settling.specs.Findings.{held_rows};
