@@ -1,4 +1,6 @@
 // The public calls on a book, with the watches in a lent list of records: the opening here, the others handed on.
+#![tactic(auto)]
+
 ghost use Rattle.watch_records.specs.Records.{watched};
 ghost use Rattle.model.specs.Promises.{tables, Opened};
 

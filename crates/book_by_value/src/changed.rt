@@ -6,7 +6,7 @@ ghost use Rattle.watch_records.specs.Records.{watched};
 use head::{Desk, Head, Reply, Watch};
 
 // What a call that may change the records hands back: its reply, and the records.
-#[derive(Drop)]
+#[derive(Clone, Copy)]
 pub struct RecordReply {
     pub reply: Reply,
     pub records: [Watch; 8],

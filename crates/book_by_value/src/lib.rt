@@ -1,5 +1,7 @@
 // The calls of a book for callers that hold plain values: the eight records go in by value. Those here change no record; those that may hand
 // the records back (src/changed.rt).
+#![tactic(auto)]
+
 mod changed;
 
 ghost use Rattle.model.specs.Promises.{tables, Quoted, QuotedLooked, Previewed, Paired, Unpaired};

@@ -2,10 +2,9 @@
 use mathlib.Core.Path.{◌≡◌, refl, sym, ◌∙◌, ap}
 use Prim.Native.Nat.{ℕ, zero, suc, ◌-◌, ◌≤◌}
 use native.Mathlib.Omega.{arith}
-use mathlib.Core.Bool.{Bool, not}
+use mathlib.Core.Bool.{Bool, true, false}
 use mathlib.Core.List.{List, [], ◌∷◌, ◌++◌, append_assoc, append-nil}
-use lib.Dec.{T, ltb}
-use lib.Ieee.Bits.{is_true, is_false}
+use lib.Dec.{ltb}
 use lib.ListN.{length, take, drop, replicate, length-map, length-take, take-append-drop, drop_of_length-le}
 use lib.Seq.{take_all, take-nil}
 use borrow.Author.Tests.{ltb-false}
@@ -77,17 +76,17 @@ module _ (ys : List Watch) {ns : List ℕ} (e : ns ≡ first_eight (watched ys))
     end_judged = record { reply = f.reply ∙ rw (front ys e, end_front ws h desk n t); accepted = f.accepted ∙ rw (front ys e, end_front ws h desk n t) }
 
     -- a refused end leaves the records
-    pub end_left : T (not j.accepted) → Ended h desk n t ws j.reply ws
-    end_left off = watching.end_left end_judged (is_false j.accepted off)
+    pub end_left : j.accepted ≡ false → Ended h desk n t ws j.reply ws
+    end_left off = watching.end_left end_judged off
 
     -- an accepted one was lent eight, and removes n
-    module _ (on : T j.accepted) where
+    module _ (on : j.accepted ≡ true) where
       pub end_enough : 8 ≤ length ys
       unfolding end_answer
-      end_enough = rw as_many at (eight_lent h t ws _ (watching.end_accepted_is end_judged (is_true j.accepted on)))
+      end_enough = rw as_many at (eight_lent h t ws _ (watching.end_accepted_is end_judged on))
 
       pub end_removed : (last : List ℕ) → last ≡ padded 8 (without (watch_of desk n) (standing ws)) ws → Ended h desk n t ws j.reply last
-      end_removed last m = watching.end_removed end_judged (is_true j.accepted on) m
+      end_removed last m = watching.end_removed end_judged on m
 
   module _ (h : Head) (desk : Desk) (n : ℕ) (t : Tables) {before after : List ℕ} (j : Judgement) (f : WatchJudged h desk n t (take (length ys) ns) before j after) where
     watch_judged : WatchJudged h desk n t ws before j after
@@ -100,20 +99,20 @@ module _ (ys : List Watch) {ns : List ℕ} (e : ns ≡ first_eight (watched ys))
         }
 
     -- a refused watch leaves the records
-    pub watch_left : T (not j.accepted) → Watched h desk n t ws before j.reply ws after
-    watch_left off = watching.watch_left watch_judged (is_false j.accepted off)
+    pub watch_left : j.accepted ≡ false → Watched h desk n t ws before j.reply ws after
+    watch_left off = watching.watch_left watch_judged off
 
     -- an accepted one was lent eight, of which one is free, and inserts n
-    module _ (on : T j.accepted) where
+    module _ (on : j.accepted ≡ true) where
       watch_is : watch_answer h desk n t ws (length before) ≡ 0
-      watch_is = watching.watch_accepted watch_judged (is_true j.accepted on)
+      watch_is = watching.watch_accepted watch_judged on
 
       pub watch_asks : (8 ≤ length ys) × Vacant ws
       unfolding watch_answer
       watch_asks = (rw as_many at (eight_lent h t ws _ watch_is), (watching.watch_free h desk n t ws (length before) watch_is).vacant)
 
       pub watch_inserted : (last : List ℕ) → last ≡ padded 8 (insert (watch_of desk n) (standing ws)) ws → Watched h desk n t ws before j.reply last after
-      watch_inserted last m = watching.watch_inserted watch_judged (is_true j.accepted on) m
+      watch_inserted last m = watching.watch_inserted watch_judged on m
 
   -- an opening's eight numbers stored in the records are what it leaves of them
   pub open_stored : (d N directions : ℕ) (t : Tables) (ms : List ℕ) {last : List ℕ} {r : Reply} {t' : Tables} → length ms ≡ 8 → last ≡ stored ms ws

@@ -1,4 +1,2 @@
 -- The laws of the crate.
 pub mod Fronts
-pub mod Deciding
-pub mod Calling

@@ -1,4 +1,6 @@
 // The calls that change the lent watch records and no table: a desk's watch and its end.
+#![tactic(auto)]
+
 ghost use Rattle.watch_records.specs.Records.{watched};
 ghost use Rattle.model.specs.Promises.{tables, Watched, Ended};
 

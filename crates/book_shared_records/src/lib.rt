@@ -1,4 +1,6 @@
 // The calls that read the lent watch records and change none: the quote, the quote and look in one, the preview, the watch of the pair and its end.
+#![tactic(auto)]
+
 ghost use Rattle.watch_records.specs.Records.{watched};
 ghost use Rattle.model.specs.Promises.{tables, Quoted, Previewed, QuotedLooked, Paired, Unpaired};
 
