@@ -1,4 +1,6 @@
 // Quotes from a spreadsheet: how a file is cut, which lines fit, what spells quotes, and the frames of the lines of a file, if every line fits.
+#![tactic(auto)]
+
 ghost use Rattle.std.specs.Prelude.{◌≡◌, ◌+◌, ◌*◌, ◌≤◌, ◌<◌, length, drop};
 ghost use Rattle.lists.specs.Lists.{laid};
 ghost use Rattle.csv_frames.specs.Lines.{lines};
@@ -10,7 +12,7 @@ use line_fields::read_fields;
 use refusals::{Answer, Refusal};
 
 // What was imported: the answer, how many bytes, and the number of the line that does not fit, 0 where none is named.
-#[derive(Drop)]
+#[derive(Clone, Copy)]
 pub struct Imported {
     pub answer: Answer,
     pub count: usize,
@@ -18,7 +20,7 @@ pub struct Imported {
 }
 
 // A line of a file: whether it fits, its numbers, and where the next begins.
-#[derive(Drop)]
+#[derive(Clone, Copy)]
 struct Line {
     fits: bool,
     numbers: [u32; 6],
@@ -26,7 +28,7 @@ struct Line {
 }
 
 // The judgement of a file: the number of the first line that does not fit, 0 where all fit, and then how many lines it has.
-#[derive(Drop)]
+#[derive(Clone, Copy)]
 struct Judged {
     misfit: usize,
     lines: usize,

@@ -1,8 +1,8 @@
 -- The frames of a day taken one after the other, the refusals in their order, and the line of the day's sheet.
-use Rattle.std.specs.Prelude.{◌≡◌, ℕ, zero, suc, ◌+◌, ◌*◌, Bool, true, false, ◌&&◌, ◌||◌, not, cond, List, [], ◌∷◌, ◌++◌, ltb, leb, eqb, length, take, drop}
+use Rattle.std.specs.Prelude.{◌≡◌, ℕ, zero, suc, ◌+◌, ◌*◌, true, false, ◌&&◌, ◌||◌, not, cond, List, [], ◌∷◌, ◌++◌, ltb, leb, eqb, length, take, drop}
 use Rattle.frames.specs.declared.Message.{Message}
 use Rattle.frames.specs.declared.Message.TheVariants.{Quote, Sized, Change, Pair, Bare, Position, Open, EndOfTape, Refused}
-use Rattle.frames.specs.Frames.{Saying, told, ended, refused, Reading, read_at}
+use Rattle.frames.specs.Frames.{Saying, told, ended, refused, read_at}
 use Rattle.refusals.specs.declared.Refusal.TheVariants.{OutOfPlace, Settings, ColumnCount}
 use Rattle.refusals.specs.Refusals.{number, first_of}
 use Rattle.text.specs.Text.{line}

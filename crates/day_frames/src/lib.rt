@@ -1,4 +1,6 @@
 // A day's quote frames gathered into a table of columns, and the line of its sheet (02, 10/13).
+#![tactic(auto)]
+
 ghost use Rattle.std.specs.Prelude.{◌≡◌, ◌+◌, ◌*◌, ◌≤◌, length};
 ghost use Rattle.text.specs.Text.{Laid};
 ghost use Rattle.day_skyline.specs.Sheet.{columns_hold};
@@ -15,7 +17,7 @@ const LONGEST_DAY: u32 = 4096;
 
 // Where the gathering stands: the place on the tape, how many quotes were taken, the number of the refusal that ended it (0: none),
 // whether one had another number of columns, and whether it is over.
-#[derive(Drop)]
+#[derive(Clone, Copy)]
 pub struct Gathered {
     pub place: usize,
     pub count: u32,

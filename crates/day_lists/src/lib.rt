@@ -1,1 +1,2 @@
 // The day sheet beside the book: what a day fed to a book lists.
+#![tactic(auto)]

@@ -1,6 +1,6 @@
 -- The answers of a sheet in their order, its positions written, and the sheet of the call.
-use mathlib.Core.Path.{◌≡◌, refl, sym, ap, ◌∙◌}
-use Prim.Native.Nat.{ℕ, zero, suc, ◌+◌, ◌-◌, ◌*◌, ◌/◌, ◌^◌, ◌≤◌, ◌<◌}
+use mathlib.Core.Path.{◌≡◌, refl, sym, ◌∙◌}
+use Prim.Native.Nat.{ℕ, ◌+◌, ◌-◌, ◌*◌, ◌/◌, ◌^◌, ◌≤◌, ◌<◌}
 use native.Mathlib.Nat.{le_antisymm, mul-le-mul_right}
 use native.Mathlib.Numerals.{add-one}
 use native.Mathlib.Omega.{arith}
@@ -9,7 +9,7 @@ use mathlib.Core.List.{List, [], ◌∷◌, ◌++◌}
 use lib.Dec.{ltb, leb, eqb}
 use lib.ListN.{length, get_or, take, drop, set, replicate, length-append, length-replicate}
 use lib.Seq.{length-take-le, take-suc, take-length, take-append-le}
-use borrow.Author.Tests.{ltb-true, ltb-false, lt-ltb, le-ltb, leb-true, not-false}
+use borrow.Author.Tests.{ltb-false, lt-ltb, le-ltb, leb-true, not-false}
 use Rattle.lists.specs.Lists.{laid}
 use Rattle.lists.proofs.Booleans.{and_left, and_right}
 use Rattle.lists.proofs.Writing.{length_laid}
@@ -24,7 +24,7 @@ use Rattle.refusals.specs.Refusals.{number, number_of, first_of, granted}
 use Rattle.refusals.proofs.Numbers.{zero_passed, accepted_number, refused_number, refused_granted, accepted_granted, first_of_append}
 use Rattle.day_skyline.specs.declared.Day.{Day}
 use Rattle.day_skyline.specs.declared.SheetReply.{SheetReply}
-use Rattle.day_skyline.specs.Sheet.{longest_day, columns_hold, quotes_in, sheet_of, sheet_answer, Sheeted}
+use Rattle.day_skyline.specs.Sheet.{longest_day, columns_hold, sheet_of, sheet_answer, Sheeted}
 use Rattle.day_skyline.specs.Finding.{loan_answer, room_answer, Written, over_in, Fits, Part, sheet_from, AtFront}
 use Rattle.day_skyline.proofs.Halving.{front_fits}
 

@@ -1,13 +1,11 @@
 -- An array of cells lent down in two halves, and what stands in it when both are back.
-use mathlib.Core.Path.{◌≡◌, refl, sym, ap, ◌∙◌}
-use Prim.Native.Nat.{ℕ, suc, ◌+◌, ◌-◌, ◌/◌, ◌≤◌, ◌<◌}
-use native.Mathlib.Nat.{zero-add}
+use mathlib.Core.Path.{◌≡◌, ap, ◌∙◌}
+use Prim.Native.Nat.{ℕ, ◌+◌, ◌-◌, ◌/◌, ◌≤◌}
 use native.Mathlib.Omega.{arith}
 use mathlib.Core.Bool.{Bool, true, false}
-use mathlib.Core.List.{List, [], ◌∷◌, ◌++◌, append-nil, append_assoc}
+use mathlib.Core.List.{List, ◌++◌, append-nil}
 use lib.ListN.{length, take, drop, length-append, length-take, length-drop, drop_of_length-le}
-use lib.Seq.{length-take-le, take_at, drop_at, take_all, take-append-le}
-use Rattle.lists.specs.Lists.{rising}
+use lib.Seq.{length-take-le, take_at, drop_at, take-append-le}
 use Rattle.day_skyline.specs.Finding.{cut, Halved, merged, AtFront, Part, sheet_from}
 use Rattle.day_skyline.proofs.Merging.{part_rises, part_by_halves}
 

@@ -1,5 +1,5 @@
 -- Two halves' sheets put together in one array, and the sheet of a day by halves.
-use mathlib.Core.Path.{◌≡◌, refl, sym, ap, ◌∙◌}
+use mathlib.Core.Path.{◌≡◌, refl, sym, ◌∙◌}
 use mathlib.Core.Logic.{inl, inr}
 use Prim.Native.Nat.{ℕ, suc, ◌+◌, ◌-◌, ◌≤◌, ◌<◌}
 use native.Mathlib.Nat.{zero-add, sub-zero, le_refl}
@@ -7,8 +7,8 @@ use native.Mathlib.Omega.{arith}
 use mathlib.Core.Bool.{Bool, true, false, not}
 use mathlib.Core.List.{List, [], ◌∷◌, ◌++◌, append_assoc}
 use lib.ListN.{length, take, drop, set, length-append, length-take, length-drop}
-use lib.Seq.{length-take-le, take_at, take_all}
-use Rattle.lists.specs.Lists.{keep, filter, any, run, between, rising}
+use lib.Seq.{take_at}
+use Rattle.lists.specs.Lists.{filter, any, run, between, rising}
 use Rattle.lists.proofs.Filters.{length_filter}
 use Rattle.lists.proofs.Rising.{rising_filter}
 use Rattle.skyline.specs.Skyline.{dominated_in, skyline}

@@ -1,5 +1,5 @@
 -- One position of a day over another, by one comparison of their cells.
-use mathlib.Core.Path.{◌≡◌, refl, sym, ap, ◌∙◌}
+use mathlib.Core.Path.{◌≡◌, refl, ◌∙◌}
 use Prim.Native.Nat.{ℕ, suc, ◌+◌, ◌-◌, ◌*◌, ◌≤◌, ◌<◌}
 use native.Mathlib.Nat.{zero-add, suc-mul, mul_comm, mul-le-mul_right}
 use native.Mathlib.Omega.{arith}
@@ -7,11 +7,11 @@ use native.Mathlib.Decide.{dec_lt}
 use mathlib.Core.Bool.{Bool, true, false, ◌&&◌, ◌||◌, not}
 use mathlib.Core.List.{List, []}
 use lib.Dec.{ltb}
-use lib.ListN.{length, get_or, take, drop, length-drop}
+use lib.ListN.{length, take, drop, length-drop}
 use lib.Seq.{take_all, get_or-take}
 use borrow.Author.Tests.{lt-ltb, le-ltb}
 use Rattle.lists.proofs.Runs.{get_or_run}
-use Rattle.dominance.specs.Dominance.{some_better, no_worse, dominates}
+use Rattle.dominance.specs.Dominance.{some_better}
 use Rattle.dominance.specs.Renewal.{quote_at, renewed}
 use Rattle.dominance.specs.Compared.{compared}
 use Rattle.dominance.specs.declared.Comparison.{Comparison}

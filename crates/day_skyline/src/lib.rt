@@ -1,4 +1,6 @@
 // The day sheet (02, 10/13): the unbeaten quotes of a whole day, found by halves.
+#![tactic(auto)]
+
 ghost use Rattle.std.specs.Prelude.{◌≡◌, true, length, take, ◌+◌, ◌≤◌, ◌<◌};
 ghost use Rattle.lists.specs.Lists.{rising};
 ghost use Rattle.skyline.specs.Halves.{dominated_by};
@@ -14,14 +16,14 @@ use refusals::{Answer, Refusal};
 const LONGEST_DAY: u32 = 4096;
 
 // What a sheet hands back: its answer, and how many positions it wrote.
-#[derive(Drop)]
+#[derive(Clone, Copy)]
 pub struct SheetReply {
     pub answer: Answer,
     pub count: usize,
 }
 
 // A day: how many columns its quotes have, in which directions, and how many quotes there are.
-#[derive(Drop)]
+#[derive(Clone, Copy)]
 pub struct Day {
     pub dimensions: usize,
     pub directions: u32,

@@ -1,4 +1,6 @@
 // The quoting drill: whether the first of two hands wins against every reply, and which quote it lays first.
+#![tactic(auto)]
+
 ghost use Rattle.std.specs.Prelude.{◌≡◌, ◌≤◌, ◌++◌, length};
 ghost use Rattle.refusals.specs.Refusals.{number_of, first_of};
 ghost use Rattle.drill_model.specs.Drill.{drill_place};
@@ -10,7 +12,7 @@ use head::Head;
 use refusals::{Answer, Refusal};
 
 // A hand: how many quotes, how many columns each of them has, and their columns, six cells for each quote.
-#[derive(Drop)]
+#[derive(Clone, Copy)]
 pub struct Hand {
     pub count: u32,
     pub columns: [u32; 4],
@@ -18,7 +20,7 @@ pub struct Hand {
 }
 
 // What the drill answers: yes with the place in the first hand of the quote to lay first, counted from 1, no, or a refusal.
-#[derive(Drop)]
+#[derive(Clone, Copy)]
 pub enum Outcome {
     Yes(u32),
     No,

@@ -1,4 +1,6 @@
 // A hand of the drill read from the frames of a file, and the line that the drill's outcome prints.
+#![tactic(auto)]
+
 ghost use Rattle.std.specs.Prelude.{◌≡◌, ◌≤◌, length};
 ghost use Rattle.text.specs.Text.{Laid};
 ghost use Rattle.drill_call.specs.Drills.{saying, yes, no, refused};
@@ -12,7 +14,7 @@ use frames::Message;
 use refusals::{Answer, Refusal};
 
 // What a file holds: a hand, or why it cannot be read; the hand is then what stood before that place.
-#[derive(Drop)]
+#[derive(Clone, Copy)]
 pub struct Handful {
     pub answer: Answer,
     pub hand: Hand,
@@ -150,7 +152,7 @@ pub fn drill_files(rules: Rules, first: &[u8], second: &[u8]) -> Outcome
 }
 
 // What is asked for: the rules by four numbers, and whether there are four.
-#[derive(Drop)]
+#[derive(Clone, Copy)]
 pub struct Asked {
     pub valid: bool,
     pub rules: Rules,

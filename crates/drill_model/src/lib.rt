@@ -1,1 +1,2 @@
 // The theory of the quoting drill: no code.
+#![tactic(auto)]

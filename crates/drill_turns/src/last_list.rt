@@ -5,7 +5,7 @@ ghost use Rattle.drill_turns.specs.Numbers.{Fits, over_at, dominated_at, won_by}
 use dominance::compare;
 
 // The rules of a drill: 02's d, N, directions and n.
-#[derive(Drop)]
+#[derive(Clone, Copy)]
 pub struct Rules {
     pub dimensions: u32,
     pub capacity: u32,

@@ -1,4 +1,6 @@
 // The two turns of the drill, which call each other: each quote laid leaves one fewer in hand; and the last list, on which they end.
+#![tactic(auto)]
+
 mod last_list;
 
 ghost use Rattle.std.specs.Prelude.{◌≡◌, ◌+◌, ◌-◌, ◌<◌, ◌≤◌};
@@ -8,7 +10,7 @@ ghost use Rattle.drill_turns.specs.Plays.{Fair, LeftOf, Started, LaidFirst, Laid
 pub use last_list::{Rules, first_stands};
 
 // A play: the numbers of the quotes in each hand, as many as are left, and of those laid, in their order.
-#[derive(Drop)]
+#[derive(Clone, Copy)]
 pub struct Play {
     pub first: [u32; 4],
     pub first_count: usize,

@@ -1,4 +1,6 @@
 // The lines of a call of a tape that was made, laid at the start of a lent text, and the step that this makes along the tape.
+#![tactic(auto)]
+
 ghost use Rattle.std.specs.Prelude.{◌≡◌, List, ◌++◌, ℕ, ◌+◌, ◌≤◌, eqb, length, take};
 ghost use Rattle.head.specs.declared.Head.{Head};
 ghost use Rattle.refusals.specs.Refusals.{number, number_of, granted};
@@ -16,7 +18,7 @@ use refusals::{Answer, Refusal};
 use watch_numbers::WatchReply;
 
 // What a call of a tape leaves: its answer, how many bytes of text, and the head and the watches for the next one.
-#[derive(Drop)]
+#[derive(Clone, Copy)]
 pub struct Turn {
     pub answer: Answer,
     pub count: usize,
@@ -144,7 +146,7 @@ pub fn put_refusal(refusal: Refusal, head: Head, watches: [u64; 8], text: &mut [
 
 // What playing a frame hands back: the frame's answer, as its line says it (Accepted at the end of the tape), whether the
 // tape is over, the place behind the frame, how many bytes of text, and the head and the watches for the next one.
-#[derive(Drop)]
+#[derive(Clone, Copy)]
 pub struct Step {
     pub answer: Answer,
     pub over: bool,

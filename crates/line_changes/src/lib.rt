@@ -1,4 +1,6 @@
 // Changes in print: the frames of changes turned into lines of text.
+#![tactic(auto)]
+
 ghost use Rattle.std.specs.Prelude.{◌≡◌, [], ◌∷◌, ◌+◌, ◌-◌, ◌*◌, ◌≤◌, ◌<◌, length, get_or, take};
 ghost use Rattle.octets.specs.Bytes.{number2, number4};
 ghost use Rattle.frames.specs.Frames.{message_at, read_at};

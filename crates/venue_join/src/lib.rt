@@ -1,4 +1,6 @@
 // The join of two venues' tapes: the lower stamp first, the first tape on equal stamps.
+#![tactic(auto)]
+
 ghost use Rattle.std.specs.Prelude.{◌≡◌};
 ghost use Rattle.venue_tapes.specs.VenueTapes.{ahead, pair, done};
 ghost use Rattle.venue_join.specs.Join.{chosen, venue, moved, joint_of, join_at, answer_of, choice_of, joint_in, Joined};
@@ -7,14 +9,14 @@ use refusals::Refusal;
 use venue_tapes::{Next, next_pair};
 
 // Where a tape stands: its reading place, and the stamp of its last pair, 0 at first.
-#[derive(Drop)]
+#[derive(Clone, Copy)]
 pub struct Venue {
     pub place: usize,
     pub last: u32,
 }
 
 // What a join answers: a pair of the first tape or of the second, that both are at their ends, or why it is refused.
-#[derive(Drop)]
+#[derive(Clone, Copy)]
 pub enum Joining {
     First,
     Second,
@@ -23,7 +25,7 @@ pub enum Joining {
 }
 
 // What a join answers, and where both tapes stand after it.
-#[derive(Drop)]
+#[derive(Clone, Copy)]
 pub struct Step {
     pub answer: Joining,
     pub first: Venue,

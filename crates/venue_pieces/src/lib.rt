@@ -1,4 +1,6 @@
 // What has come of two venues' tapes, joined: pair by pair, each with its bytes behind those that are gathered.
+#![tactic(auto)]
+
 ghost use Rattle.std.specs.Prelude.{◌≡◌, ◌+◌, ◌-◌, ◌≤◌, length, drop};
 ghost use Rattle.octets.specs.Placed.{placed};
 ghost use Rattle.venue_pieces.specs.Pieces.{enough, left_out, JoinedOne, goes_on, PieceJoined};
@@ -6,7 +8,7 @@ ghost use Rattle.venue_pieces.specs.Pieces.{enough, left_out, JoinedOne, goes_on
 use venue_join::{Venue, join};
 
 // Where a joiner stands: both tapes' places and last stamps, how many bytes are gathered, and the number of the last answer.
-#[derive(Drop)]
+#[derive(Clone, Copy)]
 pub struct Joiner {
     pub one: Venue,
     pub two: Venue,

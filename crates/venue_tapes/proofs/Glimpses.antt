@@ -10,7 +10,7 @@ use Rattle.frame_kinds.specs.declared.Shape.{Shape}
 use Rattle.frame_kinds.specs.declared.Shape.TheVariants.{Columns, Size, SizePosition, SizePair, Bare, Position, Settings, Unknown}
 use Rattle.frame_kinds.specs.Kinds.{stamp_kind, kinds, shape_in, shape_of, length_of, body_length}
 use Rattle.frame_kinds.proofs.Shapes.{quote_shape, quote_kinds, body_by, low_quote}
-use Rattle.frames.specs.Frames.{message_by, message_at, columns_at, told, saying, stays, read_at}
+use Rattle.frames.specs.Frames.{message_by, message_at, saying, stays, read_at}
 use Rattle.frames.proofs.ReadCases as Cases
 use Rattle.venue_tapes.specs.VenueTapes.{Sort, quote, stamp, stray, at_end, unread, sort_by, sort_said, sort_of, Ahead, after_stamp, ahead_by, next}
 

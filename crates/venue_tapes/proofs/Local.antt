@@ -1,11 +1,11 @@
 -- What a tape has next depends on at most thirty bytes from its place, and on whether fewer are left.
 use mathlib.Core.Path.{◌≡◌, refl, sym, ap, ◌∙◌}
 use mathlib.Core.Logic.{◌⊎◌, inl, inr}
-use Prim.Native.Nat.{ℕ, ◌+◌, ◌-◌, ◌≤◌, ◌<◌, min}
+use Prim.Native.Nat.{ℕ, ◌+◌, ◌≤◌, ◌<◌}
 use native.Mathlib.Nat.{add-zero, add_assoc}
 use native.Mathlib.Omega.{arith}
 use mathlib.Core.Bool.{Bool, true, false, cond}
-use mathlib.Core.List.{List, [], ◌++◌}
+use mathlib.Core.List.{List}
 use lib.Dec.{ltb, leb, eqb}
 use lib.ListN.{length, get_or, take, drop, length-drop, length-take}
 use lib.Seq.{get_or-drop, get_or-take, drop-drop, drop_at, take-add, take_all, length-take-le}
@@ -13,14 +13,12 @@ use borrow.Author.Tests.{lt-ltb, le-ltb, ltb-true, leb-true, leb-false, eq-eqb, 
 use Rattle.lists.proofs.Booleans.{either, agree}
 use Rattle.octets.specs.Bytes.{number2, number4}
 use Rattle.frame_kinds.specs.declared.Shape.{Shape}
-use Rattle.frame_kinds.specs.declared.Shape.TheVariants as Shape
 use Rattle.frame_kinds.specs.Kinds.{stamp_kind, shape_of, body_length}
 use Rattle.frame_kinds.proofs.Shapes.{kind_known, known_body}
 use Rattle.frames.specs.declared.Message.{Message}
-use Rattle.frames.specs.declared.Message.TheVariants as Message
-use Rattle.frames.specs.Frames.{message_by, message_at, columns_at, told, ended, refused, Reading, stays, read_at}
+use Rattle.frames.specs.Frames.{message_by, message_at, told, ended, refused, stays, read_at}
 use Rattle.frames.proofs.Reading.{message_drop}
-use Rattle.venue_tapes.specs.VenueTapes.{Sort, quote, stamp, stray, at_end, unread, sort_by, sort_said, sort_of, pair, done, refuses, out_of_order}
+use Rattle.venue_tapes.specs.VenueTapes.{Sort, quote, stamp, stray, at_end, unread, sort_by, sort_said, sort_of, pair, refuses, out_of_order}
 use Rattle.venue_tapes.specs.VenueTapes.{alone, after_stamp, ahead_by, next, further}
 use Rattle.venue_tapes.proofs.Pairs.{Stamped, stamped}
 

@@ -1,6 +1,6 @@
 -- A pair that a tape has next: a stamp and a quote behind it, both whole frames of the tape.
-use mathlib.Core.Path.{◌≡◌, refl, sym, ap, ◌∙◌}
-use Prim.Native.Nat.{ℕ, ◌+◌, ◌*◌, ◌≤◌, ◌<◌}
+use mathlib.Core.Path.{◌≡◌, refl, ap, ◌∙◌}
+use Prim.Native.Nat.{ℕ, ◌+◌, ◌*◌, ◌≤◌}
 use native.Mathlib.Omega.{arith}
 use mathlib.Core.Bool.{Bool, true, false, cond}
 use mathlib.Core.List.{List}
@@ -10,15 +10,13 @@ use borrow.Author.Tests.{eqb-true}
 use Rattle.lists.proofs.Booleans.{clash}
 use Rattle.octets.specs.Bytes.{number4}
 use Rattle.frame_kinds.specs.declared.Shape.{Shape}
-use Rattle.frame_kinds.specs.declared.Shape.TheVariants as Shape
 use Rattle.frame_kinds.specs.Kinds.{stamp_kind, shape_of, body_length}
 use Rattle.frame_kinds.proofs.Shapes.{quote_kinds, quote_body}
 use Rattle.frames.specs.declared.Message.{Message}
-use Rattle.frames.specs.declared.Message.TheVariants as Message
 use Rattle.frames.specs.declared.Message.TheVariants.{Quote, Position}
 use Rattle.frames.specs.Frames.{message_by, message_at, columns_at, told, Reading, stays, read_at}
 use Rattle.frames.proofs.Reading.{Found, beyond, at_end_lem, unknown, cut, whole, found}
-use Rattle.venue_tapes.specs.VenueTapes.{Sort, quote, stamp, stray, at_end, unread, sort_by, sort_said, sort_of, Ahead, pair, done, refuses}
+use Rattle.venue_tapes.specs.VenueTapes.{Sort, quote, stamp, stray, at_end, unread, sort_by, sort_said, sort_of, pair, done, refuses}
 use Rattle.venue_tapes.specs.VenueTapes.{out_of_order, alone, after_stamp, ahead_by, next}
 use Rattle.venue_tapes.proofs.Glimpses.{stamp_body}
 

@@ -4,10 +4,8 @@ use Rattle.refusals.specs.declared.Refusal.TheVariants.{OutOfPlace, StampOrder, 
 use Rattle.refusals.specs.Refusals.{number}
 use Rattle.frame_kinds.specs.Kinds.{stamp_kind}
 use Rattle.frames.specs.declared.Message.{Message}
-use Rattle.frames.specs.declared.Message.TheVariants as Message
 use Rattle.frames.specs.Frames.{Saying, told, ended, refused, Reading, read_at}
 use Rattle.venue_tapes.specs.declared.Glimpse.{Glimpse}
-use Rattle.venue_tapes.specs.declared.Glimpse.TheVariants as Glimpse
 use Rattle.venue_tapes.specs.declared.Next.{Next}
 use Rattle.venue_tapes.specs.declared.Next.TheVariants as Found
 

@@ -1,4 +1,6 @@
 // A venue's tape: stamps, and quotes each directly behind its stamp. What such a tape has next, at a place, with its last stamp.
+#![tactic(auto)]
+
 ghost use Rattle.std.specs.Prelude.{◌≡◌};
 ghost use Rattle.frames.specs.Frames.{read_at};
 ghost use Rattle.venue_tapes.specs.VenueTapes.{out_of_order, sort_of, glimpsed, alone, after_stamp, next, ahead};
@@ -11,7 +13,7 @@ use refusals::Refusal;
 const LAST_MILLISECOND: u32 = 86399999;
 
 // What stands at a place of a venue's tape.
-#[derive(Drop)]
+#[derive(Clone, Copy)]
 pub enum Glimpse {
     // A quote: the place behind it.
     Quote(usize),
@@ -24,7 +26,7 @@ pub enum Glimpse {
 }
 
 // What a venue's tape has next.
-#[derive(Drop)]
+#[derive(Clone, Copy)]
 pub enum Next {
     // A stamped quote: its stamp, and the place behind both frames.
     Pair(u32, usize),

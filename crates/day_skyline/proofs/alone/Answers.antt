@@ -1,0 +1,12 @@
+-- `alone` meets its contract: the sheet of one position is that position.
+use Rattle.day_skyline.proofs.Over.{over_irreflexive}
+use Rattle.day_skyline.proofs.Merging.{none_front, one_front}
+use Rattle.day_skyline.proofs.alone.Goals as goal
+
+-- src/lib.rt:130:9
+pub returns-then-cells-eq0 : goal.returns-then-cells-eq0
+returns-then-cells-eq0 c = none_front _ _ _ c.args.cells.now c.requires.part c.if-cells-eq0.true
+
+-- src/lib.rt:122:1
+pub returns : goal.returns
+returns c = one_front _ _ _ c.args.cells.now c.requires.part (over_irreflexive _ _) c.if-cells-eq0.false c.requires.cells_len_bound
