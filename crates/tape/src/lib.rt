@@ -1,4 +1,6 @@
 // Playing a tape: one frame on a book with lent tables, its lines laid at the start of a lent text.
+#![tactic(auto)]
+
 mod playing;
 
 pub use head::CHANGE_BYTES;
@@ -7,7 +9,7 @@ pub use line_answers::Step;
 pub use playing::{play, play_known};
 
 // What playing a frame hands back, and how many places later the rows begin where none was moved.
-#[derive(Drop)]
+#[derive(Clone, Copy)]
 pub struct SlidStep {
     pub step: Step,
     pub by: usize,

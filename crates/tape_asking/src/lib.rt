@@ -1,4 +1,6 @@
 // What a frame of a tape asks for: a call, nothing at the end, or a refusal; and whether it stands in its place.
+#![tactic(auto)]
+
 ghost use Rattle.std.specs.Prelude.{◌≡◌, List, ℕ};
 ghost use Rattle.frames.specs.Frames.{saying};
 ghost use Rattle.tape_asking.specs.Asking.{sized_asks, pair_asks, bare_asks, asks, asked};
@@ -11,7 +13,7 @@ use refusals::Refusal;
 
 // What a frame wants of the player: a call, nothing at the end of the tape, or a refusal: of what cannot be read, or of a frame out of
 // place.
-#[derive(Drop)]
+#[derive(Clone, Copy)]
 pub enum Wanted {
     // How many columns.
     Quote(u8),
@@ -127,7 +129,7 @@ pub fn placed(begun: bool, message: Message) -> Wanted
 }
 
 // What stands at a place of a tape: what it wants of the player, the columns of its quote, and the place behind it.
-#[derive(Drop)]
+#[derive(Clone, Copy)]
 pub struct Wish {
     pub wanted: Wanted,
     pub columns: [u32; 6],

@@ -1,10 +1,9 @@
 -- The lines of a quote and of a look directly behind it: how long they are at most, and both laid.
-use mathlib.Core.Path.{◌≡◌, refl, ap}
 use Prim.Native.Nat.{ℕ, zero, suc, ◌+◌, ◌-◌, ◌*◌, ◌≤◌, ◌<◌}
 use native.Mathlib.Decide.{dec_lt}
 use native.Mathlib.Omega.{arith}
 use mathlib.Core.List.{List, [], ◌∷◌, ◌++◌}
-use lib.ListN.{length, get_or, take, drop, length-append, length-take, length-drop}
+use lib.ListN.{length, get_or, take, length-append, length-take}
 use borrow.Rule.Slice.PartMut.{mid_of, put_mid}
 use Rattle.lists.specs.Lists.{flat}
 use Rattle.lists.proofs.Laying.{front_one, front_more}
@@ -19,7 +18,7 @@ use Rattle.text.proofs.Lines.{line_short, of_front}
 use Rattle.line_changes.specs.Printed.{change_line, change_lines, changes_text}
 use Rattle.line_changes.proofs.Decoding.{line_fits}
 use Rattle.tape_model.specs.Print.{desk_line}
-use Rattle.line_answers.specs.Turns.{line_bytes, text_bytes, answer_line}
+use Rattle.line_answers.specs.Turns.{text_bytes, answer_line}
 use Rattle.tape_both.specs.Tried.{step_bytes}
 
 -- 25 bytes of text suffice for the lines of each 7 of frames, from a place on

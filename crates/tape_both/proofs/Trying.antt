@@ -17,7 +17,7 @@ use Rattle.refusals.specs.Refusals.{number, number_of, granted}
 use Rattle.refusals.proofs.Numbers.{number_above}
 use Rattle.head.specs.Replies.{Outcome}
 use Rattle.model.specs.Rows.{Tables}
-use Rattle.model.specs.Book.{reply_of, quote_answer, quote_head, quote_bytes, quote_reply, quote_tables, quote_out, both_list, both_answer, both_reply, both_listed, both_out, both_cells, look_answer, both_tables}
+use Rattle.model.specs.Book.{reply_of, quote_answer, quote_reply, quote_tables, both_list, both_answer, both_reply, both_listed, both_out, both_cells, both_tables}
 use Rattle.model.specs.Calls.{book_seen}
 use Rattle.model.specs.Promises.{Quoted, QuotedLooked}
 use Rattle.model.proofs.Replying.{refused_left}
@@ -28,10 +28,10 @@ use Rattle.text.specs.Text.{line, Laid}
 use Rattle.line_changes.specs.Printed.{changes_text}
 use Rattle.tape_model.specs.Play.{Player}
 use Rattle.line_answers.specs.declared.Turn.{Turn}
-use Rattle.line_answers.specs.Turns.{player, Effect, made_two, Turned}
+use Rattle.line_answers.specs.Turns.{player, Effect, Turned}
 use Rattle.line_answers.proofs.InOne.{both_turned}
 use Rattle.tape_calls.proofs.Rooms.{quote_fits}
-use Rattle.tape_turns.specs.Making.{tables_of, Makes}
+use Rattle.tape_turns.specs.Making.{Makes}
 use Rattle.tape_both.specs.declared.BothTurn.{BothTurn}
 use Rattle.tape_both.specs.Tried.{takes_both, BothTried}
 

@@ -1,4 +1,6 @@
 // A quote and look in one, made on a reachable book: the call, and the lines of both laid; or neither is taken, and all is as it was.
+#![tactic(auto)]
+
 ghost use Rattle.std.specs.Prelude.{◌≡◌, true, false, [], ◌∷◌, ◌++◌, ◌+◌, ◌≤◌, length, take};
 ghost use Rattle.head.specs.Heads.{max_capacity};
 ghost use Rattle.model.specs.Changes.{change_room};
@@ -16,7 +18,7 @@ use refusals::Answer;
 use tape_turns::TurnMade;
 
 // What a quote and look in one came to: whether both are taken, and if so their turn.
-#[derive(Drop)]
+#[derive(Clone, Copy)]
 pub struct BothTurn {
     pub taken: bool,
     pub made: TurnMade,

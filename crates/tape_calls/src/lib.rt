@@ -1,4 +1,6 @@
 // The calls that the frames of a tape ask for, but those that change the tables: each made, and its lines laid.
+#![tactic(auto)]
+
 ghost use Rattle.std.specs.Prelude.{List, ℕ, ◌≤◌, length};
 ghost use Rattle.model.specs.Changes.{change_room};
 ghost use Rattle.model.specs.Calls.{Call};

@@ -1,5 +1,7 @@
 // What has come of a tape, played: step by step, each with its lines behind those that are gathered, on a book that calls left; and what runs of
 // a printer hand on (specs/Runs.antt).
+#![tactic(auto)]
+
 ghost use Rattle.std.specs.Prelude.{◌-◌, ◌≤◌, ◌||◌, length};
 ghost use Rattle.model.specs.Calls.{Reached};
 ghost use Rattle.model.specs.Promises.{tables, world};

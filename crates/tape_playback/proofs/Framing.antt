@@ -1,5 +1,5 @@
 -- A step that was played on the tables from where the rows start on, into the text behind what is gathered.
-use mathlib.Core.Path.{◌≡◌, refl, sym, ap, ◌∙◌}
+use mathlib.Core.Path.{◌≡◌, refl, ap}
 use Prim.Native.Nat.{ℕ, ◌+◌, ◌-◌, ◌*◌, ◌≤◌}
 use native.Mathlib.Omega.{arith}
 use mathlib.Core.Bool.{true}
@@ -16,7 +16,7 @@ use Rattle.tape.specs.Steps.{SteppedTo, StepMade}
 use Rattle.tape_steps.specs.Stepping.{play_step}
 use Rattle.tape_steps.proofs.Stepping.{step_cells}
 use Rattle.table_starts.specs.declared.Start.{Start}
-use Rattle.table_starts.specs.Starts.{Long, Within, onward}
+use Rattle.table_starts.specs.Starts.{Long, Within}
 use Rattle.tape_playback.specs.declared.Playback.{Playback}
 use Rattle.tape_playback.specs.Played.{player_of, StepPlayed}
 use Rattle.tape_playback.proofs.Gathering.{gathered_behind}

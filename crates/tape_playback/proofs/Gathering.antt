@@ -1,10 +1,10 @@
 -- The text that is gathered: lines laid behind it, and more behind those.
-use mathlib.Core.Path.{◌≡◌, refl, sym, ap, ◌∙◌}
+use mathlib.Core.Path.{◌≡◌, sym, ap, ◌∙◌}
 use Prim.Native.Nat.{ℕ, ◌+◌, ◌-◌, ◌≤◌}
 use native.Mathlib.Omega.{arith}
 use mathlib.Core.List.{List, [], ◌++◌, append-nil, append_assoc}
 use lib.ListN.{length, take, drop, length-append, length-drop, drop_of_length-le, take-append-drop}
-use lib.Seq.{length-take-le, take_all, take_at, drop_at, drop-drop, drop-append-add}
+use lib.Seq.{length-take-le, take_all, take_at, drop-drop, drop-append-add}
 use borrow.Rule.Slice.PartMut.{mid_of, put_mid}
 use Rattle.lists.specs.Lists.{laid}
 use Rattle.tape_playback.specs.declared.Playback.{Playback}

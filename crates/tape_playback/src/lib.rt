@@ -1,5 +1,7 @@
 // Where a player of a tape stands: one step played from there, on a book that calls left, whose rows slide through tables of twice the
 // places that it needs.
+#![tactic(auto)]
+
 ghost use Rattle.std.specs.Prelude.{◌+◌, ◌≤◌, length};
 ghost use Rattle.model.specs.Calls.{Reached};
 ghost use Rattle.model.specs.Promises.{tables, world};
@@ -13,7 +15,7 @@ use tape_steps::play_step;
 
 // Where a player of a tape stands: the head and the watches of the book, where its rows start, the place of the next frame and the end of
 // what has come of the tape, how many bytes of text are gathered, whether the input has ended, and whether the tape is over.
-#[derive(Drop)]
+#[derive(Clone, Copy)]
 pub struct Playback {
     pub head: Head,
     pub watches: [u64; 8],

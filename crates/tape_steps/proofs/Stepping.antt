@@ -2,7 +2,7 @@
 use mathlib.Core.Path.{◌≡◌, refl, sym, ap, ◌∙◌}
 use Prim.Native.Nat.{ℕ, ◌+◌, ◌≤◌}
 use native.Mathlib.Omega.{arith}
-use mathlib.Core.Bool.{Bool, true, false, ◌&&◌, cond, true≢false}
+use mathlib.Core.Bool.{Bool, true, false, ◌&&◌, cond}
 use mathlib.Core.List.{List}
 use lib.Dec.{eqb}
 use lib.ListN.{get_or, take}
@@ -16,7 +16,6 @@ use Rattle.tape_model.specs.Play.{Played, Player, begun, book_play}
 use Rattle.tape_model.specs.Streams.{ready}
 use Rattle.tape_model.specs.InOne.{seen_both, behind, InARow, play_two}
 use Rattle.tape_model.proofs.InOne.{two_is_both}
-use Rattle.line_answers.specs.declared.Turn.{Turn}
 use Rattle.line_answers.specs.declared.Step.{Step}
 use Rattle.line_answers.specs.Turns.{player, made_two}
 use Rattle.line_answers.proofs.InOne.{two_played}

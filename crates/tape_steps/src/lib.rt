@@ -1,4 +1,6 @@
 // A step along a tape: a quote's frame and a whole look's directly behind it by one call, or one frame by its own.
+#![tactic(auto)]
+
 ghost use Rattle.std.specs.Prelude.{◌≡◌, true, ◌≤◌, length};
 ghost use Rattle.model.specs.Promises.{tables};
 ghost use Rattle.call_quoting.specs.Known.{Known};
@@ -23,7 +25,7 @@ pub const STEP_BYTES: usize = tape::TEXT_BYTES + LOOK_LINE;
 
 // What stands at a place of a tape: whether it is a quote in its place with a whole look directly behind it, how many columns the quote has,
 // the columns with zeros behind them, n, and the place behind the look.
-#[derive(Drop)]
+#[derive(Clone, Copy)]
 struct BothAt {
     found: bool,
     kind: u8,

@@ -1,4 +1,6 @@
 // One decision on what a frame asks for: its call is made, and its lines are laid.
+#![tactic(auto)]
+
 ghost use Rattle.std.specs.Prelude.{◌≡◌, ℕ, ◌≤◌, length};
 ghost use Rattle.tape_asking.specs.declared.Wanted.TheVariants.{Quote};
 ghost use Rattle.model.specs.Changes.{change_room};
@@ -15,7 +17,7 @@ use refusals::{Answer, Refusal};
 use tape_asking::Wanted;
 
 // What a call came to, and how many places later the rows begin where none was moved.
-#[derive(Drop)]
+#[derive(Clone, Copy)]
 pub struct TurnMade {
     pub turn: Turn,
     pub by: usize,

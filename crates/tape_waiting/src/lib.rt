@@ -1,4 +1,6 @@
 // Whether the frame at a place can be played before more of the tape has come.
+#![tactic(auto)]
+
 ghost use Rattle.std.specs.Prelude.{◌≡◌};
 ghost use Rattle.tape_model.specs.Streams.{ready, settled};
 
