@@ -1,11 +1,15 @@
 // The importer: turns a file of comma-separated quotes of D columns on standard input into their frames on standard output. A line that does
 // not fit is named on standard error with its number, and nothing is written.
+#![tactic(auto)]
+
 ghost use Rattle.std.specs.Prelude.{◌≤◌, length};
 
 use csv_frames::Imported;
-use libc::{STDERR_FILENO, STDIN_FILENO};
 use line_fields::read_fields;
 use refusals::{Answer, Refusal};
+use std::env::Env;
+use std::io::{Read, Write};
+use streams::{Outlet, say_failure};
 
 // The largest file.
 const FILE: usize = 1048576;
@@ -31,58 +35,54 @@ fn number_of(text: &[u8]) -> Given {
     }
 }
 
-// Whether standard input is at its end; if not, says so on standard error.
-fn at_end() -> bool {
+// Whether the input is at its end; if not, says so on the stream of errors.
+fn at_end<R: Read, E: Write>(input: &mut R, errors: &mut E) -> bool {
     let mut next = [0u8; 1];
-    let got = libc::read(STDIN_FILENO, &mut next);
-    if got < 0 {
-        os::fail(b"csv_import: standard input");
-        return false;
+    match input.read(&mut next) {
+        Ok(0) => true,
+        Ok(_) => {
+            let _ = errors.write_all(
+                b"csv_import: the file is larger than 1 MiB, and nothing is written\n",
+            );
+            false
+        }
+        Err(failure) => {
+            say_failure(errors, b"csv_import: standard input", &failure);
+            false
+        }
     }
-    if 0 < got {
-        io::write_all(
-            STDERR_FILENO,
-            b"csv_import: the file is larger than 1 MiB, and nothing is written\n",
-        );
-        return false;
-    }
-    true
 }
 
 // Says why nothing is written.
-fn name_refusal(refusal: Refusal, line: usize) {
-    io::write_all(STDERR_FILENO, b"R ");
-    io::print_decimal(STDERR_FILENO, refusal.number() as u64);
-    match refusal {
-        Refusal::Settings => {
-            io::write_all(STDERR_FILENO, b": D is from 1 to 6\n");
-        }
-        Refusal::MalformedLine => {
-            io::write_all(STDERR_FILENO, b" line ");
-            io::print_decimal(STDERR_FILENO, line as u64);
-            io::write_all(
-                STDERR_FILENO,
-                b": a line is D decimal numbers below 2^32, without sign, space or leading zero, one comma between\n",
-            );
-        }
-        _ => {
-            io::write_all(STDERR_FILENO, b": the frames do not fit the output\n");
-        }
-    }
+fn name_refusal<E: Write>(refusal: Refusal, line: usize, errors: &mut E) {
+    let number = refusal.number();
+    let _ = match refusal {
+        Refusal::Settings => writeln!(errors, "R {number}: D is from 1 to 6"),
+        Refusal::MalformedLine => writeln!(
+            errors,
+            "R {number} line {line}: a line is D decimal numbers below 2^32, without sign, space or leading zero, one comma between"
+        ),
+        _ => writeln!(errors, "R {number}: the frames do not fit the output"),
+    };
 }
 
 // Writes the frames of a whole file, or says why not.
-fn answer(imported: Imported, is_whole: bool, out: &[u8])
+fn answer<W: Write, E: Write>(
+    imported: Imported,
+    is_whole: bool,
+    out: &[u8],
+    outlet: &mut Outlet<W, E>,
+)
     requires { imported.count ≤ length out.now }
 {
     let count = imported.count;
     let answer = imported.answer;
     if let Answer::Refused(refusal) = answer {
-        name_refusal(refusal, imported.line);
+        name_refusal(refusal, imported.line, &mut outlet.errors);
         return;
     }
     if is_whole {
-        streams::put_out(&out[..count], b"csv_import: standard output");
+        streams::put_out(outlet, &out[..count], b"csv_import: standard output");
     }
 }
 
@@ -94,31 +94,46 @@ fn file_end(used: usize, is_whole: bool) -> usize
 }
 
 // Reads a file, imports it and writes its frames, in these buffers.
-fn import_in(d: u32, file: &mut [u8], out: &mut [u8]) {
-    let used = io::read_full(STDIN_FILENO, file);
-    let is_whole = at_end();
+fn import_in<R: Read, W: Write, E: Write>(
+    d: u32,
+    file: &mut [u8],
+    out: &mut [u8],
+    input: &mut R,
+    outlet: &mut Outlet<W, E>,
+) {
+    let used = streams::read_full(input, file);
+    let is_whole = at_end(input, &mut outlet.errors);
     let end = file_end(used, is_whole);
     let imported = csv_frames::import(d, &file[..end], out);
-    answer(imported, is_whole, out);
+    answer(imported, is_whole, out, outlet);
 }
 
 // The same in buffers of the largest sizes.
-fn import_file(d: u32, file: &mut [u8; FILE], out: &mut [u8; FRAMES]) {
-    import_in(d, &mut file[..], &mut out[..]);
+fn import_file<R: Read, W: Write, E: Write>(
+    d: u32,
+    file: &mut [u8; FILE],
+    out: &mut [u8; FRAMES],
+    input: &mut R,
+    outlet: &mut Outlet<W, E>,
+) {
+    import_in(d, &mut file[..], &mut out[..], input, outlet);
 }
 
-fn main() {
+fn main(rt: HostRuntime) {
+    let mut outlet = Outlet {
+        output: rt.stdout(),
+        errors: rt.stderr(),
+    };
     let mut text = [0u8; 16];
-    let length = os::arg(1, &mut text);
+    let length = rt.arg(1, &mut text).unwrap_or(0);
     let d = number_of(&text[..length]);
-    if !d.is_number | (os::arg_count() != 2) {
-        io::write_all(
-            STDERR_FILENO,
+    if !d.is_number | (streams::arguments::count(&rt) != 2) {
+        let _ = outlet.errors.write_all(
             b"usage: csv_import D < QUOTES > FRAMES, D the number of columns, from 1 to 6\n",
         );
         return;
     }
     let mut file = [0u8; FILE];
     let mut out = [0u8; FRAMES];
-    import_file(d.number, &mut file, &mut out);
+    import_file(d.number, &mut file, &mut out, &mut rt.stdin(), &mut outlet);
 }

@@ -1,5 +1,5 @@
 -- The lines of an input that comes in pieces: the first line, a line that is begun, and one that is too long.
-use Rattle.std.proofs.Common.{◌≡◌, ℕ, zero, suc, ◌+◌, ◌-◌, ◌<◌, ◌≤◌, Bool, true, false, cond, eqb, List, [], ◌∷◌, ◌++◌, length, take, drop, refl, ap, ◌∙◌, append_assoc, append-nil, zero-le, arith, length-append, le-ltb}
+use Rattle.std.proofs.Common.{◌≡◌, ℕ, zero, suc, ◌+◌, ◌<◌, ◌≤◌, Bool, true, false, cond, eqb, List, [], ◌∷◌, ◌++◌, length, take, drop, refl, ap, ◌∙◌, append_assoc, append-nil, zero-le, arith, length-append, le-ltb}
 use Rattle.line_fields.specs.Fields.{line_length}
 use Rattle.line_fields.proofs.Scanning.{end_inside}
 use Rattle.line_writer.specs.Written.{last_line, lines_from, says, frame_of, name_of, frames_of, names_from}

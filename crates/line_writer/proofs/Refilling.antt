@@ -24,11 +24,15 @@ module _ (s : Writer) (text : List ℕ) (h : (s.place ≤ s.end) × (s.end ≤ l
   tested : {whole : ℕ} {result : Bool} → whole ≡ stop_at (take s.end text) s.place → s.ended || ltb whole s.end ≡ result → supplied s text ≡ result
   tested r e = rw r at e
 
+  -- what is kept is what was not taken, if nothing is read
+  pub quiet_kept : {whole : ℕ} → whole ≡ stop_at (take s.end text) s.place → s.ended || ltb whole s.end ≡ true → pending s text ≡ kept s text ++ []
+  quiet_kept r e = rw (tested r e) (sym (append-nil (pending s text)))
+
   -- nothing is read
   pub refill_quiet : {whole : ℕ} → whole ≡ stop_at (take s.end text) s.place → s.ended || ltb whole s.end ≡ true → Refilled s text s text
   refill_quiet r e = record {
     came = [];
-    kept = rw (tested r e) (sym (append-nil (pending s text)));
+    kept = quiet_kept r e;
     quiet = λ _. (refl, refl);
     read = λ f. absurd (clash (supplied s text) (tested r e) f);
     inside = h.0;
@@ -60,6 +64,23 @@ module _ (s : Writer) (text : List ℕ) (h : (s.place ≤ s.end) × (s.end ≤ l
       go (yes t) = let k : stop ≡ s.place + 68 = rw (lt-ltb 68 left t) at e in (omega (arith, k), omega (arith, k), omega (arith, k))
       go (no t) = let k : stop ≡ s.end = rw (le-ltb 68 left (omega (arith, t))) at e in (omega (arith, k), omega (arith, k), omega (arith, k))
 
+  -- what is kept stands in front of the bytes that were read
+  pub read_kept : (stop : ℕ) (last : List ℕ) {whole : ℕ} {front : List ℕ} {count : ℕ} → whole ≡ stop_at (take s.end text) s.place → s.ended || ltb whole s.end ≡ false
+      → stop ≡ cond (ltb 68 left) (s.place + 68) s.end → front ≡ laid (take (stop - s.place) (drop s.place text)) text → count ≤ length last
+      → take ((stop - s.place) + count) (put_mid (stop - s.place) (length front - (stop - s.place)) front last) ≡ kept s text ++ take count last
+  unfolding laid
+  read_kept stop last {front = front} {count = count} r e p f c =
+      let rest : ℕ = stop - s.place in
+      let begun : List ℕ = take rest (drop s.place text) in
+      let range = stop_range stop p in
+      let long : length begun ≡ rest = length-take-le rest (drop s.place text) (omega (arith, length-drop s.place text, range)) in
+      let stands : take rest front ≡ begun = ap (take rest) f ∙ take_at begun (drop (length begun) text) rest long in
+      let post : List ℕ = drop (length front - rest) (drop rest front) in
+      let read : take (rest + count) (begun ++ (last ++ post)) ≡ begun ++ take count last =
+      ap (λ (n : ℕ). take (n + count) (begun ++ (last ++ post))) (sym long) ∙ take-append-add begun (last ++ post) count ∙ ap (λ (xs : List ℕ). begun ++ xs) (take-append-le count last post c) in
+      let same : kept s text ≡ take 68 (pending s text) = rw (tested r e) in
+      ap (λ (xs : List ℕ). take (rest + count) (xs ++ (last ++ post))) stands ∙ read ∙ ap (λ (xs : List ℕ). xs ++ take count last) (keeps stop p ∙ sym same)
+
   -- what is kept is moved to the front, and these bytes are read behind it
   pub refill_read : 69 ≤ length text → (stop : ℕ) (last : List ℕ) {whole : ℕ} {front : List ℕ} {count : ℕ} {more : Bool} → whole ≡ stop_at (take s.end text) s.place → s.ended || ltb whole s.end ≡ false
       → stop ≡ cond (ltb 68 left) (s.place + 68) s.end → front ≡ laid (take (stop - s.place) (drop s.place text)) text
@@ -74,16 +95,11 @@ module _ (s : Writer) (text : List ℕ) (h : (s.place ≤ s.end) × (s.end ≤ l
       let range = stop_range stop p in
       let long : length begun ≡ rest = length-take-le rest (drop s.place text) (omega (arith, length-drop s.place text, range)) in
       let whole : length front ≡ length text = ap length f ∙ length_laid begun text (omega (arith, long, range)) in
-      let stands : take rest front ≡ begun = ap (take rest) f ∙ take_at begun (drop (length begun) text) rest long in
       let came : length (take count last) ≡ count = length-take-le count last c in
       let room : 0 < length last = omega (arith, whole, k, range, simp (length-take, length-drop) at l) in
-      let post : List ℕ = drop (length front - rest) (drop rest front) in
-      let read : take (rest + count) (begun ++ (last ++ post)) ≡ begun ++ take count last =
-      ap (λ (n : ℕ). take (n + count) (begun ++ (last ++ post))) (sym long) ∙ take-append-add begun (last ++ post) count ∙ ap (λ (xs : List ℕ). begun ++ xs) (take-append-le count last post c) in
-      let same : kept s text ≡ take 68 (pending s text) = rw (tested r e) in
       record {
         came = take count last;
-        kept = ap (λ (xs : List ℕ). take (rest + count) (xs ++ (last ++ post))) stands ∙ read ∙ ap (λ (xs : List ℕ). xs ++ take count last) (keeps stop p ∙ sym same);
+        kept = read_kept stop last r e p f c;
         quiet = λ t. absurd (clash (supplied s text) t (tested r e));
         read = λ _. rw came (ap not (m room));
         inside = omega arith;

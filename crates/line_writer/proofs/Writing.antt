@@ -1,6 +1,6 @@
 -- What a tape writer hands on and names is what is written of its input: what is handed on, what is gathered and the frames of what is to be taken
 -- are together what is written of what came and of whatever comes, and so are the numbers of the lines that say no message.
-use Rattle.std.proofs.Common.{◌≡◌, ℕ, suc, ◌+◌, ◌-◌, ◌<◌, ◌≤◌, Bool, true, false, cond, not, ◌&&◌, ◌||◌, ltb, List, [], ◌∷◌, ◌++◌, length, take, drop, sym, refl, ap, ◌∙◌, append_assoc, append-nil, arith, length-drop, drop_of_length-le, length-take-le, take_all, drop-drop, ltb-false, ltb-true}
+use Rattle.std.proofs.Common.{◌≡◌, ℕ, suc, ◌+◌, ◌<◌, ◌≤◌, Bool, true, false, cond, not, ◌&&◌, ◌||◌, ltb, List, [], ◌∷◌, ◌++◌, length, take, drop, sym, refl, ap, ◌∙◌, append_assoc, append-nil, arith, length-drop, drop_of_length-le, length-take-le, take_all, drop-drop, ltb-false, ltb-true}
 use native.Mathlib.Decide.{dec_le}
 use Rattle.lists.specs.Lists.{flat}
 use Rattle.lists.proofs.Booleans.{and_left, and_right, none_right}

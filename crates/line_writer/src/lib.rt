@@ -1,9 +1,14 @@
 // A writer's lines: each is taken as the frame of the message that it says, behind the bytes that are gathered; these are written out, and
 // the input is read on behind a line that is begun. What runs of these calls hand on is what is written of the input (specs/Runs.antt).
-ghost use Rattle.std.specs.Prelude.{◌≡◌, ◌+◌, ◌-◌, ◌≤◌, true, length, if◌then◌else◌, nat_lt};
-ghost use Rattle.line_writer.specs.Written.{LineLaid, LineTaken, Flushed, Refilled, stop_at, comes};
+#![tactic(auto)]
+
+ghost use Rattle.std.specs.Prelude.{◌≡◌, ◌+◌, ◌-◌, ◌≤◌, true, false, length, take, drop, if◌then◌else◌, nat_lt};
+ghost use Rattle.std.specs.Io.KnownBytes.{Appends, Consumes};
+ghost use Rattle.line_writer.specs.Written.{LineLaid, LineTaken, Flushed, Refilled, stop_at, comes, kept, pending};
 
 use line_fields::line_end;
+use std::io::{Read, Write};
+use streams::Outlet;
 
 // How many bytes a line has that is longer than any that says a message.
 const TOO_LONG: usize = 68;
@@ -54,7 +59,7 @@ pub fn take_line(writer: Writer, stop: usize, text: &[u8], out: &mut [u8]) -> Wr
     let used = writer.used;
     let count = lay_line(&text[place..stop], &mut out[used..]);
     let mut now = writer;
-    now.lines = std::num::wrapping_add_u64(now.lines, 1);
+    now.lines = now.lines.wrapping_add(1);
     now.place = behind(stop, text.len());
     now.used = used + count;
     now.unsaid = count == 0;
@@ -62,14 +67,16 @@ pub fn take_line(writer: Writer, stop: usize, text: &[u8], out: &mut [u8]) -> Wr
 }
 
 // Writes out the gathered bytes; where that fails all is over.
-pub fn flush(writer: Writer, out: &[u8]) -> Writer
+pub fn flush<W: Write, E: Write>(writer: Writer, out: &[u8], outlet: &mut Outlet<W, E>) -> Writer
     requires { writer.used ≤ length out.now }
-    ensures { Flushed writer result }
+    ensures flushed { Flushed writer result }
+    ensures written { result.over ≡ false → Appends (W.contents outlet.old.output)
+        (W.contents outlet.new.output) (take writer.used out.now) }
 {
     let used = writer.used;
     let mut now = writer;
     now.used = 0;
-    if !streams::put_out(&out[..used], b"tape_writer: standard output") {
+    if !streams::put_out(outlet, &out[..used], b"tape_writer: standard output") {
         now.over = true;
     }
     now
@@ -89,10 +96,17 @@ fn kept_end(place: usize, end: usize) -> usize
 
 // Reads on behind a line that is begun, which is moved to the front of what has come of the input; nothing once the input has ended, or
 // where a line has come whole.
-pub fn refill(writer: Writer, text: &mut [u8]) -> Writer
+pub fn refill<R: Read, E: Write>(
+    writer: Writer,
+    text: &mut [u8],
+    input: &mut R,
+    errors: &mut E,
+) -> Writer
     requires place_le_end { (writer.place ≤ writer.end) × (writer.end ≤ length text.old) }
     requires in_bounds { 69 ≤ length text.old }
-    ensures { Refilled writer text.old result text.new }
+    ensures refilled { Refilled writer text.old result text.new }
+    ensures given { Consumes (R.remaining input.old) (R.remaining input.new)
+        (drop (length (kept writer text.old)) (pending result text.new)) }
 {
     let mut now = writer;
     let end = now.end;
@@ -104,7 +118,12 @@ pub fn refill(writer: Writer, text: &mut [u8]) -> Writer
     let stop = kept_end(place, end);
     streams::to_front(text, place, stop);
     let rest = stop - place;
-    let came = streams::read_in(&mut text[rest..], b"tape_writer: standard input");
+    let came = streams::read_in(
+        input,
+        &mut text[rest..],
+        errors,
+        b"tape_writer: standard input",
+    );
     now.place = 0;
     now.end = rest + came.count;
     now.ended = !came.more;

@@ -1,4 +1,6 @@
 // The calls that write the tables, the opening, the quote and the quote and look in one, made on the parts of the buffers that are lent.
+#![tactic(auto)]
+
 ghost use Rattle.std.specs.Prelude.{◌≤◌};
 
 use book_by_value::RecordReply;

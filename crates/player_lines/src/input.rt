@@ -3,13 +3,14 @@ ghost use Rattle.std.specs.Prelude.{◌≤◌};
 
 use crate::{Command, Line, read_line};
 use line_fields::line_end;
+use std::io::{Read, Write};
 
 // A part of a line that is longer than any that the player can take.
 const TOO_LONG: usize = 200;
 
 // Where the player stands in its input: where the line that was found begins and ends, the place behind it, the end of the
 // text that has come, whether the input has ended, whether a line was found, whether all is over, and the line.
-#[derive(Drop)]
+#[derive(Clone, Copy)]
 pub struct Cursor {
     from: usize,
     to: usize,
@@ -79,7 +80,12 @@ fn kept_end(place: usize, end: usize) -> usize
 }
 
 // Reads on behind the begun line, where no line was found.
-fn read_on(cursor: Cursor, text: &mut [u8]) -> Cursor {
+fn read_on<R: Read, E: Write>(
+    cursor: Cursor,
+    text: &mut [u8],
+    input: &mut R,
+    errors: &mut E,
+) -> Cursor {
     let mut now = cursor;
     let place = cursor.place;
     let end = cursor.end;
@@ -95,7 +101,12 @@ fn read_on(cursor: Cursor, text: &mut [u8]) -> Cursor {
     let stop = kept_end(place, end);
     streams::to_front(text, place, stop);
     let begun = stop - place;
-    let came = streams::read_in(&mut text[begun..], b"book_player: standard input");
+    let came = streams::read_in(
+        input,
+        &mut text[begun..],
+        errors,
+        b"book_player: standard input",
+    );
     now.place = 0;
     now.end = begun + came.count;
     now.ended = !came.more;
@@ -129,8 +140,13 @@ fn line_of(cursor: Cursor, text: &[u8]) -> Line {
 }
 
 // Goes on to the next line of the text, and reads more text first where no line was found before.
-pub fn next_line(cursor: Cursor, text: &mut [u8]) -> Cursor {
-    let there = read_on(cursor, text);
+pub fn next_line<R: Read, E: Write>(
+    cursor: Cursor,
+    text: &mut [u8],
+    input: &mut R,
+    errors: &mut E,
+) -> Cursor {
+    let there = read_on(cursor, text, input, errors);
     let mut now = find_line(there, text);
     let line = line_of(now, text);
     now.line = line;

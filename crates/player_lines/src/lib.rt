@@ -1,5 +1,7 @@
 // The lines of the book player: a word, the name of a table where the word wants one, and numbers in decimal with one space before each; and
 // its input, in which they are found (src/input.rt).
+#![tactic(auto)]
+
 mod input;
 mod words;
 
@@ -8,7 +10,7 @@ pub use input::{Cursor, next_line};
 pub use words::{front, quoted, quoted_behind, read_line};
 
 // What a line asks for; of a watch and its end, whose it is. No line has come, or it is one that the player cannot take.
-#[derive(Drop)]
+#[derive(Clone, Copy)]
 pub enum Command {
     None,
     Unread,
@@ -49,7 +51,7 @@ pub const WATCHES: u64 = 7;
 pub const DESKS: u64 = 8;
 
 // A line as it was read: its numbers with zeros behind them, and how many there are.
-#[derive(Drop)]
+#[derive(Clone, Copy)]
 pub struct Line {
     pub command: Command,
     pub name: u64,

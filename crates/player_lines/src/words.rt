@@ -13,11 +13,12 @@ struct Numbers {
 
 // Where the next space stands from a place on, or the line's end.
 fn next_space(line: &[u8], place: usize) -> usize {
-    let mut at = place;
-    while at < line.len() && line[at] != 32 {
-        at += 1;
+    for at in place..line.len() {
+        if line[at] == b' ' {
+            return at;
+        }
     }
-    at
+    place.max(line.len())
 }
 
 // Where the field behind the one at a place begins, or the line's end.
@@ -31,9 +32,7 @@ fn next_field(line: &[u8], place: usize) -> usize {
 // Where the field behind this many others begins, or the line's end.
 fn field_start(line: &[u8], place: usize, before: usize) -> usize {
     let mut at = place;
-    let mut passed: usize = 0;
-    while passed < before {
-        passed += 1;
+    for _ in 0..before {
         at = next_field(line, at);
     }
     at
@@ -81,7 +80,7 @@ impl Search {
     fn after(self, word: &[u8], byte: u8) -> Search {
         if byte == 32 {
             return Search {
-                next: std::num::wrapping_add_u64(self.next, 1),
+                next: self.next.wrapping_add(1),
                 passed: 0,
                 same: true,
                 found: self.ended(word),
@@ -89,7 +88,7 @@ impl Search {
         }
         Search {
             next: self.next,
-            passed: std::num::wrapping_add_u64(self.passed, 1),
+            passed: self.passed.wrapping_add(1),
             same: self.same & has(word, self.passed, byte),
             found: self.found,
         }
@@ -104,10 +103,8 @@ fn find_word(word: &[u8], words: &[u8]) -> u64 {
         same: true,
         found: 0,
     };
-    let mut i = 0;
-    while i < words.len() {
-        search = search.after(word, words[i]);
-        i += 1;
+    for byte in words {
+        search = search.after(word, *byte);
     }
     search.found
 }
@@ -129,7 +126,7 @@ fn numbers_from(line: &[u8], place: usize) -> Numbers {
     let b = last.numbers;
     Numbers {
         valid: first.valid & !first.empty & last.valid & !last.empty,
-        count: std::num::wrapping_add_u64(first.count as u64, last.count as u64) as usize,
+        count: first.count.wrapping_add(last.count),
         numbers: joined(a, b),
     }
 }
@@ -189,7 +186,7 @@ pub fn read_line(line: &[u8]) -> Line {
     let to = next_space(line, 0);
     let command = command_of(part(line, 0, to));
     let place = numbers_start(line, command, to);
-    let behind = std::num::wrapping_add_u64(to as u64, 1) as usize;
+    let behind = to.wrapping_add(1);
     let names = b"columns positions lower upper out cells watches desks ";
     let name = find_word(part(line, behind, place), names);
     let said = numbers_from(line, place);

@@ -1,7 +1,11 @@
 // The output of the book player: lines of numbers, gathered and written out in large pieces.
+#![tactic(auto)]
+
+use std::io::Write;
+use streams::Outlet;
 
 // How many lines of input were seen, how many bytes are gathered, and whether the output has failed.
-#[derive(Drop)]
+#[derive(Clone, Copy)]
 pub struct Print {
     pub lines: u32,
     pub used: usize,
@@ -20,12 +24,16 @@ impl Print {
 }
 
 // Writes out what is gathered.
-pub fn flush(print: Print, gathered: &[u8]) -> Print {
+pub fn flush<W: Write, E: Write>(
+    print: Print,
+    gathered: &[u8],
+    outlet: &mut Outlet<W, E>,
+) -> Print {
     let mut now = print;
     let used = print.used;
     now.used = 0;
     if used <= gathered.len() {
-        if !streams::put_out(&gathered[..used], b"book_player: standard output") {
+        if !streams::put_out(outlet, &gathered[..used], b"book_player: standard output") {
             now.failed = true;
         }
     }
@@ -33,19 +41,29 @@ pub fn flush(print: Print, gathered: &[u8]) -> Print {
 }
 
 // What is gathered where there is this much room behind it; else it is written out.
-fn with_room(print: Print, room: usize, gathered: &[u8]) -> Print {
+fn with_room<W: Write, E: Write>(
+    print: Print,
+    room: usize,
+    gathered: &[u8],
+    outlet: &mut Outlet<W, E>,
+) -> Print {
     let used = print.used;
     if used <= gathered.len() {
         if room <= gathered.len() - used {
             return print;
         }
     }
-    flush(print, gathered)
+    flush(print, gathered, outlet)
 }
 
 // Prints one byte.
-fn put_byte(print: Print, byte: u8, gathered: &mut [u8]) -> Print {
-    let mut now = with_room(print, 1, gathered);
+fn put_byte<W: Write, E: Write>(
+    print: Print,
+    byte: u8,
+    gathered: &mut [u8],
+    outlet: &mut Outlet<W, E>,
+) -> Print {
+    let mut now = with_room(print, 1, gathered, outlet);
     let used = now.used;
     if used < gathered.len() {
         gathered[used] = byte;
@@ -55,9 +73,14 @@ fn put_byte(print: Print, byte: u8, gathered: &mut [u8]) -> Print {
 }
 
 // Prints a space and a number.
-fn put_field(print: Print, n: u32, gathered: &mut [u8]) -> Print {
-    let mut now = put_byte(print, b' ', gathered);
-    now = with_room(now, 10, gathered);
+fn put_field<W: Write, E: Write>(
+    print: Print,
+    n: u32,
+    gathered: &mut [u8],
+    outlet: &mut Outlet<W, E>,
+) -> Print {
+    let mut now = put_byte(print, b' ', gathered, outlet);
+    now = with_room(now, 10, gathered, outlet);
     let used = now.used;
     if gathered.len() < used {
         return now;
@@ -66,25 +89,24 @@ fn put_field(print: Print, n: u32, gathered: &mut [u8]) -> Print {
         return now;
     }
     let count = text::put_number(n, &mut gathered[used..]);
-    now.used = std::num::wrapping_add_u64(used as u64, count as u64) as usize;
+    now.used = used.wrapping_add(count);
     now
 }
 
 // Prints the first numbers of a list or a table behind a letter.
-pub fn put_numbers(
+pub fn put_numbers<W: Write, E: Write>(
     print: Print,
     letter: u8,
     numbers: &[u32],
     count: usize,
     gathered: &mut [u8],
+    outlet: &mut Outlet<W, E>,
 ) -> Print {
-    let mut now = put_byte(print, letter, gathered);
-    let mut i = 0;
-    while i < numbers.len() && i < count {
-        now = put_field(now, numbers[i], gathered);
-        i += 1;
+    let mut now = put_byte(print, letter, gathered, outlet);
+    for n in numbers.iter().take(count) {
+        now = put_field(now, *n, gathered, outlet);
     }
-    put_byte(now, 10, gathered)
+    put_byte(now, 10, gathered, outlet)
 }
 
 // A byte as a number of 32 bits.
@@ -93,23 +115,30 @@ fn wide(byte: u8) -> u32 {
 }
 
 // Prints the first bytes of an output behind an X.
-pub fn put_bytes(print: Print, bytes: &[u8], count: usize, gathered: &mut [u8]) -> Print {
-    let mut now = put_byte(print, b'X', gathered);
-    let mut i = 0;
-    while i < bytes.len() && i < count {
-        now = put_field(now, wide(bytes[i]), gathered);
-        i += 1;
+pub fn put_bytes<W: Write, E: Write>(
+    print: Print,
+    bytes: &[u8],
+    count: usize,
+    gathered: &mut [u8],
+    outlet: &mut Outlet<W, E>,
+) -> Print {
+    let mut now = put_byte(print, b'X', gathered, outlet);
+    for byte in bytes.iter().take(count) {
+        now = put_field(now, wide(*byte), gathered, outlet);
     }
-    put_byte(now, 10, gathered)
+    put_byte(now, 10, gathered, outlet)
 }
 
 // Prints a few bytes.
-pub fn put_word(print: Print, word: &[u8], gathered: &mut [u8]) -> Print {
+pub fn put_word<W: Write, E: Write>(
+    print: Print,
+    word: &[u8],
+    gathered: &mut [u8],
+    outlet: &mut Outlet<W, E>,
+) -> Print {
     let mut now = print;
-    let mut i = 0;
-    while i < word.len() {
-        now = put_byte(now, word[i], gathered);
-        i += 1;
+    for byte in word {
+        now = put_byte(now, *byte, gathered, outlet);
     }
     now
 }

@@ -1,5 +1,7 @@
 // The calls that only read the tables: looks, what is due and the audit, which are lent no records; the preview of a quote,
 // and those that set and end watches and the pair, which are.
+#![tactic(auto)]
+
 use book::{due, look, past};
 use book_audit::audit;
 use book_by_value::{RecordReply, end, pair, preview, unpair, watch};

@@ -1,5 +1,7 @@
 // The state of the book player: a head, eight records and how much of each buffer is lent, and what a line changes
 // without a call.
+#![tactic(auto)]
+
 mod poking;
 
 ghost use Rattle.std.specs.Prelude.{◌≤◌};
@@ -9,7 +11,7 @@ pub use poking::{begin, poke};
 
 // What is to be printed of a line: nothing, that it cannot be taken, a reply with bytes, what a preview hands back with
 // bytes, a reply with so many cells of a list, what a quote and look in one hands back with both, a verdict, or the tables.
-#[derive(Drop)]
+#[derive(Clone, Copy)]
 pub enum Seen {
     Nothing,
     Unread,
@@ -23,7 +25,7 @@ pub enum Seen {
 
 // How many cells of each table are lent, how many bytes of output, or cells to a look and to what is due, and how many cells to the look behind a
 // quote in one.
-#[derive(Drop)]
+#[derive(Clone, Copy)]
 pub struct Loan {
     pub columns: usize,
     pub positions: usize,
@@ -41,7 +43,7 @@ pub fn least(lent: usize, length: usize) -> usize
 }
 
 // The head for the next call, the records, what is lent, and what is to be printed.
-#[derive(Drop)]
+#[derive(Clone, Copy)]
 pub struct State {
     pub head: Head,
     pub records: [Watch; 8],

@@ -1,7 +1,12 @@
 // The quoting drill for people: reads two hands from files of quote frames, and prints `yes place`, `no` or `R number`.
+#![tactic(auto)]
+
 ghost use Rattle.std.specs.Prelude.{◌+◌, ◌≤◌, length};
 
-use libc::STDERR_FILENO;
+use std::env::Env;
+use std::io::Write;
+use std::rt::Files;
+use streams::{Outlet, say_failure};
 
 // How many bytes of a file are read; a file that has as many or more is no hand.
 const MOST: usize = 65536;
@@ -22,11 +27,8 @@ struct Came {
 }
 
 // Says how the program is used.
-fn say_usage() {
-    io::write_all(
-        STDERR_FILENO,
-        b"usage: quoting_drill D N DIRECTIONS n FIRST SECOND\n",
-    );
+fn say_usage<E: Write>(errors: &mut E) {
+    let _ = errors.write_all(b"usage: quoting_drill D N DIRECTIONS n FIRST SECOND\n");
 }
 
 // The first so many bytes, or all of them where there are fewer.
@@ -48,56 +50,55 @@ fn printed_part<'a>(text: &'a [u8; 16], count: usize) -> &'a [u8] {
 }
 
 // The line with an argument of at most 16 bytes behind it.
-fn with_argument(line: Line, i: usize) -> Line
+fn with_argument<V: Env>(line: Line, i: usize, env: &V) -> Line
     requires { line.used ≤ 51 }
     ensures { result.used ≤ line.used + 17 }
 {
     let mut word = [0u8; 16];
-    let count = os::arg(i, &mut word);
-    let is_whole = os::errno() == 0;
+    let copied = env.arg(i, &mut word);
+    let is_whole = copied.is_ok();
+    let count = copied.unwrap_or(0);
     let used = line.used;
     let mut bytes = line.bytes;
     bytes[used] = 32;
-    let mut j = 0;
-    while j < count {
-        bytes[used + 1 + j] = word[j];
-        j += 1;
-    }
+    let start = used + 1;
+    bytes[start..start + count].copy_from_slice(&word[..count]);
     Line {
         bytes,
-        used: used + 1 + count,
+        used: start + count,
         whole: line.whole & is_whole,
     }
 }
 
-// Reads the file that an argument names; what cannot be read, or is too long, is said on standard error.
-fn read_file(i: usize, bytes: &mut [u8; 65536]) -> Came
+// Nothing of a file.
+fn none() -> Came
     ensures { result.count ≤ 65536 }
 {
-    let mut path = io::buffer();
-    let length = os::arg(i, &mut path);
-    if os::errno() != 0 {
-        os::fail(b"quoting_drill: the name of a file");
-        return Came {
-            count: 0,
-            whole: false,
-        };
+    Came {
+        count: 0,
+        whole: false,
     }
-    let file = os::open_read(&path[..length]);
-    if file < 0 {
-        os::fail(&path[..length]);
-        return Came {
-            count: 0,
-            whole: false,
-        };
-    }
-    let count = io::read_full(file, bytes);
-    libc::close(file);
+}
+
+// Reads a file of this name; what cannot be read, or is too long, is said on the stream of errors.
+fn read_named<R: Files, E: Write>(
+    name: &[u8],
+    bytes: &mut [u8; 65536],
+    rt: &R,
+    errors: &mut E,
+) -> Came
+    ensures { result.count ≤ 65536 }
+{
+    let mut file = match streams::files::open(rt, name) {
+        Ok(file) => file,
+        Err(failure) => {
+            say_failure(errors, name, &failure);
+            return none();
+        }
+    };
+    let count = streams::read_full(&mut file, bytes);
     if MOST <= count {
-        io::write_all(
-            STDERR_FILENO,
-            b"quoting_drill: a file is too long for a hand\n",
-        );
+        let _ = errors.write_all(b"quoting_drill: a file is too long for a hand\n");
     }
     Came {
         count,
@@ -105,9 +106,32 @@ fn read_file(i: usize, bytes: &mut [u8; 65536]) -> Came
     }
 }
 
-fn main() {
-    if os::arg_count() != 7 {
-        say_usage();
+// Reads the file that an argument names; what cannot be read, or is too long, is said on the stream of errors.
+fn read_file<R: Env + Files, E: Write>(
+    i: usize,
+    bytes: &mut [u8; 65536],
+    rt: &R,
+    errors: &mut E,
+) -> Came
+    ensures { result.count ≤ 65536 }
+{
+    let mut path = [0u8; 4096];
+    match rt.arg(i, &mut path) {
+        Ok(length) => read_named(&path[..length], bytes, rt, errors),
+        Err(_) => {
+            let _ = errors.write_all(b"quoting_drill: the name of a file: File name too long\n");
+            none()
+        }
+    }
+}
+
+fn main(rt: HostRuntime) {
+    let mut outlet = Outlet {
+        output: rt.stdout(),
+        errors: rt.stderr(),
+    };
+    if streams::arguments::count(&rt) != 7 {
+        say_usage(&mut outlet.errors);
         return;
     }
     let mut line = Line {
@@ -115,24 +139,24 @@ fn main() {
         used: 0,
         whole: true,
     };
-    line = with_argument(line, 1);
-    line = with_argument(line, 2);
-    line = with_argument(line, 3);
-    line = with_argument(line, 4);
+    line = with_argument(line, 1, &rt);
+    line = with_argument(line, 2, &rt);
+    line = with_argument(line, 3, &rt);
+    line = with_argument(line, 4, &rt);
     let used = line.used;
     let bytes = line.bytes;
     let asked = drill_hands::rules_in(front(&bytes[..], used));
     if !(asked.valid & line.whole) {
-        say_usage();
+        say_usage(&mut outlet.errors);
         return;
     }
     let mut first = [0u8; MOST];
-    let one = read_file(5, &mut first);
+    let one = read_file(5, &mut first, &rt, &mut outlet.errors);
     if !one.whole {
         return;
     }
     let mut second = [0u8; MOST];
-    let two = read_file(6, &mut second);
+    let two = read_file(6, &mut second, &rt, &mut outlet.errors);
     if !two.whole {
         return;
     }
@@ -143,6 +167,7 @@ fn main() {
     let mut text = [0u8; 16];
     let count = drill_hands::put_outcome(outcome, &mut text);
     streams::put_out(
+        &mut outlet,
         printed_part(&text, count),
         b"quoting_drill: standard output",
     );

@@ -1,5 +1,8 @@
 // The tape printer: plays the tape on standard input, and prints it on standard output. It keeps one piece of the tape at a time.
+#![tactic(auto)]
+
 use head::Head;
+use streams::Outlet;
 use table_starts::{SLIDING_CELLS, SLIDING_PLACES, Start};
 use tape_pieces::play_piece;
 use tape_playback::Playback;
@@ -11,7 +14,7 @@ const GATHERED: usize = 65536;
 // How many bytes of a tape are kept at a time.
 const PIECE: usize = 65536;
 
-fn main() {
+fn main(rt: HostRuntime) {
     let mut columns = [0u32; SLIDING_CELLS];
     let mut positions = [0u32; SLIDING_PLACES];
     let mut lower_ends = [0u32; SLIDING_PLACES];
@@ -29,10 +32,21 @@ fn main() {
         ended: false,
         over: false,
     };
-    let mut turns = u64::MAX;
-    while 0 < turns && !playback.over {
-        turns -= 1;
-        playback = refill(flush(playback, &text), &mut tape);
+    let mut input = rt.stdin();
+    let mut outlet = Outlet {
+        output: rt.stdout(),
+        errors: rt.stderr(),
+    };
+    for _ in 0..u64::MAX {
+        if playback.over {
+            break;
+        }
+        playback = refill(
+            flush(playback, &text, &mut outlet),
+            &mut tape,
+            &mut input,
+            &mut outlet.errors,
+        );
         let end = playback.end;
         playback = play_piece(
             playback,
@@ -45,5 +59,5 @@ fn main() {
             &mut text,
         );
     }
-    flush(playback, &text);
+    flush(playback, &text, &mut outlet);
 }

@@ -6,7 +6,7 @@ use native.Mathlib.Omega.{arith}
 use mathlib.Core.Bool.{Bool, true, false, ◌||◌, not}
 use mathlib.Core.List.{List, [], ◌++◌, append-nil}
 use lib.Dec.{ltb}
-use lib.ListN.{length, take, drop, length-append, length-take, length-drop}
+use lib.ListN.{length, take, drop, length-take, length-drop}
 use lib.Seq.{length-take-le, take_at, drop_at, take-add, take-append-add, take-append-le}
 use borrow.Rule.Slice.PartMut.{mid_of, put_mid, same_len_mid}
 use Rattle.lists.specs.Lists.{laid}
@@ -59,6 +59,19 @@ module _ (s : Playback) (tape : List ℕ) (h : (s.place ≤ s.end) × (s.end ≤
     book = record { head = refl; watches = refl; start = refl };
   }
 
+  -- what is not played stands in front of the bytes that were read
+  pub read_kept : (last : List ℕ) {front : List ℕ} {count : ℕ} → front ≡ laid (take rest (drop s.place tape)) tape → count ≤ length last
+      → take (rest + count) (put_mid rest (length front - rest) front last) ≡ pending s tape ++ take count last
+  unfolding laid
+  read_kept last {front = front} {count = count} f c =
+      let kept : List ℕ = take rest (drop s.place tape) in
+      let long : length kept ≡ rest = sym (ap length pending_is) ∙ pending_long in
+      let stands : take rest front ≡ kept = ap (take rest) f ∙ take_at kept (drop (length kept) tape) rest long in
+      let post : List ℕ = drop (length front - rest) (drop rest front) in
+      let read : take (rest + count) (kept ++ (last ++ post)) ≡ kept ++ take count last =
+      ap (λ (n : ℕ). take (n + count) (kept ++ (last ++ post))) (sym long) ∙ take-append-add kept (last ++ post) count ∙ ap (λ (xs : List ℕ). kept ++ xs) (take-append-le count last post c) in
+      ap (λ (xs : List ℕ). take (rest + count) (xs ++ (last ++ post))) stands ∙ read ∙ ap (λ (xs : List ℕ). xs ++ take count last) (sym pending_is)
+
   -- what is not played is moved to the front, and these bytes are read behind it
   pub refill_read : 28 ≤ length tape → (last : List ℕ) {test : Bool} {front : List ℕ} {count : ℕ} {more : Bool} → test ≡ settled (take s.end tape) s.place → (s.over || s.ended) || test ≡ false → front ≡ laid (take rest (drop s.place tape)) tape
       → count ≤ length last → length last ≡ length (mid_of rest (length front - rest) front) → (0 < length last → more ≡ ltb 0 count)
@@ -70,15 +83,11 @@ module _ (s : Playback) (tape : List ℕ) (h : (s.place ≤ s.end) × (s.end ≤
       let kept : List ℕ = take rest (drop s.place tape) in
       let long : length kept ≡ rest = sym (ap length pending_is) ∙ pending_long in
       let whole : length front ≡ length tape = ap length f ∙ length_laid kept tape (omega (arith, long)) in
-      let stands : take rest front ≡ kept = ap (take rest) f ∙ take_at kept (drop (length kept) tape) rest long in
       let came : length (take count last) ≡ count = length-take-le count last c in
       let room : 0 < length last = omega (arith, whole, k, pending_long, reads_short (tested r e), simp (length-take, length-drop) at l) in
-      let post : List ℕ = drop (length front - rest) (drop rest front) in
-      let read : take (rest + count) (kept ++ (last ++ post)) ≡ kept ++ take count last =
-      ap (λ (n : ℕ). take (n + count) (kept ++ (last ++ post))) (sym long) ∙ take-append-add kept (last ++ post) count ∙ ap (λ (xs : List ℕ). kept ++ xs) (take-append-le count last post c) in
       record {
         came = take count last;
-        kept = ap (λ (xs : List ℕ). take (rest + count) (xs ++ (last ++ post))) stands ∙ read ∙ ap (λ (xs : List ℕ). xs ++ take count last) (sym pending_is);
+        kept = read_kept last f c;
         quiet = λ t. absurd (clash (supplied s tape) t (tested r e));
         read = λ _. rw came (ap not (m room));
         inside = omega arith;

@@ -1,9 +1,14 @@
 // The venue joiner: joins the tapes of two venues, read from two files, and writes the joined pairs, or their quotes alone, to standard
 // output. It keeps one piece of each tape at a time.
-ghost use Rattle.std.specs.Prelude.{◌≡◌, ◌≤◌, length};
-ghost use Rattle.io.specs.Counts.{IsPrefixLen};
+#![tactic(auto)]
 
-use libc::STDERR_FILENO;
+ghost use Rattle.std.specs.Prelude.{◌≡◌, ◌≤◌, length};
+ghost use Rattle.streams.specs.Counts.{IsPrefixLen};
+
+use std::env::Env;
+use std::io::{Read, Write};
+use std::rt::Files;
+use streams::{Outlet, say_failure};
 use venue_join::Venue;
 use venue_pieces::{Joiner, has_enough, join_piece};
 
@@ -18,11 +23,17 @@ struct Came {
     failed: bool,
 }
 
+// An open file, and its name.
+#[derive(Drop)]
+struct NamedFile<'a, F> {
+    file: F,
+    name: &'a [u8],
+}
+
 // A tape in a file: the place of its next frame and the end of what has come of it, whether the file has ended, and whether it cannot be
 // read.
-#[derive(Drop)]
+#[derive(Clone, Copy)]
 struct Source {
-    file: i32,
     place: usize,
     end: usize,
     ended: bool,
@@ -31,7 +42,7 @@ struct Source {
 
 // Where the joiner stands: both tapes with their last stamps, how many bytes are gathered, the number of the last answer, and whether it is
 // over.
-#[derive(Drop)]
+#[derive(Clone, Copy)]
 struct Progress {
     first: Source,
     second: Source,
@@ -42,23 +53,38 @@ struct Progress {
     over: bool,
 }
 
-// Reads from a file into the buffer. A file that cannot be read is named on standard error.
-fn read_from(file: i32, buffer: &mut [u8], name: &[u8]) -> Came
+// Reads from a file into the buffer. A file that cannot be read is named on the stream of errors.
+fn read_from<F: Read, E: Write>(
+    named: &mut NamedFile<'_, F>,
+    buffer: &mut [u8],
+    errors: &mut E,
+) -> Came
     ensures { IsPrefixLen result.count buffer.new }
 {
-    let got = libc::read(file, buffer);
-    if got < 0 {
-        os::fail(name);
-    }
-    Came {
-        count: io::count(got, buffer),
-        more: 0 < got,
-        failed: got < 0,
+    match named.file.read(buffer) {
+        Ok(count) => Came {
+            count,
+            more: 0 < count,
+            failed: false,
+        },
+        Err(failure) => {
+            say_failure(errors, named.name, &failure);
+            Came {
+                count: 0,
+                more: false,
+                failed: true,
+            }
+        }
     }
 }
 
 // Reads on behind a pair that has not come whole, which is moved to the front of what has come of the tape.
-fn refill(source: Source, tape: &mut [u8], name: &[u8]) -> Source
+fn refill<F: Read, E: Write>(
+    source: Source,
+    tape: &mut [u8],
+    file: &mut NamedFile<'_, F>,
+    errors: &mut E,
+) -> Source
     requires { (source.place ≤ source.end) × (source.end ≤ length tape.old) }
     ensures { (result.place ≤ result.end) × (result.end ≤ length tape.old) }
 {
@@ -70,7 +96,7 @@ fn refill(source: Source, tape: &mut [u8], name: &[u8]) -> Source
     }
     let rest = end - place;
     streams::to_front(tape, place, end);
-    let came = read_from(now.file, &mut tape[rest..], name);
+    let came = read_from(file, &mut tape[rest..], errors);
     now.place = 0;
     now.end = rest + came.count;
     now.ended = !came.more;
@@ -79,7 +105,7 @@ fn refill(source: Source, tape: &mut [u8], name: &[u8]) -> Source
 }
 
 // Writes out what is gathered; where that fails it is over.
-fn flush(progress: Progress, out: &[u8]) -> Progress
+fn flush<W: Write, E: Write>(progress: Progress, out: &[u8], outlet: &mut Outlet<W, E>) -> Progress
     requires { progress.used ≤ length out.now }
     ensures { (result.used ≡ 0) × (result.first.place ≡ progress.first.place) ×
         (result.first.end ≡ progress.first.end) × (result.second.place ≡ progress.second.place) ×
@@ -88,7 +114,7 @@ fn flush(progress: Progress, out: &[u8]) -> Progress
     let used = progress.used;
     let mut now = progress;
     now.used = 0;
-    if !streams::put_out(&out[..used], b"venue_joiner: standard output") {
+    if !streams::put_out(outlet, &out[..used], b"venue_joiner: standard output") {
         now.over = true;
     }
     now
@@ -148,14 +174,15 @@ fn join_on<'a>(
 }
 
 // One turn: writes out what is gathered, reads on in both files, and joins what has come.
-fn turn(
+fn turn<F: Read, W: Write, E: Write>(
     progress: Progress,
     first: &mut [u8],
     second: &mut [u8],
-    first_name: &[u8],
-    second_name: &[u8],
+    first_file: &mut NamedFile<'_, F>,
+    second_file: &mut NamedFile<'_, F>,
     quotes: bool,
     out: &mut [u8],
+    outlet: &mut Outlet<W, E>,
 ) -> Progress
     requires used_in_bounds { progress.used ≤ length out.old }
     requires place_le_end { (progress.first.place ≤ progress.first.end) × (progress.first.end ≤ length first.old) }
@@ -164,12 +191,12 @@ fn turn(
         (result.first.end ≤ length first.old) × (result.second.place ≤ result.second.end) ×
         (result.second.end ≤ length second.old) }
 {
-    let mut now = flush(progress, out);
+    let mut now = flush(progress, out, outlet);
     if now.over {
         return now;
     }
-    let source = refill(now.first, first, first_name);
-    let other = refill(now.second, second, second_name);
+    let source = refill(now.first, first, first_file, &mut outlet.errors);
+    let other = refill(now.second, second, second_file, &mut outlet.errors);
     now.first = source;
     now.second = other;
     let end = source.end;
@@ -178,11 +205,10 @@ fn turn(
 }
 
 // A tape in a file that was just opened.
-fn opened(file: i32) -> Source
+fn opened() -> Source
     ensures { (result.place ≡ 0) × (result.end ≡ 0) }
 {
     Source {
-        file,
         place: 0,
         end: 0,
         ended: false,
@@ -191,137 +217,143 @@ fn opened(file: i32) -> Source
 }
 
 // Joins two files, and answers the number of the last answer.
-fn join_files(
-    first_file: i32,
-    second_file: i32,
-    first_name: &[u8],
-    second_name: &[u8],
+fn join_files<F: Read, W: Write, E: Write>(
+    first_file: &mut NamedFile<'_, F>,
+    second_file: &mut NamedFile<'_, F>,
     quotes: bool,
+    outlet: &mut Outlet<W, E>,
 ) -> u32 {
     let mut first = [0u8; PIECE];
     let mut second = [0u8; PIECE];
     let mut out = [0u8; PIECE];
     let mut progress = Progress {
-        first: opened(first_file),
-        second: opened(second_file),
+        first: opened(),
+        second: opened(),
         one: 0,
         two: 0,
         used: 0,
         answer: 0,
         over: false,
     };
-    let mut turns = u64::MAX;
-    while 0 < turns && !progress.over {
-        turns -= 1;
+    for _ in 0..u64::MAX {
+        if progress.over {
+            break;
+        }
         progress = turn(
             progress,
             &mut first,
             &mut second,
-            first_name,
-            second_name,
+            first_file,
+            second_file,
             quotes,
             &mut out,
+            outlet,
         );
     }
-    flush(progress, &out).answer
+    flush(progress, &out, outlet).answer
 }
 
-// Says a refusal's number and what it means on standard error; nothing of a pair or the end.
-fn say(answer: u32) {
+// What the number of an answer that is no pair and not the end means.
+fn meaning(answer: u32) -> &'static str {
+    match answer {
+        1 => "a frame's kind is unknown",
+        2 => "a frame is cut by the end of its tape",
+        7 => "a frame is neither a stamp nor a quote",
+        15 => "a stamp is below the last of its tape, or above 86399999",
+        _ => "a quote has no stamp before it, or a stamp no quote behind it",
+    }
+}
+
+// Says a refusal's number and what it means on the stream of errors; nothing of a pair or the end.
+fn say<E: Write>(answer: u32, errors: &mut E) {
     if (answer == 0) | (answer == 100) {
         return;
     }
-    io::write_all(STDERR_FILENO, b"R ");
-    io::print_decimal(STDERR_FILENO, answer as u64);
-    match answer {
-        1 => io::write_all(STDERR_FILENO, b" a frame's kind is unknown\n"),
-        2 => io::write_all(STDERR_FILENO, b" a frame is cut by the end of its tape\n"),
-        7 => io::write_all(STDERR_FILENO, b" a frame is neither a stamp nor a quote\n"),
-        15 => io::write_all(
-            STDERR_FILENO,
-            b" a stamp is below the last of its tape, or above 86399999\n",
-        ),
-        _ => io::write_all(
-            STDERR_FILENO,
-            b" a quote has no stamp before it, or a stamp no quote behind it\n",
-        ),
-    };
+    let meant = meaning(answer);
+    let _ = writeln!(errors, "R {answer} {meant}");
 }
 
-// Opens both files and joins them. A file that cannot be opened is named on standard error.
-fn join_named(first_name: &[u8], second_name: &[u8], quotes: bool) {
-    let first = os::open_read(first_name);
-    if first < 0 {
-        os::fail(first_name);
-        return;
+// Opens a file. One that cannot be opened is named on the stream of errors.
+fn open<'a, R: Files, E: Write>(
+    files: &R,
+    name: &'a [u8],
+    errors: &mut E,
+) -> Option<NamedFile<'a, R::File>> {
+    match streams::files::open(files, name) {
+        Ok(file) => Some(NamedFile { file, name }),
+        Err(failure) => {
+            say_failure(errors, name, &failure);
+            None
+        }
     }
-    let second = os::open_read(second_name);
-    if second < 0 {
-        os::fail(second_name);
-        libc::close(first);
+}
+
+// Opens both files and joins them.
+fn join_named<R: Files, W: Write, E: Write>(
+    files: &R,
+    first_name: &[u8],
+    second_name: &[u8],
+    quotes: bool,
+    outlet: &mut Outlet<W, E>,
+) {
+    let Some(mut first) = open(files, first_name, &mut outlet.errors) else {
         return;
-    }
-    say(join_files(first, second, first_name, second_name, quotes));
-    libc::close(first);
-    libc::close(second);
+    };
+    let Some(mut second) = open(files, second_name, &mut outlet.errors) else {
+        return;
+    };
+    let answer = join_files(&mut first, &mut second, quotes, outlet);
+    say(answer, &mut outlet.errors);
 }
 
 // Whether a word is `quotes`.
 fn is_quotes(word: &[u8]) -> bool {
-    let right = b"quotes";
-    if word.len() != right.len() {
-        return false;
-    }
-    let mut i = 0;
-    while i < word.len() {
-        if word[i] != right[i] {
-            return false;
-        }
-        i += 1;
-    }
-    true
+    word == b"quotes".as_slice()
 }
 
 // Whether the third argument is there and is `quotes`.
-fn third_is_quotes() -> bool {
+fn third_is_quotes<V: Env>(env: &V) -> bool {
     let mut word = [0u8; 8];
-    let length = os::arg(3, &mut word);
-    if os::errno() != 0 {
-        return false;
+    match env.arg(3, &mut word) {
+        Ok(length) => is_quotes(&word[..length]),
+        Err(_) => false,
     }
-    is_quotes(&word[..length])
 }
 
 // Says how the program is used.
-fn usage() {
-    io::write_all(
-        STDERR_FILENO,
-        b"usage: venue_joiner FIRST SECOND [quotes]\n",
-    );
+fn usage<E: Write>(errors: &mut E) {
+    let _ = errors.write_all(b"usage: venue_joiner FIRST SECOND [quotes]\n");
 }
 
-fn main() {
-    let count = os::arg_count();
-    let quotes = third_is_quotes();
+// How many bytes the name of a file has at most.
+const LONGEST_NAME: usize = 4096;
+
+fn main(rt: HostRuntime) {
+    let mut outlet = Outlet {
+        output: rt.stdout(),
+        errors: rt.stderr(),
+    };
+    let count = streams::arguments::count(&rt);
+    let quotes = third_is_quotes(&rt);
     if (count != 3) & !((count == 4) & quotes) {
-        usage();
+        usage(&mut outlet.errors);
         return;
     }
-    let mut first_name = io::buffer();
-    let first_length = os::arg(1, &mut first_name);
-    if os::errno() != 0 {
-        usage();
+    let mut first_name = [0u8; LONGEST_NAME];
+    let Ok(first_length) = rt.arg(1, &mut first_name) else {
+        usage(&mut outlet.errors);
         return;
-    }
-    let mut second_name = io::buffer();
-    let second_length = os::arg(2, &mut second_name);
-    if os::errno() != 0 {
-        usage();
+    };
+    let mut second_name = [0u8; LONGEST_NAME];
+    let Ok(second_length) = rt.arg(2, &mut second_name) else {
+        usage(&mut outlet.errors);
         return;
-    }
+    };
     join_named(
+        &rt,
         &first_name[..first_length],
         &second_name[..second_length],
         quotes,
+        &mut outlet,
     );
 }
