@@ -1,4 +1,6 @@
 // The two functions that a C host calls: the check of a frame and the comparison of two quote frames.
+#![tactic(auto)]
+
 ghost use Rattle.std.specs.Prelude.{◌≡◌};
 ghost use Rattle.host_standing.specs.Standing.{answered};
 ghost use Rattle.host.specs.Host.{check_of, column_count, compare_of};

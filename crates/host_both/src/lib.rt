@@ -1,4 +1,6 @@
 // The quote and look in one, for a C host.
+#![tactic(auto)]
+
 ghost use Rattle.model.specs.Promises.{tables, QuotedLooked};
 ghost use Rattle.host_cells.specs.Cells.{head_in, records_in, Answered, Hands, Counts};
 

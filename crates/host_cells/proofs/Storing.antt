@@ -1,12 +1,12 @@
 -- Eight records stored in sixteen cells: what the cells hold then.
-use mathlib.Core.Path.{◌≡◌, refl, sym, ◌∙◌, ap}
+use mathlib.Core.Path.{◌≡◌, sym, ◌∙◌, ap}
 use Prim.Native.Nat.{ℕ, ◌≤◌}
 use native.Mathlib.Omega.{arith}
 use mathlib.Core.List.{List, [], ◌∷◌, map}
-use lib.ListN.{length, get_or, take, drop, set}
+use lib.ListN.{length, get_or, drop, set}
 use lib.Seq.{take_all}
 use Rattle.lists.specs.Lists.{run, laid}
-use Rattle.lists.proofs.Laying.{Front, front_none, front_store}
+use Rattle.lists.proofs.Laying.{front_none, front_store}
 use Rattle.lists.proofs.Places.{map_places}
 use Rattle.head.specs.declared.Watch.{Watch}
 use Rattle.watch_records.specs.Records.{record_number, watched}

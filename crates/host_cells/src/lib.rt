@@ -1,4 +1,6 @@
 // What the cells of a C host hold: a head in eight, a watch record in two, and what an answer and a desk are as numbers.
+#![tactic(auto)]
+
 ghost use Rattle.std.specs.Prelude.{◌≡◌, ◌≤◌, length, drop};
 ghost use Rattle.refusals.specs.Refusals.{number_of};
 ghost use Rattle.watch_records.specs.Records.{watched};

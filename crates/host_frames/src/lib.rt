@@ -1,4 +1,6 @@
 // The reader of frames and their writer for a C host, with a frame in seven cells: its kind and six values.
+#![tactic(auto)]
+
 ghost use Rattle.std.specs.Prelude.{◌≡◌, length};
 ghost use Rattle.frames.specs.Frames.{read_at};
 ghost use Rattle.frames.specs.Moved.{Moved};
@@ -11,7 +13,7 @@ use frames::{Message, OPEN, Place, Read};
 use host_cells::number_of;
 
 // What was read, and the place after it.
-#[derive(Drop)]
+#[derive(Clone, Copy)]
 pub struct Found {
     pub read: Read,
     pub place: Place,

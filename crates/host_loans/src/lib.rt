@@ -1,4 +1,6 @@
 // The answer of a call for a C host that is lent fewer than eight records in its cells.
+#![tactic(auto)]
+
 ghost use Rattle.std.specs.Prelude.{◌≡◌};
 ghost use Rattle.call_judging.specs.Answers.{short_loan_answer};
 

@@ -1,4 +1,6 @@
 // The calls for a C host that are lent no records: look, past look, what is due, and the audit.
+#![tactic(auto)]
+
 ghost use Rattle.std.specs.Prelude.{◌≡◌};
 ghost use Rattle.model_audit.specs.Audit.{audit_finding};
 ghost use Rattle.head.specs.Replies.{finding};

@@ -1,4 +1,6 @@
 // One frame of a tape played for a C host, its lines laid at the start of a lent text.
+#![tactic(auto)]
+
 ghost use Rattle.std.specs.Prelude.{◌≡◌};
 ghost use Rattle.head.specs.Desks.{record_of};
 ghost use Rattle.model.specs.Promises.{tables};

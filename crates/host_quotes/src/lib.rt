@@ -1,4 +1,6 @@
 // The calls for a C host that write the tables or would: the opening, the quote and its preview.
+#![tactic(auto)]
+
 ghost use Rattle.std.specs.Prelude.{◌≡◌};
 ghost use Rattle.refusals.specs.Refusals.{granted};
 ghost use Rattle.model.specs.Promises.{tables, Opened, Quoted, Previewed};

@@ -1,4 +1,6 @@
 // The comparison of two quotes: how the first stands to the second by their columns, in four answers (02, 7/13).
+#![tactic(auto)]
+
 ghost use Rattle.std.specs.Prelude.{◌≡◌};
 ghost use Rattle.host_standing.specs.Standing.{standing_by, number, answered, comparison};
 
@@ -6,7 +8,7 @@ use dominance::{Comparison, compare};
 use refusals::Refusal;
 
 // How the first of two quotes stands to the second, by their columns alone. The numbers are 02's.
-#[derive(Drop)]
+#[derive(Clone, Copy)]
 pub enum Standing {
     FirstBetter,
     SecondBetter,
@@ -48,7 +50,7 @@ impl Standing {
 }
 
 // What the comparison hands back: how the quotes stand, or why they are not compared.
-#[derive(Drop)]
+#[derive(Clone, Copy)]
 pub enum Compared {
     Stands(Standing),
     Refused(Refusal),

@@ -1,4 +1,6 @@
 // The calls for a C host on the watches: a desk's watch and its end, the pair and its end.
+#![tactic(auto)]
+
 ghost use Rattle.std.specs.Prelude.{◌≡◌};
 ghost use Rattle.model.specs.Promises.{tables, Watched, Ended, Paired, Unpaired};
 ghost use Rattle.host_cells.specs.Cells.{head_in, desk_of, records_in, Answered, Hands, Counts, OnlyEight};

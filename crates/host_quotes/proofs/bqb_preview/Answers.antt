@@ -1,0 +1,12 @@
+-- `bqb_preview` meets its contract: the promise of the preview at the head and the records that the cells hold.
+use mathlib.Core.Path.{refl}
+use Rattle.host_loans.proofs.Loans.{lent_eight, preview_told, preview_short_told}
+use Rattle.host_quotes.proofs.bqb_preview.Goals as goal
+
+pub returns-then-watches-lt16 : goal.returns-then-watches-lt16
+returns-then-watches-lt16 c = preview_short_told c.head_of-before.ensures c.args.watches.now c.if-watches-lt16.true c.short_answer.ensures
+
+pub returns : goal.returns
+returns c =
+    let lent = lent_eight c.records_of.result c.args.watches.now c.records_of.ensures c.if-watches-lt16.false in
+    preview_told c.head_of-before.ensures lent c.preview-effect.ensures c.number_of.ensures refl
