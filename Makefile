@@ -1,17 +1,20 @@
-# make test runs every check; its last line counts those of rt. make try and make run play a tape; make bench measures.
+# make test runs every check; its last line is that of `rt ci`. make try and make run play a tape; make bench measures.
 # What rt prints goes to a log under build/; standard error gets a line for each crate.
 SHELL := /bin/bash
 .SHELLFLAGS := -euo pipefail -c
-.PHONY: test proofs models try run host random random-calls rules plants rule-plants yardstick notation citations tapes \
+.PHONY: test proofs models programs try run host random random-calls rules plants rule-plants yardstick notation citations tapes \
   test-slow bench late pieces venues spreadsheet days day-plants drill panel random-panel test-memory install
 
-PRINTER ?= target/bin/tape_printer
-WRITER ?= target/bin/tape_writer
-PLAYER ?= target/bin/book_player
-JOINER ?= target/bin/venue_joiner
-IMPORTER ?= target/bin/csv_import
-DAY_SHEET ?= target/bin/day_sheet
-DRILL ?= target/bin/quoting_drill
+# where rt leaves the executable of a program
+executable = crates/$(1)/out/$(1)
+PRINTER ?= $(call executable,tape_printer)
+WRITER ?= $(call executable,tape_writer)
+PLAYER ?= $(call executable,book_player)
+JOINER ?= $(call executable,venue_joiner)
+IMPORTER ?= $(call executable,csv_import)
+DAY_SHEET ?= $(call executable,day_sheet)
+DRILL ?= $(call executable,quoting_drill)
+EXECUTABLES := $(foreach name,tape_printer tape_writer book_player venue_joiner csv_import day_sheet quoting_drill,$(call executable,$(name)))
 TAPE ?= tapes/worked.tape
 SEED ?= 1
 TAPES ?= 10000
@@ -37,17 +40,21 @@ VENUE_PLANTS := second-on-equal fifteen-before-seven sixteen-before-fifteen midn
 SHEET_PLANTS := lf-cuts leading-zero above empty-rest last-misfit fewer-columns
 DAY_PLANTS := equals-stay earlier-stands halves-apart from-zero longest-refused columns-first
 DRILL_PLANTS := some-reply last-place equals-stay four-first pass-ends list-of-memory
-# the crates whose exported functions are the book's library for C
+# the crates, static libraries each, whose exported functions are the book's library for C; and that of the screen's two functions
 BOOK_CRATES := host_frames host_looks host_quotes host_both host_watches host_plays
 BOOK_LIBRARY := build/libbest_quote_book.a
-LIBRARIES := $(patsubst %,target/staticlib/lib%.a,host $(BOOK_CRATES))
+archive = crates/$(1)/out/lib$(1).a
+BOOK_ARCHIVES := $(foreach name,$(BOOK_CRATES),$(call archive,$(name)))
+SCREEN_LIBRARY := $(call archive,host)
 CC := gcc -std=c11 -O2 -Wall -Wextra -Werror -Ihost
 SANITIZED := -g -fsanitize=address,undefined -fno-sanitize-recover=all
 SAMPLES := $(basename $(wildcard tapes/*.txt))
 # of a command, the program that is made here; another's stands already
-made = $(filter target/bin/% build/%,$(firstword $(1)))
-# one run of rt at a time: two in one target/ read each other's marks
-RT := flock build/rt.lock rt
+made = $(filter crates/% build/%,$(firstword $(1)))
+# what a proof reads, but nothing that rt keeps
+SOURCES := crates.txt $(shell find crates -name out -prune -o -type f '(' -name '*.rt' -o -name '*.antt' ')' -print)
+# one run of rt at a time
+ALONE := flock $(CURDIR)/build/rt.lock
 # a test leaves its core to a check that wants it
 IDLE := nice -n 19
 RUSTC := env -u MAKEFLAGS -u MFLAGS $(IDLE) rustc --edition 2021 -O -D warnings
@@ -58,9 +65,13 @@ test: citations
 	@tools/dearest.sh build/ci.txt
 	@tail -n 1 build/ci.txt | grep -Ex '[0-9]+ passed, 0 failed'
 
-# every crate from nothing, every must-fail edit, every program
+# every crate from nothing, every must-fail edit, every program as both compilers make it; an edit that cannot be applied or
+# read fails here, and not in rt ci
 proofs: | build
-	@$(RT) ci 2>&1 | tools/progress.sh build/ci.txt
+	@touch build/ci_begun
+	@$(ALONE) rt ci 2>&1 | tools/progress.sh build/ci.txt
+	@tools/edits_are_good.sh build/ci.txt
+	@mv build/ci_begun build/ci_passed
 
 # beside the first crates, on what they leave idle: the tests built, and the models held against small tapes and themselves
 models: build/plain_model build/random_calls build/late_book build/notation rules rule-plants build/venues build/spreadsheet \
@@ -68,8 +79,9 @@ models: build/plain_model build/random_calls build/late_book build/notation rule
 
 # the printer on the worked tape before anything is proved, by the toolchain's own trial, with its print
 try: | build
-	@$(RT) try tape_printer > build/try.txt 2>&1 || { cat build/try.txt; exit 1; }
-	@cat crates/tape_printer/stdout
+	@(cd crates/tape_printer && rt try < stdin 2> ../../build/try.txt) > build/try_print.txt || { cat build/try.txt; exit 1; }
+	@cmp build/try_print.txt crates/tape_printer/stdout
+	@cat build/try_print.txt
 	@tail -n 1 build/try.txt
 
 run: $(PRINTER)
@@ -90,18 +102,16 @@ panel: build/panel build/panel_sanitized build/refused_calls_sanitized $(PRINTER
 	done
 	@build/refused_calls_sanitized > /dev/null
 
-$(LIBRARIES) &: crates.txt $(shell find crates -name '*.rt' -o -name '*.antt') | build
-	@for crate in host $(BOOK_CRATES); do \
-	    $(RT) staticlib $$crate 2>&1 | tools/progress.sh build/staticlib_$$crate.txt $$crate; \
-	done
+$(SCREEN_LIBRARY) $(BOOK_ARCHIVES) &: $(SOURCES) | build
+	@for crate in host $(BOOK_CRATES); do $(ALONE) tools/static_library.sh $$crate; done
 
 # one library of the functions that several crates export: each archive has one object, whose other names are its own
-$(BOOK_LIBRARY): $(BOOK_CRATES:%=target/staticlib/lib%.a) | build
+$(BOOK_LIBRARY): $(BOOK_ARCHIVES) | build
 	@rm -f $@
 	@{ echo 'create $@'; printf 'addlib %s\n' $^; echo save; echo end; } | ar -M
 
-build/worked_host: host/worked_host.c host/best_quote.h target/staticlib/libhost.a | build
-	@$(CC) -o $@ $< target/staticlib/libhost.a
+build/worked_host: host/worked_host.c host/best_quote.h $(SCREEN_LIBRARY) | build
+	@$(CC) -o $@ $< $(SCREEN_LIBRARY)
 
 build/%: host/%.c host/best_quote_book.h $(BOOK_LIBRARY)
 	@$(CC) -o $@ $< $(BOOK_LIBRARY)
@@ -110,9 +120,9 @@ build/%_sanitized: host/%.c host/best_quote_book.h $(BOOK_LIBRARY)
 	@$(CC) $(SANITIZED) -o $@ $< $(BOOK_LIBRARY)
 
 # both libraries and their manuals, and what pkg-config says of them
-install: target/staticlib/libhost.a $(BOOK_LIBRARY)
+install: $(SCREEN_LIBRARY) $(BOOK_LIBRARY)
 	@install -d $(PREFIX)/lib/pkgconfig $(PREFIX)/include
-	@install -m 644 target/staticlib/libhost.a $(PREFIX)/lib/libbest_quote.a
+	@install -m 644 $(SCREEN_LIBRARY) $(PREFIX)/lib/libbest_quote.a
 	@install -m 644 $(BOOK_LIBRARY) $(PREFIX)/lib/
 	@install -m 644 host/best_quote.h host/best_quote_book.h $(PREFIX)/include/
 	@sed 's,@PREFIX@,$(abspath $(PREFIX)),' host/best_quote_book.pc.in > $(PREFIX)/lib/pkgconfig/best_quote_book.pc
@@ -235,8 +245,15 @@ bench: build/bench build/yardstick build/plain_model build/make_tape build/join 
 	@build/day_bench $(DAY_SHEET) $(RUNS)
 	@build/drill_time $(DRILL)
 
-target/bin/%: crates.txt $(shell find crates -name '*.rt' -o -name '*.antt') | build
-	@$(RT) check $* 2>&1 | tools/progress.sh build/$*.txt $*
+# each program's executable
+programs: $(EXECUTABLES)
+
+# rt ci leaves each program's executable; where it has not run since a change, rt run proves, builds and runs the program, here on
+# no input and whatever its status
+$(EXECUTABLES): $(SOURCES) | build
+	@rm -f $@
+	@(cd crates/$(@F) && $(ALONE) rt run < /dev/null 2>&1 > /dev/null || true) | tools/progress.sh build/$(@F).txt
+	@test -x $@
 
 build/%: tests/%.rs $(wildcard tests/*.rs) | build
 	@$(RUSTC) -o $@ $<

@@ -1,6 +1,7 @@
 /* The best-quote book for a C host: the check of a frame and the comparison of two quote frames.
 
-   Link with target/staticlib/libhost.a, which `rt staticlib host` writes (x86-64 Linux).
+   Link with libbest_quote.a, which `make install` puts beside this header, or with what it is a copy
+   of, crates/host/out/libhost.a, which `make host` leaves (x86-64 Linux).
 
    Both functions are pure: they read the bytes they are given, keep nothing, write nothing and
    allocate nothing. Any number of threads may call them at once. The caller owns every buffer; a

@@ -8,22 +8,23 @@ text=${1:-docs/PROOFS.md}
 # words of the language and the commands
 words='rt make requires ensures pub'
 
-# What is declared, as lines `file name`: crates, and in them theorems, definitions, records, fields, functions, types.
+# What is declared, as lines `file name`: crates, and in them theorems, definitions, records, fields, functions, types. What rt keeps in
+# out/ declares nothing.
 declared() {
     ls -d crates/*/ | sed -E 's|^(crates/(.*))/$|\1 \2|'
-    find crates -name '*.antt' | sed -E 's|^(.*/([^/]*)\.antt)$|\1 \2|'
-    grep -rHE --include='*.antt' '^ *[^ -]' crates | sed -nE \
+    find crates -name out -prune -o -name '*.antt' -print | sed -E 's|^(.*/([^/]*)\.antt)$|\1 \2|'
+    grep -rHE --exclude-dir=out --include='*.antt' '^ *[^ -]' crates | sed -nE \
         -e 's/^([^:]+): *((unfoldable|pub|private|field|abbrev) )*([^ :(){}]+) :.*/\1 \4/p' \
         -e 's/^([^:]+): *((unfoldable|pub|private) )*(record|data|abbrev|mod|module) ([^ :(){}]+).*/\1 \5/p'
-    grep -rHE --include='*.rt' '^ *[A-Za-z]' crates | sed -nE \
+    grep -rHE --exclude-dir=out --include='*.rt' '^ *[A-Za-z]' crates | sed -nE \
         -e 's/^([^:]+): *(pub )?(extern "C" )?(fn|struct|enum|const|mod|type) ([A-Za-z0-9_]+).*/\1 \5/p' \
         -e 's/^([^:]+): +([A-Z][A-Za-z]*)(,|\(.*)$/\1 \2/p'
 }
 
-# The paths of some texts, as lines `text:line path`; a pattern, as crates/NAME, is left out.
+# The paths of some texts, as lines `text:line path`; a pattern, as crates/NAME, is left out, and so is what rt makes, as crates/host/out.
 paths() {
     grep -HnoE '(crates|docs|tests|tools|bench|host|tapes|\.ci)/[A-Za-z0-9_.*/-]*[A-Za-z0-9_*]' "$@" |
-        sed -E 's/^([^:]+:[0-9]+):/\1 /' | grep -vE '/(NAME|LABEL|NN)([/.]|$)|\*'
+        sed -E 's/^([^:]+:[0-9]+):/\1 /' | grep -vE '/(NAME|LABEL|NN)([/.]|$)|/out(/|$)|\*'
 }
 
 # The names of a text and the paths in brackets right behind them, as lines `text:line name [path]`.

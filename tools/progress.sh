@@ -1,76 +1,75 @@
 #!/usr/bin/env bash
-# Follows what rt prints: the whole of it goes to a log; to standard error goes a line for each crate as it is proved and for
-# each crate's edits as they are refused, with how many are left, and whatever failed.
-# usage, from the root: rt .. 2>&1 | tools/progress.sh LOG [CRATE]     with CRATE, it and what it stands on are proved
+# Follows what rt prints: the whole of it goes to a log; to standard error goes a line for each crate as it is proved and as its
+# edits are begun, with how many are left, and whatever failed.
+# usage, from the root: rt .. 2>&1 | tools/progress.sh LOG
+# rt ci says of no crate how long it took. Its folder out/ is made when its proof begins, so the time since then is taken, and stands
+# in the log too, as `seconds: NAME S`.
 set -euo pipefail
+shopt -s nullglob
 log=$1
-goal=${2:-}
-
-# The crates that are to be proved, one a line: all of crates.txt, or those that the goal stands on and itself.
-crates() {
-    awk -v goal="$goal" '
-        /^#/ || !/:/ { next }
-        { name = $1; sub(/:$/, "", name); stands[name] = $0; order[++count] = name }
-        function take(name,    parts, n, i) {
-            if (!(name in stands) || name in taken) return
-            taken[name] = 1
-            n = split(stands[name], parts, " ")
-            for (i = 2; i <= n; i++) take(parts[i])
-        }
-        END { if (goal != "") take(goal)
-              for (i = 1; i <= count; i++) if (goal == "" || order[i] in taken) print order[i] }' crates.txt
-}
+crates_left=$(grep -cE '^[a-z].*:' crates.txt)
+edits=(crates/*/must-fail/*.edit)
+edits_begun=0
+proving=
+since=0
 
 say() { printf '%s\n' "$*" >&2; }
 
-# The whole seconds at the end of a line of rt, `.. 13 s)`.
-seconds_of() { local rest=${1% s)}; echo "${rest##*[( ]}"; }
-
-shopt -s nullglob
-declare -A edits refused spent
-crates_left=0
-edits_left=0
-while IFS= read -r crate; do
-    crates_left=$((crates_left + 1))
-    refused[$crate]=0
-    spent[$crate]=0
-    files=("crates/$crate/must-fail/"*.edit)
-    edits[$crate]=${#files[@]}
-    edits_left=$((edits_left + edits[$crate]))
-done < <(crates)
-
-# An edit was refused, as it must be; a line when it was the last of its crate's.
-edit_refused() {
-    local name=${1#rt: must-fail } crate
-    crate=${name%%/*}
-    refused[$crate]=$((${refused[$crate]:-0} + 1))
-    spent[$crate]=$((${spent[$crate]:-0} + $(seconds_of "$1")))
-    edits_left=$((edits_left - 1))
-    if [ "${refused[$crate]}" -eq "${edits[$crate]:-0}" ]; then
-        say "$crate: edits refused: ${refused[$crate]}, in ${spent[$crate]} s (edits left: $edits_left)"
+# rt ci has proved this crate.
+crate_proved() {
+    local made
+    made=$(stat -c %W "crates/$1/out" 2> /dev/null || echo 0)
+    crates_left=$((crates_left - 1))
+    if [ "$made" -gt 0 ]; then
+        made=$(($(date +%s) - made))
+        printf 'seconds: %s %s\n' "$1" "$made" >&3
+        say "$1: proved in $made s (crates left: $crates_left)"
+    else
+        say "$1: proved (crates left: $crates_left)"
     fi
 }
 
-# A crate was proved; one that has not changed since is not worth a line.
-crate_proved() {
-    local name=${1#rt: }
-    crates_left=$((crates_left - 1))
-    case $1 in
-    *'(unchanged'*) ;;
-    *) say "${name%% *}: proved in $(seconds_of "$1") s (crates left: $crates_left)" ;;
-    esac
+# rt ci begins to try so many edits of this crate; what came of them it says once it has tried those of all crates.
+crate_tried() {
+    edits_begun=$((edits_begun + $2))
+    say "$1: edits to try: $2 (begun so far: $edits_begun of ${#edits[@]})"
 }
 
 mkdir -p "$(dirname "$log")"
 failed=false
 while IFS= read -r line || [ -n "$line" ]; do
     printf '%s\n' "$line" >&3
+    # `rt: NAME ..` or `rt: NAME: ..`
+    name=${line#rt: }
+    name=${name%% *}
+    name=${name%:}
     case $line in
-    'rt: must-fail '*': refused, as it must be '*) edit_refused "$line" ;;
-    'rt: '*' proved ('*) crate_proved "$line" ;;
-    'rt: ok,'* | *' passed, 0 failed') ;;
-    'rt: '*' ran'*', and wrote what'* | 'rt: target/staticlib/'*) say "${line#rt: }" ;;
-    'rt: '* | *' passed, '*' failed' | *': error: '* | *': error['*)
+    'rt: note: '* | 'rt: warning: '*) say "$line" ;;
+    'rt: rt '* | 'rt: running '* | 'rt: nothing has changed since '* | 'rt: '*': begins with what a check kept in '* | *' passed, 0 failed') ;;
+    'rt: must-fail '*': refused, as it must be'* | 'rt: '*' must-fail edits were tried by an earlier run on this machine'*) ;;
+    'rt: '*': its tests are proved') ;;
+    'rt: '*' proved') crate_proved "$name" ;;
+    # one that has not changed since is not worth a line
+    'rt: '*' is kept: '*) crates_left=$((crates_left - 1)) ;;
+    'rt: '*': trying its must-fail edits ('*)
+        number=${line##*(}
+        crate_tried "$name" "${number%)}"
+        ;;
+    # of a run for one crate, each that is proved for it
+    'rt: chose --jobs '*' for '*)
+        proving=${line##* }
+        since=$SECONDS
+        ;;
+    'logic=proved'*)
+        [ -z "$proving" ] || say "$proving: proved in $((SECONDS - since)) s"
+        proving=
+        ;;
+    'rt: ok; '* | 'rt: '*' ran'*', and wrote what its file stdout has' | 'rt: '*': its tests passed' | \
+        'rt: waiting for '* | 'rt: '*'; waiting for it'* | 'rt: the check was killed, '* | \
+        'rt: '*', so each was tried from nothing' | 'rt: '*', so its must-fail edits are tried once more, from nothing')
+        say "${line#rt: }"
+        ;;
+    'rt: '* | *' passed, '*' failed' | 'fn '*': not proved'* | *': error: '* | *': error['* | 'error: '* | 'error['*)
         failed=true
         say "$line"
         ;;

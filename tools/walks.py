@@ -3,12 +3,18 @@
 
 usage: tools/walks.py
 
-A walk names what it reaches for by its place in the context, which depends on every parameter. Where a signature changes, change it in
-CALLS below and run this, then `rt fmt` and `rt check book_shared_records book_by_value`.
+No proof is a walk any more. The check follows the code of these functions by itself, and what it leaves are goals that `proofs/NAME/Answers.antt`
+of `book_shared_records` answers in a line each, by one lemma of its Fronts.antt; those of `book_by_value` need no file. So nothing here has to be run
+where a signature changes. It stays for whoever proves such a function by a walk, `proofs/NAME/Proof.antt`, by the older toolchain's logic,
+in whose words the walks are written: of a function without that file it says so, and writes nothing.
+
+A walk names what it reaches for by its place in the context, which depends on every parameter. Where a signature changes, it is changed in
+CALLS below.
 
 book_shared_records: the records are lent to `numbers`; the numbers, how many records there are and all else go to the function of the same name that takes numbers.
 book_by_value: the records stand in a local array, lent for the call to the function of `book_shared_records` with the same name.
 """
+import os
 
 # The parameters of each call, in order, with their sorts: head, num (a u32), shr (a &[u32]), mut (a &mut [u32]), out (a &mut [u8]) and
 # records; its promise, and the promise's arguments: {ws} for the watches, {j} for the result, {name} for what is last in a slice; what the
@@ -408,6 +414,9 @@ def valued_walk(name):
 for crate, walk in (("book_shared_records", shared_walk), ("book_by_value", valued_walk)):
     for name in CALLS:
         path = f"crates/{crate}/proofs/{name}/Proof.antt"
+        if not os.path.exists(path):
+            print(f"{path}: there is no walk of this function")
+            continue
         with open(path) as file:
             imports = file.read().split(MARK)[0]
         with open(path, "w") as file:
