@@ -1,4 +1,4 @@
--- `goes_on_lem` meets its contract, test by test.
+-- `goes_on` meets its contract, test by test.
 use native.Mathlib.Omega.{arith}
 use Rattle.venue_pieces.proofs.Steps.{goes_answered, goes_full, goes_first, goes_second}
 use Rattle.venue_pieces.proofs.goes_on.Goals as goal
