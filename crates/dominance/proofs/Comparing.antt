@@ -12,7 +12,6 @@ use lib.ListN.{get_or, take, drop}
 use lib.Seq.{get_or-take, get_or-drop}
 use Rattle.dominance.specs.Dominance.{higher, better, better_at, no_worse, some_better, dominates}
 use Rattle.dominance.specs.Compared.{compared}
-use Rattle.dominance.specs.declared.Comparison.{Comparison}
 
 -- the lowest bit by a mask
 pub lowest : (bits : ℕ) → higher bits 0 ≡ eqb (bit_and bits 1) 1
@@ -103,7 +102,3 @@ compared_take d directions p q =
       some_better_same d directions p p (take d q) q (λ i h. refl) (λ i h. get_or-take d q i 0 h),
       some_better_same d directions (take d q) q p p (λ i h. get_or-take d q i 0 h) (λ i h. refl),
     )
-
--- where d is k, what is said of k columns is said of d
-pub compared_at : {d k : ℕ} (directions : ℕ) (p q : List ℕ) {c : Comparison} → d ≡ k → c ≡ compared k directions p q → c ≡ compared d directions p q
-compared_at directions p q e v = rw e v

@@ -30,13 +30,15 @@ impl Comparison {
 }
 
 // The mask of a column whose direction bit is the lowest of bits: of two values with the mask's bits turned, the lower is the better.
+#[tactic(auto, using(crate::proofs::Comparing::lowest), unfolding(crate::specs::Turned::mask))]
 fn mask(bits: u32) -> u32
     ensures { result ≡ mask (higher bits 0) }
 {
-    if bits & 1 == 1 { 4294967295 } else { 0 }
+    if bits & 1 == 1 { u32::MAX } else { 0 }
 }
 
 // Whether x is better than y in a column whose direction bit is the lowest of bits.
+#[tactic(auto, using(crate::proofs::Turning::turned_better))]
 fn is_better(bits: u32, x: u32, y: u32) -> bool
     ensures { result ≡ better (higher bits 0) x y }
 {
@@ -44,7 +46,8 @@ fn is_better(bits: u32, x: u32, y: u32) -> bool
     (x ^ turned) < (y ^ turned)
 }
 
-// Compares the first d columns of a quote with the d cells from start on.
+// Compares the first d columns of a quote with the d cells from start on. A zip of the two slices costs a call at two columns 66
+// instructions in place of 60.
 pub fn compare(directions: u32, d: usize, quote: &[u32], cells: &[u32], start: usize) -> Comparison
     requires d_in_bounds { d ≤ length quote.now }
     requires d_in_bounds_2 { start + d ≤ length cells.now }
@@ -53,19 +56,18 @@ pub fn compare(directions: u32, d: usize, quote: &[u32], cells: &[u32], start: u
     let mut bits = directions;
     let mut better = false;
     let mut worse = false;
-    let mut i = 0;
-    while i < d {
+    for i in 0..d {
         let x = quote[i];
         let y = cells[start + i];
-        better = better | is_better(bits, x, y);
-        worse = worse | is_better(bits, y, x);
-        bits = bits >> 1;
-        i += 1;
+        better |= is_better(bits, x, y);
+        worse |= is_better(bits, y, x);
+        bits >>= 1;
     }
     Comparison { better, worse }
 }
 
-// The same, where the number of columns is one of 01's by a loop of its own, which is then unrolled.
+// The same, with each of 01's numbers of columns as a constant, so that the loop over them is unrolled: a call at six columns takes 84
+// instructions, one of `compare` 124.
 pub fn compare_unrolled(
     directions: u32,
     d: usize,
@@ -77,23 +79,13 @@ pub fn compare_unrolled(
     requires d_in_bounds_2 { start + d ≤ length cells.now }
     ensures { result ≡ compared d directions quote.now (drop start cells.now) }
 {
-    if d == 1 {
-        return compare(directions, 1, quote, cells, start);
+    match d {
+        1 => compare(directions, 1, quote, cells, start),
+        2 => compare(directions, 2, quote, cells, start),
+        3 => compare(directions, 3, quote, cells, start),
+        4 => compare(directions, 4, quote, cells, start),
+        5 => compare(directions, 5, quote, cells, start),
+        6 => compare(directions, 6, quote, cells, start),
+        _ => compare(directions, d, quote, cells, start),
     }
-    if d == 2 {
-        return compare(directions, 2, quote, cells, start);
-    }
-    if d == 3 {
-        return compare(directions, 3, quote, cells, start);
-    }
-    if d == 4 {
-        return compare(directions, 4, quote, cells, start);
-    }
-    if d == 5 {
-        return compare(directions, 5, quote, cells, start);
-    }
-    if d == 6 {
-        return compare(directions, 6, quote, cells, start);
-    }
-    compare(directions, d, quote, cells, start)
 }

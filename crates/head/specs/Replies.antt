@@ -1,9 +1,8 @@
 -- What the answers of the calls say, by 01's numbers and values: one definition for each enum that is an answer.
-use Rattle.std.specs.Prelude.{ℕ}
+use Rattle.std.specs.Prelude.{ℕ, Bool, true, false, Result, Ok, Err}
 use Rattle.head.specs.declared.Head.{Head}
 use Rattle.head.specs.declared.replies.Reply.{Reply}
-use Rattle.head.specs.declared.replies.Verdict.{Verdict}
-use Rattle.head.specs.declared.replies.Verdict.TheVariants.{Yes, No, Refused}
+use Rattle.refusals.specs.declared.Refusal.{Refusal}
 use Rattle.refusals.specs.Refusals.{number, number_of}
 
 -- what a call hands back: 0 or the number of its refusal, the head, and the count
@@ -23,7 +22,15 @@ pub data Finding : Type 0 where
   refused : ℕ → Finding
 
 -- what a verdict says
-abbrev pub finding : Verdict → Finding
-finding Yes = yes
-finding No = no
-finding (Refused k) = refused (number k)
+abbrev pub finding : Result Bool Refusal → Finding
+finding (Ok true) = yes
+finding (Ok false) = no
+finding (Err k) = refused (number k)
+
+-- the reply of a call that is refused: the head that it hands back, and a count of 0
+abbrev pub refusing : Refusal → Head → Reply
+refusing k h = record { answer = Err k; head = h; count = 0 }
+
+-- the reply of a call that is accepted
+abbrev pub accepting : Head → ℕ → Reply
+accepting h n = record { answer = Ok tt; head = h; count = n }

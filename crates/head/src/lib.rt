@@ -9,7 +9,7 @@ ghost use Rattle.std.specs.Prelude.{◌≡◌};
 ghost use Rattle.skyline.specs.Skyline.{window_start};
 ghost use Rattle.head.specs.Heads.{fresh_head, settings_hold, after_quote, with_pair, torn_pair};
 
-pub use replies::{BothReply, Effect, Reply, Verdict};
+pub use replies::{BothReply, Effect, Reply};
 pub use sizes::{CHANGE_BYTES, CHANGE_FRAME, COLUMN_CELLS, PAIR_FRAME, PLACES, WATCHES};
 
 // The head of a book: its settings (01: d, N, directions), the newest position (01: M), the numbers of live rows
@@ -64,39 +64,28 @@ impl Head {
     }
 
     // Whether the settings are within the limits.
+    #[tactic(auto, unfolding(crate::specs::Heads::settings_hold))]
     pub fn settings_hold(self) -> bool
         ensures { result ≡ settings_hold self.dimensions self.capacity self.directions }
     {
         let d = self.dimensions;
         let n = self.capacity;
-        if d < 1 {
-            return false;
-        }
-        if Head::MAX_DIMENSIONS < d {
-            return false;
-        }
-        if n < 1 {
-            return false;
-        }
-        if Head::MAX_CAPACITY < n {
-            return false;
-        }
-        self.directions >> d == 0
+        (1 <= d) & (d <= Head::MAX_DIMENSIONS) & (1 <= n) & (n <= Head::MAX_CAPACITY)
+            && self.directions >> d == 0
     }
 
     // The first position of the window of n.
+    #[tactic(auto, unfolding(skyline::specs::Skyline::window_start))]
     pub fn window_start(self, n: u32) -> u64
         ensures { result ≡ window_start self.newest n }
     {
-        let newest = self.newest as u64;
-        let size = n as u64;
-        if newest < size {
-            return 1;
-        }
-        newest - size + 1
+        (u64::from(self.newest) + 1)
+            .saturating_sub(u64::from(n))
+            .max(1)
     }
 
     // The head after an accepted quote that leaves this many live rows and rows held; at the last position no quote is taken.
+    #[tactic(auto, unfolding(crate::specs::Heads::after_quote))]
     pub fn after_quote(self, live: u32, held: u32) -> Head
         ensures { result ≡ after_quote self live held }
     {
@@ -105,34 +94,23 @@ impl Head {
             return self;
         }
         Head {
-            dimensions: self.dimensions,
-            capacity: self.capacity,
-            directions: self.directions,
             newest: newest + 1,
             live,
             held,
-            n1: self.n1,
-            n2: self.n2,
+            ..self
         }
     }
 
     // The head after the pair was set to n1 and n2, or ended, which sets it to 0 and 0.
+    #[tactic(auto, unfolding(crate::specs::Heads::with_pair))]
     pub fn after_watch(self, n1: u32, n2: u32) -> Head
         ensures { result ≡ with_pair self n1 n2 }
     {
-        Head {
-            dimensions: self.dimensions,
-            capacity: self.capacity,
-            directions: self.directions,
-            newest: self.newest,
-            live: self.live,
-            held: self.held,
-            n1,
-            n2,
-        }
+        Head { n1, n2, ..self }
     }
 
     // Whether a pair stands that could not be set.
+    #[tactic(auto, unfolding(crate::specs::Heads::torn_pair))]
     pub fn torn_pair(self) -> bool
         ensures { result ≡ torn_pair self }
     {

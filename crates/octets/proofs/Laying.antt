@@ -1,8 +1,7 @@
 -- Laws of bytes stored in an output: from a place on, and over its front.
 use mathlib.Core.Path.{◌≡◌, refl, sym, ap, ◌∙◌}
-use Prim.Native.Nat.{ℕ, suc, ◌+◌, ◌≤◌, ◌<◌}
+use Prim.Native.Nat.{ℕ, ◌+◌, ◌≤◌, ◌<◌}
 use native.Mathlib.Omega.{arith}
-use native.Mathlib.Numerals.{add-one}
 use mathlib.Core.List.{List, [], ◌∷◌, ◌++◌, append_assoc}
 use lib.ListN.{length, take, drop, set, length-append}
 use lib.Seq.{take_at, drop_at, drop-drop, sets, sets-eq}
@@ -16,15 +15,6 @@ stored l at out h = sets-eq l out at h ∙ ap (λ (r : List ℕ). take at out ++
 
 pub stored_one : (a at : ℕ) (out : List ℕ) → at < length out → set out at a ≡ placed (a ∷ []) at out
 stored_one a at out h = stored (a ∷ []) at out (omega arith)
-
-pub stored_two : (a b at : ℕ) (out : List ℕ) → at + 2 ≤ length out → set (set out at a) (at + 1) b ≡ placed (a ∷ b ∷ []) at out
-stored_two a b at out h = rw (add-one at) (stored (a ∷ b ∷ []) at out h)
-
-pub stored_four : (a b c d at : ℕ) (out : List ℕ) → at + 4 ≤ length out → set (set (set (set out at a) (at + 1) b) (at + 2) c) (at + 3) d ≡ placed (a ∷ b ∷ c ∷ d ∷ []) at out
-stored_four a b c d at out h =
-    let third : at + 2 ≡ suc (suc at) = omega arith in
-    let fourth : at + 3 ≡ suc (suc (suc at)) = omega arith in
-    rw (add-one at, third, fourth) (stored (a ∷ b ∷ c ∷ d ∷ []) at out h)
 
 -- a list laid over the front, and another behind it
 laid_behind : (l r before : List ℕ) (at : ℕ) → length l ≡ at → placed r at (laid l before) ≡ laid (l ++ r) before

@@ -9,8 +9,9 @@ use borrow.Author.Tests.{ltb-true}
 use Rattle.lists.proofs.Booleans.{and_left, and_right}
 use Rattle.refusals.specs.declared.Refusal.{Refusal}
 use Rattle.refusals.specs.declared.Refusal.TheVariants.{UnknownKind, CutFrame, Settings, ColumnCount, WindowSize, TapeFull, OutOfPlace, AlreadyWatched, NoFreeRecord, NotWatched, ShortLoan, Torn, ShortOutput, WindowOrder, StampOrder, Unmatched, DayLength, MalformedLine, DrillSize}
-use Rattle.refusals.specs.declared.Answer.{Answer}
-use Rattle.refusals.specs.declared.Answer.TheVariants.{Accepted, Refused}
+use Rattle.std.specs.Prelude.{Result, Ok, Err}
+use Rattle.std.specs.Result.{IsErr, IsErrAnd}
+use Rattle.std.proofs.lemmas.Result.{err_from_is_err_and}
 use Rattle.refusals.specs.Refusals.{number, number_of, first_of, granted}
 
 -- ---- the first condition that holds
@@ -64,12 +65,16 @@ number_above MalformedLine = omega arith
 number_above DrillSize = omega arith
 
 -- the number of a call that was accepted is 0
-pub accepted_number : {n : ℕ} (a : Answer) → number_of a ≡ n → a ≡ Accepted → n ≡ 0
+pub accepted_number : {n : ℕ} (a : Result (Unit {0}) Refusal) → number_of a ≡ n → a ≡ Ok tt → n ≡ 0
 accepted_number a e f = sym e ∙ ap number_of f
 
 -- the number of a call that was refused is that of its refusal
-pub refused_number : {n : ℕ} (a : Answer) (k : Refusal) → number_of a ≡ n → a ≡ Refused k → n ≡ number k
+pub refused_number : {n : ℕ} (a : Result (Unit {0}) Refusal) (k : Refusal) → number_of a ≡ n → a ≡ Err k → n ≡ number k
 refused_number a k e f = sym e ∙ ap number_of f
+
+-- a function that hands a refusal on answers with it
+pub handed_refusal : {T : Type 0} (r : Result T Refusal) {k : Refusal} → IsErr r × IsErrAnd r (λ j. j ≡ k) → r ≡ Err k
+handed_refusal r e = let p = err_from_is_err_and r e.1 in p.1 ∙ ap Err p.2
 
 -- ---- what is granted
 

@@ -1,9 +1,7 @@
 -- The refusals' numbers, and the answer of a call that tests its conditions in order.
-use Rattle.std.specs.Prelude.{ℕ, zero, suc, Bool, cond, List, [], ◌∷◌}
+use Rattle.std.specs.Prelude.{ℕ, zero, suc, Bool, cond, List, [], ◌∷◌, Result, Ok, Err}
 use Rattle.refusals.specs.declared.Refusal.{Refusal}
 use Rattle.refusals.specs.declared.Refusal.TheVariants.{UnknownKind, CutFrame, Settings, ColumnCount, WindowSize, TapeFull, OutOfPlace, AlreadyWatched, NoFreeRecord, NotWatched, ShortLoan, Torn, ShortOutput, WindowOrder, StampOrder, Unmatched, DayLength, MalformedLine, DrillSize}
-use Rattle.refusals.specs.declared.Answer.{Answer}
-use Rattle.refusals.specs.declared.Answer.TheVariants.{Accepted, Refused}
 
 -- 01's number of a refusal, and 02's
 abbrev pub number : Refusal → ℕ
@@ -28,9 +26,9 @@ number MalformedLine = 18
 number DrillSize = 19
 
 -- 01's number of an answer: 0 where the call is accepted
-abbrev pub number_of : Answer → ℕ
-number_of Accepted = 0
-number_of (Refused k) = number k
+abbrev pub number_of : Result (Unit {0}) Refusal → ℕ
+number_of (Ok _) = 0
+number_of (Err k) = number k
 
 -- the number of the first condition that holds, or 0 where none does
 unfoldable pub first_of : List (Bool × ℕ) → ℕ

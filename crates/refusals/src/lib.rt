@@ -1,11 +1,11 @@
-// The refusals with their numbers, and the answer of a call.
+// The refusals with their numbers. The answer of a call that has nothing else to say is a `Result<(), Refusal>`.
 #![tactic(auto)]
 
 ghost use Rattle.std.specs.Prelude.{◌≡◌};
 ghost use Rattle.refusals.specs.Refusals.{number};
 
 // Why a call is refused (01: a no). The numbers are 01's and 02's.
-#[derive(Clone, Copy)]
+#[derive(Clone, Copy, Debug, PartialEq, Eq)]
 pub enum Refusal {
     UnknownKind,
     CutFrame,
@@ -55,11 +55,4 @@ impl Refusal {
             Refusal::DrillSize => 19,
         }
     }
-}
-
-// Whether a call did what it was asked, or why not.
-#[derive(Clone, Copy)]
-pub enum Answer {
-    Accepted,
-    Refused(Refusal),
 }

@@ -81,7 +81,7 @@ sized n count k h p = let e : suc (count - 1) ≡ count = omega arith in record 
     go (inr q) = inr q
 
 -- a number between two powers of ten has so many digits
-pub counted : (n count : ℕ) → n < 2 ^ 32 → 1 ≤ count → n < 10 ^ count → (count ≡ 1) ⊎ (10 ^ (count - 1) ≤ n) → count ≡ length (digits n)
+counted : (n count : ℕ) → n < 2 ^ 32 → 1 ≤ count → n < 10 ^ count → (count ≡ 1) ⊎ (10 ^ (count - 1) ≤ n) → count ≡ length (digits n)
 unfolding digits
 counted n count w k h p =
     let f = bounded n count w p in
@@ -93,6 +93,18 @@ counted n count w k h p =
     ∙ length_fixed (suc (count - 1)) n
     ∙ e
     )
+
+-- 0 has one digit
+pub counted_zero : (n : ℕ) → n ≡ 0 → 1 ≡ length (digits n)
+unfolding digits digits_up_to
+counted_zero n e = rw e
+
+-- a number has one digit more than its logarithm
+pub counted_log : (n log : ℕ) → n < 2 ^ 32 → 10 ^ log ≤ n → n < 10 * 10 ^ log → log + 1 ≡ length (digits n)
+counted_log n log w low high =
+    let e : 10 ^ (log + 1) ≡ 10 ^ log * 10 = rw (add-one log, pow-suc) in
+    let l : log + 1 - 1 ≡ log = omega arith in
+    counted n (log + 1) w (omega arith) (rw e (omega arith)) (inr (rw l low))
 
 -- ---- writing, from the last digit to the first
 

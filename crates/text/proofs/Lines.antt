@@ -119,37 +119,6 @@ module _ (letter : ℕ) (numbers : List ℕ) where
       let done : Front (line letter numbers) (set before 0 letter) (set text at 10) (at + 1) = rw (whole_line, e) (front_store v.fields.front 10 short) in
       record { long = done.long ∙ length-set before 0 letter; place = done.place; cells = done.cells ∙ over_first letter (line letter numbers) before (omega (arith, done.place)) }
 
--- ---- a line of two numbers
-
-module _ (letter a b : ℕ) (before : List ℕ) {last : List ℕ} {used : ℕ} (h : 24 ≤ length before)
-    (l : Laid (field a) (mid_of 1 (length (set before 0 letter) - 1) (set before 0 letter)) used last) where
-  -- the text with the first field behind the letter
-  abbrev one_in : List ℕ
-  one_in = put_mid 1 (length (set before 0 letter) - 1) (set before 0 letter) last
-
-  pub one_laid : Line letter (a ∷ b ∷ []) (set before 0 letter) one_in (1 + used) 1
-  one_laid = line_more letter (a ∷ b ∷ []) (line_start letter (a ∷ b ∷ []) before h) (omega arith) l
-
-  -- there is room for the second field and the newline
-  pub one_room : 1 + used + 12 ≤ length one_in
-  one_room = omega (arith, line_room letter (a ∷ b ∷ []) one_laid)
-
-  module _ {last' : List ℕ} {more : ℕ} (m : Laid (field b) (mid_of (1 + used) (length one_in - (1 + used)) one_in) more last') where
-    -- the text with both fields behind the letter
-    abbrev both_in : List ℕ
-    both_in = put_mid (1 + used) (length one_in - (1 + used)) one_in last'
-
-    both_laid : Line letter (a ∷ b ∷ []) (set before 0 letter) both_in (1 + used + more) 2
-    both_laid = line_more letter (a ∷ b ∷ []) one_laid (omega arith) m
-
-    -- there is room for the newline
-    pub both_room : 1 + used + more + 1 ≤ length both_in
-    both_room = omega (arith, line_room letter (a ∷ b ∷ []) both_laid)
-
-    -- the whole line stands at the front
-    pub two_laid : Front (line letter (a ∷ b ∷ [])) before (set both_in (1 + used + more) 10) (1 + used + more + 1)
-    two_laid = line_finish letter (a ∷ b ∷ []) both_laid (omega arith)
-
 -- how long a line of two letters is at most
 pub line2_short : (first second : ℕ) (numbers : List ℕ) → length (line2 first second numbers) ≤ 3 + 11 * length numbers
 unfolding line2
