@@ -1,12 +1,12 @@
 // The kinds of frames: the shape of each kind's body, and how many bytes follow the kind.
 #![tactic(auto)]
 
-ghost use Rattle.std.specs.Prelude.{◌≡◌};
-ghost use Rattle.frame_kinds.specs.Kinds.{shape_of, code_of, has_shape, body_length};
+ghost use Rattle.std.specs.Prelude.{◌≡◌, ◌≤◌, MatchOption};
+ghost use Rattle.frame_kinds.specs.Kinds.{shape_of, has_shape, body_length};
 
 // What stands in the body of a frame: columns; n; n and a position; n1 and n2; nothing; a position; the settings of an opening; or the kind
 // is unknown.
-#[derive(Clone, Copy)]
+#[derive(Clone, Copy, PartialEq)]
 pub enum Shape {
     Columns,
     Size,
@@ -53,81 +53,49 @@ pub const STAMP: u8 = 40;
 
 pub const OPEN: u8 = 48;
 
-// The shape of a kind: a decision by ranges, from the lowest kinds up.
+// The shape of a kind.
+#[tactic(auto, unfolding(crate::specs::Kinds::shape_of, crate::specs::Kinds::shape_in, crate::specs::Kinds::kinds))]
 pub fn shape_of(kind: u8) -> Shape
     ensures { result ≡ shape_of kind }
 {
-    if kind == 0 {
-        return Shape::Unknown;
-    }
-    if kind <= MAX_COLUMNS {
-        return Shape::Columns;
-    }
-    if kind < LOOK {
-        return Shape::Unknown;
-    }
-    if kind <= UNWATCH_TWO {
-        return Shape::Size;
-    }
-    if kind == UNPAIR {
-        return Shape::Bare;
-    }
-    if kind <= PAST {
-        return Shape::SizePair;
-    }
-    if kind < LEAVE {
-        return Shape::Unknown;
-    }
-    if kind <= JOIN_TWO {
-        return Shape::SizePosition;
-    }
-    if kind <= PAIR_JOIN {
-        return Shape::Position;
-    }
-    if kind == STAMP {
-        return Shape::Position;
-    }
-    if kind == OPEN {
-        return Shape::Settings;
-    }
-    Shape::Unknown
-}
-
-// A number for each shape, by which two are compared.
-fn code_of(shape: Shape) -> u8
-    ensures { result ≡ code_of shape }
-{
-    match shape {
-        Shape::Columns => 0,
-        Shape::Size => 1,
-        Shape::SizePosition => 2,
-        Shape::SizePair => 3,
-        Shape::Bare => 4,
-        Shape::Position => 5,
-        Shape::Settings => 6,
-        Shape::Unknown => 7,
+    match kind {
+        1..=MAX_COLUMNS => Shape::Columns,
+        LOOK..=UNWATCH_TWO => Shape::Size,
+        PAIR | PAST => Shape::SizePair,
+        UNPAIR => Shape::Bare,
+        LEAVE..=JOIN_TWO => Shape::SizePosition,
+        PAIR_LEAVE | PAIR_JOIN | STAMP => Shape::Position,
+        OPEN => Shape::Settings,
+        _ => Shape::Unknown,
     }
 }
 
 // Whether a kind has this shape.
+#[tactic(auto, unfolding(crate::specs::Kinds::has_shape))]
 pub fn has_shape(shape: Shape, kind: u8) -> bool
     ensures { result ≡ has_shape shape kind }
 {
-    code_of(shape_of(kind)) == code_of(shape)
+    shape_of(kind) == shape
 }
 
-// The body length of a kind, by the shape of its body; 255 for an unknown kind.
+// The body length of a kind that has frames, by the shape of its body.
+#[tactic(auto, using(crate::proofs::Shapes::quote_kinds), unfolding(crate::specs::Kinds::body_length, crate::specs::Kinds::length_of))]
+pub fn known_length(kind: u8) -> Option<u8>
+    ensures { MatchOption result (body_length kind ≡ 255) (λ n. (n ≡ body_length kind) × (n ≤ 24)) }
+{
+    match shape_of(kind) {
+        Shape::Columns => Some(4 * kind),
+        Shape::Size => Some(2),
+        Shape::SizePosition => Some(6),
+        Shape::SizePair | Shape::Position | Shape::Settings => Some(4),
+        Shape::Bare => Some(0),
+        Shape::Unknown => None,
+    }
+}
+
+// The body length of a kind; 255 for an unknown one, as the definition `body_length` has it, of which the theorems over tapes speak.
 pub fn body_length(kind: u8) -> u8
     ensures { result ≡ body_length kind }
 {
-    match shape_of(kind) {
-        Shape::Columns => 4 * kind,
-        Shape::Size => 2,
-        Shape::SizePosition => 6,
-        Shape::SizePair => 4,
-        Shape::Bare => 0,
-        Shape::Position => 4,
-        Shape::Settings => 4,
-        Shape::Unknown => 255,
-    }
+    known_length(kind).unwrap_or(255)
 }

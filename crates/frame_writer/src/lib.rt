@@ -1,24 +1,18 @@
 // The writer: the frame of a message, over the front of a lent output.
 #![tactic(auto)]
 
-ghost use Rattle.std.specs.Prelude.{◌≡◌, ◌+◌, ◌*◌, ◌≤◌, [], true, length};
+ghost use Rattle.std.specs.Prelude.{◌≡◌, ◌+◌, ◌*◌, ◌≤◌, [], true, false, MatchOption, length};
 ghost use Rattle.lists.specs.Lists.{laid};
 ghost use Rattle.frames.specs.Frames.{framed, kind_of, frame};
 ghost use Rattle.frame_writer.specs.Writing.{frame_length, Wrote};
 
-use frame_kinds::{OPEN, Shape, body_length, has_shape};
+use frame_kinds::{OPEN, Shape, has_shape, known_length};
 use frames::Message;
 use octets::{lay_change, lay_number, lay_position, put_four, put_two};
-use refusals::{Answer, Refusal};
-
-// What was written: the answer, and how many bytes.
-#[derive(Clone, Copy)]
-pub struct Written {
-    pub answer: Answer,
-    pub count: usize,
-}
+use refusals::Refusal;
 
 // Lays the frame of a pair of numbers.
+#[tactic(auto, unfolding(frames::specs::Frames::frame, octets::specs::Bytes::bytes2, octets::specs::Placed::placed, lists::specs::Lists::laid))]
 fn lay_pair(kind: u8, n1: u16, n2: u16, out: &mut [u8])
     requires { 5 ≤ length out.old }
     ensures { out.new ≡ laid (frame (Message.Pair kind n1 n2) []) out.old }
@@ -28,6 +22,7 @@ fn lay_pair(kind: u8, n1: u16, n2: u16, out: &mut [u8])
 }
 
 // Lays the frame of an opening.
+#[tactic(auto, unfolding(frames::specs::Frames::frame, octets::specs::Bytes::bytes2, octets::specs::Placed::placed, lists::specs::Lists::laid))]
 fn lay_open(dimensions: u8, capacity: u16, directions: u8, out: &mut [u8])
     requires { 5 ≤ length out.old }
     ensures { out.new ≡ laid (frame (Message.Open dimensions capacity directions) [])
@@ -40,67 +35,48 @@ fn lay_open(dimensions: u8, capacity: u16, directions: u8, out: &mut [u8])
 }
 
 // Lays the frame of a quote of at most 6 columns.
+#[tactic(auto, using(crate::proofs::WriteColumns::start, crate::proofs::WriteColumns::more), unfolding(frames::specs::Frames::frame))]
 fn lay_quote(kind: u8, columns: [u32; 6], out: &mut [u8])
     requires { (kind ≤ 6) × (1 + 4 * kind ≤ length out.old) }
     ensures { out.new ≡ laid (frame (Message.Quote kind) columns) out.old }
 {
     out[0] = kind;
-    let mut at: usize = 1;
-    let mut i: usize = 0;
-    while i < kind as usize {
-        put_four(columns[i], at, out);
-        at += 4;
-        i += 1;
+    for i in 0..usize::from(kind) {
+        put_four(columns[i], 1 + 4 * i, out);
     }
 }
 
-// Whether a message has a frame.
-fn framed(message: Message) -> bool
-    ensures { result ≡ framed message }
+// The kind of a message's frame; none where the message has no frame, as where its kind has another shape.
+#[tactic(auto, using(frame_kinds::proofs::Shapes::open_shape), unfolding(frames::specs::Frames::framed))]
+fn kind_of(message: Message) -> Option<u8>
+    ensures { MatchOption result (framed message ≡ false) (λ kind. (framed message ≡ true) × (kind ≡ kind_of message)) }
 {
-    match message {
-        Message::Quote(k) => has_shape(Shape::Columns, k),
-        Message::Sized(k, _) => has_shape(Shape::Size, k),
-        Message::Change(k, _, _) => has_shape(Shape::SizePosition, k),
-        Message::Pair(k, _, _) => has_shape(Shape::SizePair, k),
-        Message::Bare(k) => has_shape(Shape::Bare, k),
-        Message::Position(k, _) => has_shape(Shape::Position, k),
-        Message::Open(_, _, _) => true,
-        Message::EndOfTape => false,
-        Message::Refused(_) => false,
-    }
+    let (shape, kind) = match message {
+        Message::Quote(k) => (Shape::Columns, k),
+        Message::Sized(k, _) => (Shape::Size, k),
+        Message::Change(k, _, _) => (Shape::SizePosition, k),
+        Message::Pair(k, _, _) => (Shape::SizePair, k),
+        Message::Bare(k) => (Shape::Bare, k),
+        Message::Position(k, _) => (Shape::Position, k),
+        Message::Open(_, _, _) => (Shape::Settings, OPEN),
+        Message::EndOfTape | Message::Refused(_) => return None,
+    };
+    has_shape(shape, kind).then_some(kind)
 }
 
-// The kind of a message; 0 for one that is no frame's.
-fn kind_of(message: Message) -> u8
-    ensures { result ≡ kind_of message }
+// How many bytes the frame of a message has; none for a message with no frame.
+#[tactic(auto, using(crate::proofs::WriteCases::framed_known, crate::proofs::WriteCases::length_framed))]
+fn frame_length(message: Message) -> Option<usize>
+    ensures { MatchOption result (framed message ≡ false) (λ n. (framed message ≡ true) × (n ≡ frame_length message)) }
 {
-    match message {
-        Message::Quote(k) => k,
-        Message::Sized(k, _) => k,
-        Message::Change(k, _, _) => k,
-        Message::Pair(k, _, _) => k,
-        Message::Bare(k) => k,
-        Message::Position(k, _) => k,
-        Message::Open(_, _, _) => OPEN,
-        Message::EndOfTape => 0,
-        Message::Refused(_) => 0,
-    }
-}
-
-// How many bytes the frame of a message has; 0 for a message with no frame.
-fn frame_length(message: Message) -> usize
-    ensures { result ≡ frame_length message }
-{
-    if !framed(message) {
-        return 0;
-    }
-    body_length(kind_of(message)) as usize + 1
+    let length = known_length(kind_of(message)?)?;
+    Some(1 + usize::from(length))
 }
 
 // Lays the frame of a message that has one.
+#[tactic(auto, unfolding(frames::specs::Frames::frame, octets::specs::Bytes::bytes2, octets::specs::Bytes::bytes4, lists::specs::Lists::laid))]
 fn lay(message: Message, columns: [u32; 6], out: &mut [u8])
-    requires { (framed message ≡ true) × (frame_length message ≤ length out.old) }
+    requires { (framed message ≡ true) × (length (frame message columns) ≤ length out.old) }
     ensures { out.new ≡ laid (frame message columns) out.old }
 {
     match message {
@@ -111,31 +87,19 @@ fn lay(message: Message, columns: [u32; 6], out: &mut [u8])
         Message::Bare(k) => out[0] = k,
         Message::Position(k, position) => lay_position(k, position, out),
         Message::Open(d, n, directions) => lay_open(d, n, directions, out),
-        Message::EndOfTape => {}
-        Message::Refused(_) => {}
+        Message::EndOfTape | Message::Refused(_) => {}
     }
 }
 
-// Writes the frame of a message over the front of the output: 1 for a message with no frame, then 13.
-pub fn write(message: Message, columns: [u32; 6], out: &mut [u8]) -> Written
+// Writes the frame of a message over the front of the output, and returns how many bytes: 1 for a message with no frame, then 13.
+#[tactic(auto, using(crate::proofs::WriteCases::frame_long, crate::proofs::WriteCases::refused_unframed, crate::proofs::WriteCases::refused_short, crate::proofs::WriteCases::accepted))]
+pub fn write(message: Message, columns: [u32; 6], out: &mut [u8]) -> Result<usize, Refusal>
     ensures { Wrote message columns out.old result out.new }
 {
-    let length = frame_length(message);
-    if length == 0 {
-        return Written {
-            answer: Answer::Refused(Refusal::UnknownKind),
-            count: 0,
-        };
-    }
+    let length = frame_length(message).ok_or(Refusal::UnknownKind)?;
     if out.len() < length {
-        return Written {
-            answer: Answer::Refused(Refusal::ShortOutput),
-            count: 0,
-        };
+        return Err(Refusal::ShortOutput);
     }
     lay(message, columns, out);
-    Written {
-        answer: Answer::Accepted,
-        count: length,
-    }
+    Ok(length)
 }

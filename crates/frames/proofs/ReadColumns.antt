@@ -1,4 +1,4 @@
--- A quote's columns are read one after the other: the invariant of that loop.
+-- A quote's columns are read one after the other: the columns after i of them.
 use mathlib.Core.Path.{◌≡◌, refl, sym, ap, ◌∙◌}
 use mathlib.Core.Logic.{◌⊎◌, inl, inr}
 use Prim.Native.Nat.{ℕ, ◌+◌, ◌*◌, ◌≤◌, ◌<◌}
@@ -46,7 +46,7 @@ module _ (tape : List ℕ) (body : ℕ) where
       go (inr (inl e)) = absurd (h e)
       go (inr (inr g)) = simp (le-ltb k i (omega arith), le-ltb k (i + 1) (omega arith))
 
-  columns_more : (i : ℕ) → i < 6 → set (columns_to i) i (number4 tape (body + 4 * i)) ≡ columns_to (i + 1)
+  pub columns_more : (i : ℕ) → i < 6 → set (columns_to i) i (number4 tape (body + 4 * i)) ≡ columns_to (i + 1)
   columns_more i h =
       ext_get_or 0 (set (columns_to i) i v) (columns_to (i + 1))
       (length-set (columns_to i) i v ∙ length_columns i ∙ sym (length_columns (i + 1)))
@@ -63,40 +63,15 @@ module _ (tape : List ℕ) (body : ℕ) where
       at k l (inr (inl e)) = rw e (get_or-set_same (columns_to i) i v 0 (omega (arith, length_columns i)) ∙ sym (column_next i) ∙ sym (column_at (i + 1) i h))
       at k l (inr (inr b)) = other k l (λ e. omega arith)
 
--- after i columns of a quote
-pub record Columns (tape : List ℕ) (body kind : ℕ) (columns : List ℕ) (at i : ℕ) : Type 0 where
-  pub some : 1 ≤ kind
-  pub bounded : kind ≤ 6
-  pub whole : body + 4 * kind ≤ length tape
-  pub turns : i ≤ kind
-  pub place : at ≡ body + 4 * i
-  pub six : length columns ≡ 6
-  pub read : columns ≡ columns_to tape body i
+  -- none yet
+  pub columns_none : 0 ∷ 0 ∷ 0 ∷ 0 ∷ 0 ∷ 0 ∷ [] ≡ columns_to 0
+  unfolding columns_to column run
+  columns_none = refl
 
-pub start : (tape : List ℕ) (body kind : ℕ) → 1 ≤ kind → kind ≤ 6 → body + 4 * kind ≤ length tape → Columns tape body kind (0 ∷ 0 ∷ 0 ∷ 0 ∷ 0 ∷ 0 ∷ []) body 0
-unfolding columns_to column run
-start tape body kind some bounded whole =
-    record { some = some; bounded = bounded; whole = whole; turns = omega arith; place = omega arith; six = refl; read = refl }
-
--- one turn
-pub more : {tape : List ℕ} {body kind : ℕ} {columns : List ℕ} {at i : ℕ} (v : ℕ) → Columns tape body kind columns at i → i < kind → v ≡ number4 tape at
-    → Columns tape body kind (set columns i v) (at + 4) (i + 1)
-more {tape} {body} {kind} {columns} {at} {i} v c h e =
-    record {
-      some = c.some;
-      bounded = c.bounded;
-      whole = c.whole;
-      turns = omega arith;
-      place = omega arith;
-      six = length-set columns i v ∙ c.six;
-      read = rw (c.read, e, c.place) (columns_more tape body i (omega arith));
-    }
-
-pub finish : {tape : List ℕ} {body kind : ℕ} {columns : List ℕ} {at i : ℕ} → Columns tape body kind columns at i → kind ≤ i → columns ≡ columns_at tape body kind
-unfolding columns_to column columns_at
-finish {tape} {body} {kind} {columns} {at} {i} c h =
-    let all : i ≡ kind = omega arith in
-    c.read ∙ ap (columns_to tape body) all ∙ simp (le-leb 1 kind c.some, le-leb kind 6 c.bounded)
+  -- all that the kind of a quote has
+  pub columns_all : (kind : ℕ) → 1 ≤ kind → kind ≤ 6 → columns_to kind ≡ columns_at tape body kind
+  unfolding columns_to column columns_at
+  columns_all kind some bounded = simp (le-leb 1 kind some, le-leb kind 6 bounded)
 
 -- a kind that is no quote's has no columns
 pub no_columns : (tape : List ℕ) (body kind : ℕ) → 6 < kind → 0 ∷ 0 ∷ 0 ∷ 0 ∷ 0 ∷ 0 ∷ [] ≡ columns_at tape body kind

@@ -6,13 +6,14 @@ mod reader;
 
 pub use frame_kinds::{
     JOIN, JOIN_TWO, LEAVE, LEAVE_TWO, LOOK, OPEN, PAIR, PAIR_JOIN, PAIR_LEAVE, PAST, UNPAIR,
-    UNWATCH, UNWATCH_TWO, WATCH, WATCH_TWO, body_length,
+    UNWATCH, UNWATCH_TWO, WATCH, WATCH_TWO, known_length,
 };
 pub use places::read_next;
 pub use reader::read_at;
 use refusals::Refusal;
 
-// A message: what a frame says, or that there is none to read. A quote's columns stand beside it.
+// A message: what a frame says, or that there is none to read, which the writer answers with 1 (`frame_writer::write`) and of which the
+// theorems on frames speak too. A quote's columns stand beside it.
 #[derive(Clone, Copy)]
 pub enum Message {
     // How many columns.
@@ -41,7 +42,7 @@ pub struct Read {
     pub next: usize,
 }
 
-// A place of a tape: how many bytes stand before it.
+// A place of a tape: how many bytes stand before it. A struct, since what `read_next` promises of the lent place, `Moved`, speaks of it.
 #[derive(Clone, Copy)]
 pub struct Place {
     pub at: usize,

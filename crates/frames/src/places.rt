@@ -5,6 +5,7 @@ use crate::reader::read_at;
 use crate::{Place, Read};
 
 // What is read at the place. The place is moved past the frame; at the end, and by a refusal, it is left where it was.
+#[tactic(auto, using(crate::proofs::Reading::read_next))]
 pub fn read_next(tape: &[u8], place: &mut Place) -> Read
     ensures { Moved tape.now place.old result place.new }
 {

@@ -4,11 +4,12 @@ ghost use Rattle.frame_kinds.specs.Kinds.{body_length};
 ghost use Rattle.frames.specs.Frames.{message_at, columns_at, saying, reading, stays, read_at};
 
 use crate::{Message, Read};
-use frame_kinds::{MAX_COLUMNS, Shape, body_length, shape_of};
+use frame_kinds::{MAX_COLUMNS, Shape, known_length, shape_of};
 use octets::{four_at, two_at};
 use refusals::Refusal;
 
 // The message of a kind, its whole body from a place on.
+#[tactic(auto, unfolding(crate::specs::Frames::message_at, crate::specs::Frames::message_by, frame_kinds::specs::Kinds::body_length, frame_kinds::specs::Kinds::length_of))]
 fn message_at(tape: &[u8], body: usize, kind: u8) -> Message
     requires { body + body_length kind ≤ length tape.now }
     ensures { result ≡ message_at tape.now body kind }
@@ -26,22 +27,20 @@ fn message_at(tape: &[u8], body: usize, kind: u8) -> Message
 }
 
 // The columns of a quote, its whole body from a place on, with zeros behind them.
+#[tactic(auto, using(crate::proofs::ReadColumns::columns_none, crate::proofs::ReadColumns::columns_more, crate::proofs::ReadColumns::columns_all))]
 fn quote_at(tape: &[u8], body: usize, kind: u8) -> [u32; 6]
     requires { (1 ≤ kind) × ((kind ≤ 6) × (body + 4 * kind ≤ length tape.now)) }
     ensures { result ≡ columns_at tape.now body kind }
 {
-    let mut columns = [0u32; 6];
-    let mut at = body;
-    let mut i: usize = 0;
-    while i < kind as usize {
-        columns[i] = four_at(tape, at);
-        at += 4;
-        i += 1;
+    let mut columns = [0; 6];
+    for i in 0..usize::from(kind) {
+        columns[i] = four_at(tape, body + 4 * i);
     }
     columns
 }
 
 // Nothing is read: this message, no columns, and the place stays.
+#[tactic(auto, unfolding(crate::specs::Frames::reading, crate::specs::Frames::stays))]
 fn stay(message: Message, place: usize) -> Read
     ensures { reading result ≡ stays (saying message) place }
 {
@@ -53,6 +52,7 @@ fn stay(message: Message, place: usize) -> Read
 }
 
 // What is read at a place of a tape: 2 beyond the end, the end at the end, 1 for an unknown kind, 2 for a cut frame.
+#[tactic(auto, unfolding(crate::specs::Frames::reading, crate::specs::Frames::read_at, crate::specs::Frames::saying, crate::specs::Frames::stays), using(crate::proofs::ReadCases::message_told, crate::proofs::ReadCases::quote_told_lem, crate::proofs::ReadColumns::no_columns, frame_kinds::proofs::Shapes::kind_known, frame_kinds::proofs::Shapes::low_quote, frame_kinds::proofs::Shapes::quote_body))]
 pub fn read_at(tape: &[u8], place: usize) -> Read
     ensures { reading result ≡ read_at tape.now place }
 {
@@ -63,27 +63,24 @@ pub fn read_at(tape: &[u8], place: usize) -> Read
         return stay(Message::EndOfTape, place);
     }
     let kind = tape[place];
-    let length = body_length(kind);
-    if length == 255 {
+    let Some(length) = known_length(kind) else {
         return stay(Message::Refused(Refusal::UnknownKind), place);
-    }
+    };
     let body = place + 1;
-    let next = body + length as usize;
+    let next = body + usize::from(length);
     if tape.len() < next {
         return stay(Message::Refused(Refusal::CutFrame), place);
     }
     if MAX_COLUMNS < kind {
-        let message = message_at(tape, body, kind);
         return Read {
-            message,
+            message: message_at(tape, body, kind),
             columns: [0; 6],
             next,
         };
     }
-    let columns = quote_at(tape, body, kind);
     Read {
         message: Message::Quote(kind),
-        columns,
+        columns: quote_at(tape, body, kind),
         next,
     }
 }

@@ -1,4 +1,4 @@
--- The cases of the check and of the comparison, the columns that are read from a frame, and the comparison by the frames' kinds.
+-- Cut frames, the cases of the comparison, the columns that are read from a frame, and the comparison by the frames' kinds.
 use mathlib.Core.Path.{◌≡◌, refl, ap, ◌∙◌}
 use Prim.Native.Nat.{ℕ, ◌+◌, ◌*◌, ◌≤◌, ◌<◌}
 use native.Mathlib.Omega.{arith}
@@ -50,18 +50,10 @@ module _ (s : List ℕ) where
   check_empty h = rw (eq-eqb (length s) 0 h)
 
   module _ (some : 0 < length s) where
-    pub check_unknown : body_length (get_or s 0 0) ≡ 255 → check_of s ≡ 1
-    unfolding check_of
-    check_unknown h = rw (ne_eqb (length s) 0 (λ e. omega arith), eq-eqb (body_length (get_or s 0 0)) 255 h)
-
     module _ (known : body_length (get_or s 0 0) ≡ 255 → ⊥) where
       pub check_cut : length s < 1 + body_length (get_or s 0 0) → check_of s ≡ 2
       unfolding check_of
       check_cut h = rw (ne_eqb (length s) 0 (λ e. omega arith), ne_eqb (body_length (get_or s 0 0)) 255 known, lt-ltb (length s) (1 + body_length (get_or s 0 0)) h)
-
-      pub check_whole : 1 + body_length (get_or s 0 0) ≤ length s → check_of s ≡ 0
-      unfolding check_of
-      check_whole h = rw (ne_eqb (length s) 0 (λ e. omega arith), ne_eqb (body_length (get_or s 0 0)) 255 known, le-ltb (length s) (1 + body_length (get_or s 0 0)) h)
 
   -- what is not cut has a first byte
   pub uncut_some : (check_of s ≡ 2 → ⊥) → 0 < length s

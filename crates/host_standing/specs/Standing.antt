@@ -1,12 +1,11 @@
 -- How two quotes stand to each other by their columns alone (02, 7/13): four answers with their numbers, the comparison with its
 -- refusals, and with which answers one of two quotes that came one after the other is over the other (5/13).
-use Rattle.std.specs.Prelude.{ℕ, ◌/◌, ◌^◌, Bool, true, false, ◌&&◌, not, List, [], ◌∷◌, leb, eqb, length}
+use Rattle.std.specs.Prelude.{ℕ, ◌/◌, ◌^◌, Bool, true, false, ◌&&◌, not, List, [], ◌∷◌, leb, eqb, length, Result, Ok, Err}
 use Rattle.dominance.specs.Dominance.{some_better}
+use Rattle.refusals.specs.declared.Refusal.{Refusal}
 use Rattle.refusals.specs.Refusals.{first_of, number as refusal}
 use Rattle.host_standing.specs.declared.Standing.{Standing}
 use Rattle.host_standing.specs.declared.Standing.TheVariants.{FirstBetter, SecondBetter, Equal, Neither}
-use Rattle.host_standing.specs.declared.Compared.{Compared}
-use Rattle.host_standing.specs.declared.Compared.TheVariants.{Stands, Refused}
 
 -- the answer, by whether the first is better in some column and whether the second is
 unfoldable pub standing_by : Bool → Bool → Standing
@@ -27,9 +26,9 @@ number Equal = 102
 number Neither = 103
 
 -- the number of what the comparison hands back: 100 to 103, or 01's of a refusal
-abbrev pub answered : Compared → ℕ
-answered (Stands s) = number s
-answered (Refused k) = refusal k
+abbrev pub answered : Result Standing Refusal → ℕ
+answered (Ok s) = number s
+answered (Err k) = refusal k
 
 -- the two have as many columns as each other, 1 to 6
 unfoldable pub alike : List ℕ → List ℕ → Bool

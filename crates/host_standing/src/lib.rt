@@ -10,10 +10,10 @@ use refusals::Refusal;
 // How the first of two quotes stands to the second, by their columns alone. The numbers are 02's.
 #[derive(Clone, Copy)]
 pub enum Standing {
-    FirstBetter,
-    SecondBetter,
-    Equal,
-    Neither,
+    FirstBetter = 100,
+    SecondBetter = 101,
+    Equal = 102,
+    Neither = 103,
 }
 
 impl Standing {
@@ -21,57 +21,34 @@ impl Standing {
     pub fn number(self) -> u32
         ensures { result ≡ number self }
     {
-        match self {
-            Standing::FirstBetter => 100,
-            Standing::SecondBetter => 101,
-            Standing::Equal => 102,
-            Standing::Neither => 103,
-        }
+        self as u32
     }
 
     // The two flags of a comparison as one answer.
+    #[tactic(auto, unfolding(crate::specs::Standing::standing_by))]
     fn by_flags(found: Comparison) -> Standing
         ensures { result ≡ standing_by found.better found.worse }
     {
-        if found.better {
-            if found.worse {
-                Standing::Neither
-            } else {
-                Standing::FirstBetter
-            }
-        } else {
-            if found.worse {
-                Standing::SecondBetter
-            } else {
-                Standing::Equal
-            }
+        match (found.better, found.worse) {
+            (true, false) => Standing::FirstBetter,
+            (false, true) => Standing::SecondBetter,
+            (false, false) => Standing::Equal,
+            (true, true) => Standing::Neither,
         }
     }
 }
 
-// What the comparison hands back: how the quotes stand, or why they are not compared.
-#[derive(Clone, Copy)]
-pub enum Compared {
-    Stands(Standing),
-    Refused(Refusal),
-}
-
 // Compares two quotes, each with all its columns: refused with 4 or 3, in that order, or how the first stands to the second.
-pub fn compare_quotes(directions: u32, first: &[u32], second: &[u32]) -> Compared
+#[tactic(auto, using(crate::proofs::Standings::flags, crate::proofs::Refusals::few, crate::proofs::Refusals::many, crate::proofs::Refusals::unlike, crate::proofs::Refusals::high_bit, crate::proofs::Refusals::stands))]
+pub fn compare_quotes(directions: u32, first: &[u32], second: &[u32]) -> Result<Standing, Refusal>
     ensures { answered result ≡ comparison directions first.now second.now }
 {
     let d = first.len();
-    if d < 1 {
-        return Compared::Refused(Refusal::ColumnCount);
-    }
-    if 6 < d {
-        return Compared::Refused(Refusal::ColumnCount);
-    }
-    if d != second.len() {
-        return Compared::Refused(Refusal::ColumnCount);
+    if d < 1 || 6 < d || d != second.len() {
+        return Err(Refusal::ColumnCount);
     }
     if directions >> d != 0 {
-        return Compared::Refused(Refusal::Settings);
+        return Err(Refusal::Settings);
     }
-    Compared::Stands(Standing::by_flags(compare(directions, d, first, second, 0)))
+    Ok(Standing::by_flags(compare(directions, d, first, second, 0)))
 }
