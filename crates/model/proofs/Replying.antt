@@ -3,15 +3,14 @@ use mathlib.Core.Path.{◌≡◌}
 use Prim.Native.Nat.{ℕ}
 use Rattle.head.specs.declared.Head.{Head}
 use Rattle.refusals.specs.declared.Refusal.{Refusal}
-use Rattle.refusals.specs.declared.Answer.{Answer}
-use Rattle.refusals.specs.declared.Answer.TheVariants.{Accepted, Refused}
+use Rattle.std.specs.Prelude.{Result, Ok, Err}
 use Rattle.refusals.specs.Refusals.{number_of, granted}
 use Rattle.head.specs.Replies.{outcome}
 use Rattle.refusals.proofs.Numbers.{accepted_number, refused_number, refused_granted}
 use Rattle.model.specs.Book.{reply_of}
 
-module _ {a : Answer} {answer : ℕ} (e : number_of a ≡ answer) where
-  module _ {k : Refusal} (f : a ≡ Refused k) where
+module _ {a : Result (Unit {0}) Refusal} {answer : ℕ} (e : number_of a ≡ answer) where
+  module _ {k : Refusal} (f : a ≡ Err k) where
     -- a refused call hands back the head as it came and a count of 0
     pub refused_reply : (h next : Head) (count : ℕ) → outcome (record { answer = a; head = h; count = 0 }) ≡ reply_of answer h next count
     unfolding reply_of
@@ -21,7 +20,7 @@ module _ {a : Answer} {answer : ℕ} (e : number_of a ≡ answer) where
     pub refused_left : {A : Type 0} (x y : A) → x ≡ granted answer y x
     refused_left x y = rw (refused_number a k e f, refused_granted k y x)
 
-  module _ (f : a ≡ Accepted) where
+  module _ (f : a ≡ Ok tt) where
     -- an accepted call hands back the next head and its count
     pub accepted_reply_lem : (h : Head) {next head : Head} {count n : ℕ} → head ≡ next → n ≡ count
         → outcome (record { answer = a; head = head; count = n }) ≡ reply_of answer h next count
