@@ -6,11 +6,17 @@ use native.Mathlib.Numerals.{add-one}
 use native.Mathlib.Omega.{arith}
 use mathlib.Core.Bool.{Bool, true, false, ◌&&◌, ◌||◌, cond, and-true}
 use mathlib.Core.List.{List, [], ◌∷◌, map}
+use mir.Val.{bool_byte}
 use lib.Dec.{ltb, leb, eqb}
 use lib.ListN.{length, get_or}
 use Rattle.lists.specs.Lists.{keep, filter, run}
 use Rattle.model.specs.Rows.{Row, Tables, row_at, rows_in, is_live, live_rows}
 use Rattle.table_cells.specs.Places.{in_place, in_places}
+
+-- what a test counts for
+pub test_counts : (b : Bool) → bool_byte b ≡ cond b 1 0
+test_counts true = refl
+test_counts false = refl
 
 -- one row more in front of the live ones
 live_cons : (r : Row) (rs : List Row) → length (live_rows (r ∷ rs)) ≡ cond (eqb r.upper_end 0) 1 0 + length (live_rows rs)

@@ -1,9 +1,9 @@
 -- A turn of the loop that moves cells to the front in pieces.
 use mathlib.Core.Path.{◌≡◌, refl, sym, ap, ◌∙◌}
-use Prim.Native.Nat.{ℕ, ◌+◌, ◌-◌, ◌≤◌, ◌<◌, min}
+use Prim.Native.Nat.{ℕ, ◌+◌, ◌-◌, ◌≤◌, min}
 use native.Mathlib.Nat.{zero-add, add_comm}
 use native.Mathlib.Omega.{arith}
-use mathlib.Core.List.{List, [], ◌++◌, append_assoc}
+use mathlib.Core.List.{List, ◌++◌, append_assoc}
 use lib.ListN.{length, take, drop, length-drop, take-append-drop}
 use lib.Seq.{paste, paste-zero, length-paste, take-paste, drop-paste, take-add, drop-drop}
 use Rattle.lists.proofs.Storing.{drop_later}
@@ -35,7 +35,7 @@ start before by count h k = record {
 }
 
 module _ {before : List ℕ} {by count : ℕ} {after : List ℕ} {at : ℕ} (v : Shifting before by count after at) where
-  pub more : {n : ℕ} → n ≡ min (count - by - at) 512 → (after' : List ℕ) → after' ≡ paste after at (drop (at + by) after) n → Shifting before by count after' (at + n)
+  pub more : {n : ℕ} → n ≡ min 512 (count - by - at) → (after' : List ℕ) → after' ≡ paste after at (drop (at + by) after) n → Shifting before by count after' (at + n)
   more {n} m after' e =
       let w = v.within in
       let l = v.lost in

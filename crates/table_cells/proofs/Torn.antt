@@ -1,20 +1,19 @@
 -- The test of torn rows: its two parts put together.
 use mathlib.Core.Path.{◌≡◌, refl, sym, ap, ◌∙◌}
-use mathlib.Core.Logic.{◌⊎◌, inl, inr}
-use Prim.Native.Nat.{ℕ, zero, suc, ◌+◌, ◌-◌, min, max, ◌≤◌, ◌<◌}
+use Prim.Native.Nat.{ℕ, zero, suc, ◌+◌, ◌-◌, min, ◌≤◌}
 use native.Mathlib.Omega.{arith}
 use mathlib.Core.Bool.{Bool, true, false, ◌&&◌, ◌||◌, not}
 use mathlib.Core.List.{List, [], ◌∷◌, map}
 use lib.Dec.{ltb, leb, eqb}
 use lib.ListN.{length, drop, length-map}
-use borrow.Author.Tests.{ltb-true, ltb-false, lt-ltb, le-ltb, leb-true, eqb-true, eq-eqb, ne_eqb, not-true, not-false}
+use borrow.Author.Tests.{ltb-false, lt-ltb, le-ltb, eqb-true, eq-eqb, ne_eqb, not-true, not-false}
 use Rattle.lists.specs.Lists.{any, head_or, run, between}
-use Rattle.lists.proofs.Booleans.{agree, and_left, and_right, both, clash, refute, none_left, none_right, neither}
+use Rattle.lists.proofs.Booleans.{and_left, and_right, both, clash, none_left, none_right, neither}
 use Rattle.lists.proofs.Filters.{map_map, any_map, filter_map}
 use Rattle.skyline.specs.Skyline.{window_start}
 use Rattle.head.specs.declared.Head.{Head}
 use Rattle.head.specs.Heads.{last_position}
-use Rattle.model.specs.Rows.{Row, row_at, rows_in, is_live, live_rows}
+use Rattle.model.specs.Rows.{Row, Tables, row_at, rows_in, is_live, live_rows}
 use Rattle.model.specs.Book.{torn_rows, book_rows}
 use Rattle.model.specs.Promises.{tables}
 use Rattle.model.proofs.Torn.{lower_astray, upper_astray, Whole, window_length, untorn_whole, whole_untorn}
@@ -187,11 +186,11 @@ pub likely_fits : (h : Head) → 1 ≤ h.capacity → Likely h → window_start 
 unfolding window_start
 likely_fits h some likely = let f = likely.fills in let n = likely.low_newest in omega arith
 
--- by what the loop finds on tables without columns
-pub by_places : (h : Head) (ps ls us : List ℕ) (first : ℕ) (placed : Bool) → 1 ≤ h.capacity → torn_head h ≡ false → first ≡ window_start h.newest h.capacity
-    → placed ≡ in_places h.newest first (rows_in 0 h.held (tables [] ps ls us)) && eqb h.live (length (live_rows (rows_in 0 h.held (tables [] ps ls us))))
-    → not placed ≡ torn_rows h (book_rows h (tables [] ps ls us))
+-- by what the loop finds, which does not look at the columns
+pub by_places : (h : Head) (t : Tables) (first : ℕ) (placed : Bool) → 1 ≤ h.capacity → torn_head h ≡ false → first ≡ window_start h.newest h.capacity
+    → placed ≡ in_places h.newest first (rows_in 0 h.held t) && eqb h.live (length (live_rows (rows_in 0 h.held t)))
+    → not placed ≡ torn_rows h (book_rows h t)
 unfolding book_rows rows_in
-by_places h ps ls us first placed some e b f =
-    rw (f, b, places_columns h.newest (window_start h.newest h.capacity) 0 h.dimensions [] [] ps ls us (run 0 h.held), live_columns 0 h.dimensions [] [] ps ls us (run 0 h.held))
-    (sym (torn_places h (rows_in h.dimensions h.held (tables [] ps ls us)) (length_rows h.dimensions h.held (tables [] ps ls us)) some (head_likely h e)))
+by_places h t first placed some e b f =
+    rw (f, b, places_columns h.newest (window_start h.newest h.capacity) 0 h.dimensions t.columns t.columns t.positions t.lower_ends t.upper_ends (run 0 h.held), live_columns 0 h.dimensions t.columns t.columns t.positions t.lower_ends t.upper_ends (run 0 h.held))
+    (sym (torn_places h (rows_in h.dimensions h.held t) (length_rows h.dimensions h.held t) some (head_likely h e)))

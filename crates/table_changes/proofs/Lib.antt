@@ -6,6 +6,7 @@ pub mod Moving
 pub mod Still
 pub mod Leaving
 pub mod Joining
+pub mod Known
 pub mod Watching
 pub mod Distinct
 pub mod Quoting

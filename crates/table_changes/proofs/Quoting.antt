@@ -10,7 +10,7 @@ use mathlib.Core.List.{List, [], ◌∷◌, ◌++◌, map, Memᴰ}
 use lib.Dec.{ltb, eqb}
 use lib.ListN.{get_or, take}
 use borrow.Author.Tests.{lt-ltb, le-ltb}
-use Rattle.lists.specs.Lists.{keep, filter, any, flat, run}
+use Rattle.lists.specs.Lists.{keep, filter, flat, run}
 use Rattle.lists.proofs.Members.{mem_none, into_map, of_map}
 use Rattle.lists.proofs.Runs.{into_run, of_run}
 use Rattle.skyline.specs.Skyline.{window_start, stabbed}

@@ -3,3 +3,4 @@ pub mod Sought
 pub mod Kinds
 pub mod Held
 pub mod Watches
+pub mod Frames

@@ -1,5 +1,5 @@
 -- Cells of a value sought in a table.
-use Rattle.std.specs.Prelude.{◌≡◌, ℕ, ◌≤◌, ◌<◌, List, get_or}
+use Rattle.std.specs.Prelude.{◌≡◌, ℕ, ◌≤◌, ◌<◌, List, get_or, Option, Some, None}
 
 -- the place is from one place on up to another, and no cell before it is x
 pub record Unequal (cells : List ℕ) (x from to place : ℕ) : Type 0 where
@@ -11,3 +11,13 @@ pub record Unequal (cells : List ℕ) (x from to place : ℕ) : Type 0 where
 pub record Next (cells : List ℕ) (x from to place : ℕ) : Type 0 where
   pub passed : Unequal cells x from to place
   pub found : place < to → get_or cells place 0 ≡ x
+
+-- the place that was found, or the end where none was
+abbrev pub place_or : ℕ → Option ℕ → ℕ
+place_or to (Some place) = place
+place_or to None = to
+
+-- the first such place below the end, if there is one
+pub record Found (cells : List ℕ) (x from to : ℕ) (found : Option ℕ) : Type 0 where
+  pub next : Next cells x from to (place_or to found)
+  pub below : (place : ℕ) → found ≡ Some place → place < to

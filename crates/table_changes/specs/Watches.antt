@@ -1,5 +1,5 @@
 -- The changes that a quote makes to the lists of all watches, as frames.
-use Rattle.std.specs.Prelude.{◌≡◌, ℕ, ◌+◌, ◌≤◌, ◌<◌, cond, List, [], map, eqb, length}
+use Rattle.std.specs.Prelude.{◌≡◌, ℕ, ◌+◌, ◌-◌, ◌≤◌, ◌<◌, cond, List, [], map, eqb, length}
 use Rattle.lists.specs.Lists.{flat}
 use Rattle.skyline.specs.Skyline.{window_start}
 use Rattle.head.specs.declared.Head.{Head}
@@ -19,6 +19,10 @@ shift_of newest n = record { before = window_start newest n; after = window_star
 pub record Sized (N watch : ℕ) : Type 0 where
   pub least : 0 < watch → 0 < size_in watch
   pub most : size_in watch ≤ N
+
+-- the places of the rows that the quote retires, of those that stay
+unfoldable pub outdone : Head → Rows → List ℕ
+outdone h rows = retired rows (window_start (h.newest + 1) h.capacity - window_start h.newest h.capacity) h.held
 
 module _ (h : Head) (lowers : List ℕ) (rows : Rows) where
   -- the rows of the book

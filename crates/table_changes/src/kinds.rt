@@ -12,7 +12,8 @@ pub struct Kinds {
     pub join: u8,
 }
 
-// The kinds of a watch.
+// The kinds of a watch; a record has its desk as a number, as the saved watches of the C interface do.
+#[tactic(auto, unfolding(crate::specs::Kinds::kinds_of, model::specs::Changes::leave_kind_of, model::specs::Changes::join_kind_of))]
 pub fn kinds_of(watch: u64) -> Kinds
     ensures { result ≡ kinds_of watch }
 {

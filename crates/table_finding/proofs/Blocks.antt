@@ -52,11 +52,11 @@ module _ (s : Rows) where
   dull_none a = refl
 
   pub dull_more : (a k : ℕ) (c : Comparison) → c ≡ compared s.d s.directions s.quote (drop ((a + k) * s.d) s.columns)
-      → dull_in s a (k + 1) ≡ dull_in s a k && c.better && c.worse
+      → dull_in s a (k + 1) ≡ dull_in s a k && (c.better && c.worse)
   unfolding dull_in any
   dull_more a k c e = rw (add-one, run_snoc, any_append, crosses_by (a + k) c e) (go (any (λ i. not (crosses s i)) (run a k)) c.better c.worse)
     where
-      go : (x y z : Bool) → not (x || (not (y && z) || false)) ≡ not x && y && z
+      go : (x y z : Bool) → not (x || (not (y && z) || false)) ≡ not x && (y && z)
       go true y z = refl
       go false true true = refl
       go false true false = refl

@@ -6,10 +6,12 @@ use native.Mathlib.Nat.{le_refl}
 use native.Mathlib.Omega.{arith}
 use mathlib.Core.Bool.{Bool, true, false, ◌&&◌, ◌||◌, not}
 use mathlib.Core.List.{List}
-use lib.Dec.{eqb, ltb}
+use Rattle.std.proofs.Common.{None}
+use Rattle.std.specs.Option.{is_some}
+use lib.Dec.{eqb}
 use lib.ListN.{length, get_or}
 use lib.Seq.{drop-length}
-use borrow.Author.Tests.{eqb-true, ltb-true, not-true}
+use borrow.Author.Tests.{eqb-true, not-true}
 use Rattle.lists.specs.Lists.{filter, run}
 use Rattle.lists.proofs.Booleans.{and_left, and_right}
 use Rattle.table_finding.specs.Found.{live, taken_live, Rows, over, under, retires, retired, Room, Finds, Passing, Idle}
@@ -21,11 +23,11 @@ use Rattle.table_finding.proofs.Idling.{passed_any}
 
 module _ (s : Rows) where
   -- before any row is gone through
-  pub finds_none : (b : ℕ) (places : List ℕ) (f : Found) → f.at ≡ length places → f.last ≡ 0 → Finds s b b places f
+  pub finds_none : (b : ℕ) (places : List ℕ) (f : Found) → f.at ≡ length places → f.last ≡ None → Finds s b b places f
   unfolding retired filter run
   finds_none b places f e z = record {
     listed = let n : b - b ≡ 0 = omega arith in rw (n, e, drop-length);
-    last = z ∙ sym (youngest_none s b b (λ q u l. absurd (omega arith)));
+    last = rw z (sym (youngest_none s b b (λ q u l. absurd (omega arith))));
     most = omega (arith, e);
   }
 
@@ -57,18 +59,19 @@ module _ (s : Rows) where
     }
 
     -- past rows that say nothing
-    pub going_pass : (k : ℕ) → (from ≤ k) × (k ≤ i) → ((q : ℕ) → k ≤ q → q < i → Idle s (eqb g.last 0) q) → Going sound from to before f places k g
-    going_pass k h e = going_turn k h.0 h.1 places g (room_less h.1 v.room) refl (λ b l w u. passed_any s h.1 l e u)
+    pub going_pass : {sought : Bool} (k : ℕ) → from ≤ k → k ≤ i → is_some g.last ≡ not sought → ((q : ℕ) → k ≤ q → q < i → Idle s sought q)
+        → Going sound from to before f places k g
+    going_pass k h l t o = going_turn k h l places g (room_less l v.room) refl (λ b m w u. passed_any s l m t o u)
 
     -- down to the first row
     pub going_end : i ≤ from → Room s from places g.at × ((b : ℕ) → to ≤ b → Passing s sound from to b before f places g)
     going_end h = let e : i ≡ from = omega (arith, v.least) in (rw (← e) v.room, λ b l w u. rw (← e) (v.gone b l (λ t. sound_later s (w t) i v.least) u))
 
     -- down to one over the quote, where the rows' ends are sound
-    pub going_stop : sound && ltb 0 g.last ≡ true → Room s from places g.at × ((b : ℕ) → to ≤ b → Passing s sound from to b before f places g)
+    pub going_stop : sound && is_some g.last ≡ true → Room s from places g.at × ((b : ℕ) → to ≤ b → Passing s sound from to b before f places g)
     going_stop t =
-        let sure = and_left sound (ltb 0 g.last) t in
-        let found = ltb-true 0 g.last (and_right sound (ltb 0 g.last) t) in (
+        let sure = and_left sound (is_some g.last) t in
+        let found = and_right sound (is_some g.last) t in (
           room_less v.least v.room,
           λ b l w u. sound_stops s (w sure) v.least (omega (arith, v.most)) found (v.gone b l (λ t. sound_later s (w t) i v.least) u),
         )
@@ -79,21 +82,21 @@ module _ (s : Rows) where
   row_next {i = i} h o b l w v = let e : suc (i - 1) ≡ i = omega arith in o b (omega arith) w (rw e v)
 
   -- a row that is not live, where its end is sound or a row over the quote is found
-  pub dead_row : (sound : Bool) {i b : ℕ} {places : List ℕ} {f : Found} → i < b → not (eqb (get_or s.uppers i 0) 0) && (sound || ltb 0 f.last) ≡ true
+  pub dead_row : (sound : Bool) {i b : ℕ} {places : List ℕ} {f : Found} → i < b → not (eqb (get_or s.uppers i 0) 0) && (sound || is_some f.last) ≡ true
       → Passing s sound i (suc i) b places f places f
   unfolding live
   dead_row sound {i} {f = f} h t w v =
       let one = not (eqb (get_or s.uppers i 0) 0) in
-      let dead = not-true (live s.uppers i) (and_left one (sound || ltb 0 f.last) t) in
-      dead_rows s sound (omega arith) h (λ q u l. let e : q ≡ i = omega arith in rw e dead) (and_right one (sound || ltb 0 f.last) t) w v
+      let dead = not-true (live s.uppers i) (and_left one (sound || is_some f.last) t) in
+      dead_rows s sound (omega arith) h (λ q u l. let e : q ≡ i = omega arith in rw e dead) (and_right one (sound || is_some f.last) t) w v
 
   module _ {sound : Bool} {from to : ℕ} {places : List ℕ} {f : Found} (h : from ≤ to) (r : Room s to places f.at) where
     -- a block of rows none of which is live
-    pub dead_block : (dense : Bool) {n : ℕ} → to ≤ from + 64 → n ≡ taken_live dense s.uppers to → eqb n 0 && (sound || ltb 0 f.last) ≡ true
+    pub dead_block : (dense : Bool) {n : ℕ} → to ≤ from + 64 → n ≡ taken_live dense s.uppers to → eqb n 0 && (sound || is_some f.last) ≡ true
         → Room s from places f.at × ((b : ℕ) → to ≤ b → Passing s sound from to b places f places f)
     dead_block dense {n} k e t =
-        let z = eqb-true n 0 (and_left (eqb n 0) (sound || ltb 0 f.last) t) in
-        (room_less h r, λ b l w v. dead_rows s sound h l (none_taken s dense k (sym e ∙ z)) (and_right (eqb n 0) (sound || ltb 0 f.last) t) w v)
+        let z = eqb-true n 0 (and_left (eqb n 0) (sound || is_some f.last) t) in
+        (room_less h r, λ b l w v. dead_rows s sound h l (none_taken s dense k (sym e ∙ z)) (and_right (eqb n 0) (sound || is_some f.last) t) w v)
 
     -- a block of rows none of which is comparable
     pub apart_block : ((q : ℕ) → from ≤ q → q < to → (over s q ≡ false) × (under s q ≡ false))

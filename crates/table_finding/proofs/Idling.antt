@@ -7,7 +7,7 @@ use native.Mathlib.Decide.{dec_lt}
 use native.Mathlib.Omega.{arith}
 use mathlib.Core.Bool.{Bool, true, false, not}
 use mathlib.Core.List.{List}
-use lib.Dec.{eqb}
+use Rattle.std.specs.Option.{is_some}
 use lib.ListN.{length, take, drop, length-drop}
 use lib.Seq.{take_all, get_or-drop}
 use borrow.Author.Tests.{not-true, not-false}
@@ -20,15 +20,7 @@ use Rattle.dominance.proofs.Columns.{no_worse_at, at_no_worse}
 use Rattle.table_finding.specs.Found.{live, Rows, over, under, retires, Finds, Idle}
 use Rattle.table_finding.specs.declared.Found.{Found}
 use Rattle.table_finding.proofs.Comparisons.{over_by, under_by}
-use Rattle.table_finding.proofs.Passing.{passed, eqb_above}
-
--- a number that is not another, which is no more, is above it
-pub apart_above : {a b : ℕ} → a ≤ b → (b ≡ a → ⊥) → a < b
-apart_above {a} {b} h n = go (dec_lt a b)
-  where
-    go : Dec (a < b) → a < b
-    go (yes l) = l
-    go (no m) = absurd (n (omega arith))
+use Rattle.table_finding.proofs.Passing.{passed}
 
 -- ---- columns compared up to the first that is worse
 
@@ -37,20 +29,17 @@ pub rest_whole : (x : ℕ) (l : List ℕ) → take (length l - x) (drop x l) ≡
 rest_whole x l = take_all (length l - x) (drop x l) (omega (arith, length-drop x l))
 
 -- what comparing column i says
-pub worse_at : (directions : ℕ) {bits : ℕ} (i : ℕ) (xs : List ℕ) (x : ℕ) (ys : List ℕ) (y : ℕ) (c : Comparison) → bits ≡ directions / 2 ^ i
-    → c ≡ compared 1 bits (take (length xs - (x + i)) (drop (x + i) xs)) (drop (y + i) ys) → c.worse ≡ better_at directions i (drop y ys) (drop x xs)
+pub worse_at : (directions : ℕ) {bits : ℕ} (i : ℕ) (xs ys : List ℕ) (c : Comparison) → bits ≡ directions / 2 ^ i
+    → c ≡ compared 1 bits (take (length xs - i) (drop i xs)) (drop i ys) → c.worse ≡ better_at directions i ys xs
 unfolding compared some_better better_at
-worse_at directions {bits} i xs x ys y c b e =
+worse_at directions {bits} i xs ys c b e =
     rw (
       e,
-      rest_whole (x + i) xs,
+      rest_whole i xs,
       shifted directions bits i b,
-      get_or-drop (y + i) ys 0 0,
-      get_or-drop (x + i) xs 0 0,
-      get_or-drop y ys i 0,
-      get_or-drop x xs i 0,
-      add-zero (y + i),
-      add-zero (x + i),
+      get_or-drop i ys 0 0,
+      get_or-drop i xs 0 0,
+      add-zero i,
     )
 
 module _ (d directions : ℕ) (p q : List ℕ) where
@@ -136,10 +125,11 @@ module _ (s : Rows) where
       part q l m (no n) = v.idle q (omega arith) m
 
   -- they say no more of what is found
-  pub passed_any : {from i b : ℕ} {places : List ℕ} {f : Found} → from ≤ i → i ≤ b → ((q : ℕ) → from ≤ q → q < i → Idle s (eqb f.last 0) q)
-      → Finds s i b places f → Finds s from b places f
-  passed_any {from} {i} {b} {places} {f} h l e v = passed s h l (λ q u m. (e q u m).kept) (which (eqb f.last 0) refl) v
+  pub passed_any : {from i b : ℕ} {places : List ℕ} {f : Found} {sought : Bool} → from ≤ i → i ≤ b → is_some f.last ≡ not sought
+      → ((q : ℕ) → from ≤ q → q < i → Idle s sought q) → Finds s i b places f → Finds s from b places f
+  passed_any {from} {i} {b} {places} {f} {sought} h l k e v = passed s h l (λ q u m. (e q u m).kept) (which sought k e) v
     where
-      which : (x : Bool) → eqb f.last 0 ≡ x → ((q : ℕ) → from ≤ q → q < i → under s q ≡ false) ⊎ (0 < f.last)
-      which true t = inl (λ q u m. (e q u m).not_over t)
-      which false t = inr (eqb_above f.last t)
+      which : (x : Bool) → is_some f.last ≡ not x → ((q : ℕ) → from ≤ q → q < i → Idle s x q)
+          → ((q : ℕ) → from ≤ q → q < i → under s q ≡ false) ⊎ (is_some f.last ≡ true)
+      which true t o = inl (λ q u m. (o q u m).not_over refl)
+      which false t o = inr t

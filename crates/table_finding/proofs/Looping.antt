@@ -1,48 +1,48 @@
 -- The invariants of the loops that count live rows and compare rows side by side, and how many rows of a block are taken for live.
-use mathlib.Core.Path.{◌≡◌, refl, sym, ◌∙◌}
-use Prim.Native.Nat.{ℕ, suc, ◌+◌, ◌-◌, ◌*◌, ◌≤◌, ◌<◌}
+use mathlib.Core.Path.{◌≡◌, refl, sym, ap, ◌∙◌}
+use Prim.Native.Nat.{ℕ, zero, suc, ◌+◌, ◌-◌, ◌*◌, ◌≤◌, ◌<◌}
 use native.Mathlib.Nat.{add-zero, suc-mul, mul-le-mul_right}
 use native.Mathlib.Omega.{arith}
 use mathlib.Core.Bool.{Bool, true, false, ◌&&◌, cond}
 use mathlib.Core.List.{List}
+use Rattle.std.proofs.Common.{◌==◌}
+use Rattle.std.specs.List.{count_by}
+use Rattle.std.proofs.lemmas.List.Sums.{count_by_more_yes, count_by_more_no}
 use lib.Dec.{ltb}
-use lib.ListN.{length, drop}
-use borrow.Author.Tests.{ltb-false, lt-ltb, le-ltb}
+use lib.ListN.{length, take, drop, length-drop}
+use lib.Seq.{get_or-drop}
+use borrow.Author.Tests.{ltb-false, le-ltb}
 use Rattle.lists.specs.Lists.{filter, run}
 use Rattle.dominance.specs.declared.Comparison.{Comparison}
 use Rattle.dominance.specs.Compared.{compared}
-use Rattle.table_finding.specs.Found.{live, live_in, taken_live, dull_in, Rows, rows, Fits, Room}
-use Rattle.table_finding.proofs.Blocks.{live_more, none_live, dull_none, dull_more}
+use Rattle.table_finding.specs.Found.{live, live_in, taken_live, dull_in, Rows, Fits, Room}
+use Rattle.table_finding.proofs.Blocks.{live_more, none_live, dull_more}
 
--- i of 64 rows have been counted
-pub record Counting (uppers : List ℕ) (from count i : ℕ) : Type 0 where
-  pub within : i ≤ 64
-  pub bounded : count ≤ i
-  pub count≡ : count ≡ live_in uppers from i
-
-pub count_start : (uppers : List ℕ) (from : ℕ) → Counting uppers from 0 0
+live_none : (uppers : List ℕ) (from : ℕ) → 0 ≡ live_in uppers from 0
 unfolding live_in filter run
-count_start uppers from = record { within = omega arith; bounded = omega arith; count≡ = refl }
+live_none uppers from = refl
 
-pub count_turn : {uppers : List ℕ} {from count i : ℕ} → Counting uppers from count i → i < 64 → (n : ℕ) → n ≡ cond (live uppers (from + i)) 1 0 → n ≤ 1
-    → Counting uppers from (count + n) (i + 1)
-count_turn {uppers} {from} {count} {i} v h n e o = record {
-  within = omega arith;
-  bounded = omega (arith, v.bounded);
-  count≡ = rw (live_more uppers from i, ← v.count≡, ← e);
-}
+-- one row more of a part passes the test if it is live
+count_more : (uppers : List ℕ) (from k : ℕ) → from + k < length uppers → (b : Bool) → live uppers (from + k) ≡ b
+    → count_by (λ u. u == 0) (take (k + 1) (drop from uppers)) ≡ count_by (λ u. u == 0) (take k (drop from uppers)) + cond b 1 0
+unfolding live
+count_more uppers from k h true e =
+    count_by_more_yes (λ u. u == 0) (drop from uppers) k 0 (omega (arith, length-drop from uppers)) (rw (get_or-drop from uppers k 0) e)
+count_more uppers from k h false e =
+    count_by_more_no (λ u. u == 0) (drop from uppers) k 0 (omega (arith, length-drop from uppers)) (rw (get_or-drop from uppers k 0) e)
+    ∙ sym (add-zero (count_by (λ u. u == 0) (take k (drop from uppers))))
 
--- how many rows are taken for live below a place: one where there are fewer than 64
-pub taken_bounded : (dense : Bool) (uppers : List ℕ) (to : ℕ) → to < 64 → 1 ≡ taken_live dense uppers to
-unfolding taken_live
-taken_bounded dense uppers to h = rw (lt-ltb to 64 h)
+-- of the rows from a place on as many are live as pass the test in the part that begins there
+pub counted : (uppers : List ℕ) (from k : ℕ) → from + k ≤ length uppers → count_by (λ u. u == 0) (take k (drop from uppers)) ≡ live_in uppers from k
+counted uppers from zero h = live_none uppers from
+counted uppers from (suc k) h =
+    let e : suc k ≡ k + 1 = omega arith in
+    rw e
+    (count_more uppers from k (omega arith) (live uppers (from + k)) refl
+    ∙ ap (λ (n : ℕ). n + cond (live uppers (from + k)) 1 0) (counted uppers from k (omega arith))
+    ∙ sym (live_more uppers from k))
 
--- all 64 in a dense book
-pub taken_dense : (dense : Bool) (uppers : List ℕ) (to : ℕ) → 64 ≤ to → dense ≡ true → 64 ≡ taken_live dense uppers to
-unfolding taken_live
-taken_dense dense uppers to h e = rw (le-ltb to 64 h, e)
-
--- those that are live in another
+-- how many rows are taken for live below a place in a book that is not dense: those that are
 pub taken_counted : (dense : Bool) (uppers : List ℕ) (to : ℕ) → 64 ≤ to → dense ≡ false → {n : ℕ} → n ≡ live_in uppers (to - 64) 64 → n ≡ taken_live dense uppers to
 unfolding taken_live
 taken_counted dense uppers to h e f = f ∙ rw (le-ltb to 64 h, e)
@@ -75,22 +75,13 @@ module _ (s : Rows) where
   pub fits_at : {b : ℕ} → 64 ≤ b → Fits s b → Fits s (b - 64 + 64)
   fits_at {b} h v = let e : b - 64 + 64 ≡ b = omega arith in rw e v
 
-  -- i of 64 rows have been compared
-  pub record Comparing (from : ℕ) (all : Bool) (start i : ℕ) : Type 0 where
-    pub within : i ≤ 64
-    pub start≡ : start ≡ (from + i) * s.d
-    pub all≡ : all ≡ dull_in s from i
-
-  pub compare_start : (from : ℕ) → Comparing from true (from * s.d) 0
-  compare_start from = record { within = omega arith; start≡ = rw add-zero; all≡ = sym (dull_none s from) }
-
-  pub compare_turn : {from : ℕ} {all : Bool} {start i : ℕ} → Comparing from all start i → i < 64 → (c : Comparison)
-      → c ≡ compared s.d s.directions s.quote (drop start s.columns) → Comparing from (all && c.better && c.worse) (start + s.d) (i + 1)
-  compare_turn {from} {all} {start} {i} v h c e = record {
-    within = omega arith;
-    start≡ = let z : from + (i + 1) ≡ suc (from + i) = omega arith in rw (z, suc-mul, v.start≡);
-    all≡ = rw v.all≡ (sym (dull_more s from i c (e ∙ rw v.start≡)));
-  }
+  -- one of 64 rows more is compared
+  pub compare_turn : (from k : ℕ) {all : Bool} → from ≤ k → all ≡ dull_in s from (k - from) → (c : Comparison)
+      → c ≡ compared s.d s.directions s.quote (drop (k * s.d) s.columns) → all && (c.better && c.worse) ≡ dull_in s from (k + 1 - from)
+  compare_turn from k {all} h v c e =
+      let n : from + (k - from) ≡ k = omega arith in
+      let m : k + 1 - from ≡ k - from + 1 = omega arith in
+      rw (m, v) (sym (dull_more s from (k - from) c (rw n e)))
 
   -- the list has room once a place more is listed
   pub room_pushed : {i at : ℕ} {places places' : List ℕ} → Room s (suc i) places at → (next : ℕ) → (at - 1 ≤ next) × (next ≤ at) → length places' ≡ length places → Room s i places' next
@@ -107,12 +98,3 @@ module _ (s : Rows) where
       go false w false z =
           let k : 64 ≤ to = ltb-false to 64 w in
           none_live (live s.uppers) (to - 64) 64 z q (omega arith) (omega arith)
-
--- where d is k, what is asked and said of rows of d columns is asked and said of rows of k
-pub dull_asked_at : {d k directions : ℕ} {columns uppers quote : List ℕ} {n : ℕ} → d ≡ k
-    → Fits (rows d directions columns uppers quote) n → Fits (rows k directions columns uppers quote) n
-dull_asked_at e v = rw (← e) v
-
-pub dull_said_at : {d k : ℕ} (directions : ℕ) (columns uppers quote : List ℕ) (from : ℕ) {r : Bool} → d ≡ k
-    → r ≡ dull_in (rows k directions columns uppers quote) from 64 → r ≡ dull_in (rows d directions columns uppers quote) from 64
-dull_said_at directions columns uppers quote from e v = rw e v

@@ -1,7 +1,8 @@
 -- What a quote finds among the rows of a table: those that it retires, and the youngest row over it.
-use Rattle.std.specs.Prelude.{◌≡◌, ℕ, suc, ◌-◌, ◌*◌, ◌≤◌, ◌<◌, Bool, true, false, ◌&&◌, not, cond, List, ltb, eqb, length, get_or, take, drop}
+use Rattle.std.specs.Prelude.{◌≡◌, ℕ, suc, ◌-◌, ◌*◌, ◌≤◌, ◌<◌, Bool, true, false, ◌&&◌, not, cond, List, ltb, eqb, length, get_or, take, drop, Option, Some, None}
 use Rattle.lists.specs.Lists.{filter, any, last_or, run}
 use Rattle.dominance.specs.Dominance.{no_worse, dominates, some_better}
+use Rattle.table_finding.specs.declared.ComparedRows.{ComparedRows}
 use Rattle.table_finding.specs.declared.Found.{Found}
 
 -- the row at place i is live: its upper end is 0
@@ -26,6 +27,15 @@ pub record Rows : Type 0 where
 
 abbrev pub rows : ℕ → ℕ → List ℕ → List ℕ → List ℕ → Rows
 rows d directions columns uppers quote = record { d = d; directions = directions; columns = columns; uppers = uppers; quote = quote }
+
+-- the rows that a quote is compared with
+abbrev pub rows_of : ComparedRows → Rows
+rows_of r = rows r.d r.directions r.columns.now r.uppers.now r.quote.now
+
+-- the number of the row at a place, counted from 1, or 0 where there is none
+abbrev pub last_number : Option ℕ → ℕ
+last_number None = 0
+last_number (Some i) = suc i
 
 module _ (s : Rows) where
   -- the columns of the row at place i
@@ -83,10 +93,15 @@ module _ (s : Rows) where
     pub kept : retires i ≡ false
     pub not_over : sought ≡ true → under i ≡ false
 
+  -- place i is that of the youngest row from place a on and below b that may say something, or there is none
+  abbrev pub NextSaid : Bool → ℕ → ℕ → Option ℕ → Type 0
+  NextSaid sought a b None = (q : ℕ) → a ≤ q → q < b → Idle sought q
+  NextSaid sought a b (Some i) = (a ≤ i) × (i < b) × ((q : ℕ) → i < q → q < b → Idle sought q)
+
   -- what is to be found: the retired rows listed from at on, and the number of the youngest row over the quote
   pub record Finds (a b : ℕ) (places : List ℕ) (r : Found) : Type 0 where
     pub listed : drop r.at places ≡ retired a b
-    pub last : r.last ≡ youngest a b
+    pub last : last_number r.last ≡ youngest a b
     pub most : r.at ≤ length places
 
   -- what was found from place i on and below b goes on to what is found from place a on, if the ends of the rows there are sound where

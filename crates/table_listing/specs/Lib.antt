@@ -2,3 +2,4 @@
 pub mod Picked
 pub mod Joins
 pub mod Due
+pub mod Listed

@@ -3,21 +3,21 @@
 #![tactic(auto)]
 
 mod due;
+mod window;
 
-ghost use Rattle.std.specs.Prelude.{◌≡◌, ◌≤◌, ◌&&◌, ◌||◌, [], map, ltb, eqb, length};
+ghost use Rattle.std.specs.Prelude.{◌≡◌, ◌≤◌, [], map, length};
 ghost use Rattle.lists.specs.Lists.{laid};
 ghost use Rattle.skyline.specs.Skyline.{window_start};
 ghost use Rattle.head.specs.Desks.{desk_number};
 ghost use Rattle.head.specs.Heads.{last_position};
 ghost use Rattle.frames.specs.Frames.{frame};
 ghost use Rattle.model.specs.Changes.{join_kind_of, frames};
-ghost use Rattle.table_listing.specs.Picked.{listed_in, Window};
 ghost use Rattle.table_listing.specs.Joins.{join_of};
 
-pub use due::{count_due, write_due};
 use frames::{JOIN, JOIN_TWO, PAIR_JOIN};
 use head::{Desk, Head};
 use octets::{lay_change, lay_position};
+pub use window::RowWindow;
 
 // What follows a list: a desk's watch of n, or the pair.
 #[derive(Clone, Copy)]
@@ -32,58 +32,6 @@ pub fn start_of(head: Head, n: u32) -> u32
     ensures { result ≡ window_start head.newest n }
 {
     head.window_start(n) as u32
-}
-
-// Whether a row of the window from a to b is on its list, by its ends.
-fn is_listed(a: u32, b: u32, lower: u32, upper: u32) -> bool
-    ensures { result ≡ (ltb lower a && (eqb upper 0 || ltb b upper)) }
-{
-    (lower < a) & ((upper == 0) | (b < upper))
-}
-
-// How many rows are on the list of the window from a to b; the row at place 0 has position first.
-pub fn count_listed(lower_ends: &[u32], upper_ends: &[u32], first: u32, a: u32, b: u32) -> usize
-    requires { Window first a b lower_ends.now upper_ends.now }
-    ensures { result ≡ length (listed_in a b first lower_ends.now upper_ends.now) }
-{
-    let end = (b as usize) + 1 - (first as usize);
-    let mut n: u32 = 0;
-    let mut i = (a - first) as usize;
-    while i < end {
-        n += is_listed(a, b, lower_ends[i], upper_ends[i]) as u32;
-        i += 1;
-    }
-    n as usize
-}
-
-// Writes the positions of the list of the window from a to b to the front of out. Returns how many.
-pub fn write_listed(
-    lower_ends: &[u32],
-    upper_ends: &[u32],
-    first: u32,
-    a: u32,
-    b: u32,
-    out: &mut [u32],
-) -> usize
-    requires window { Window first a b lower_ends.now upper_ends.now }
-    requires upper_ends_in_bounds { length (listed_in a b first lower_ends.now upper_ends.now) ≤ length out.old }
-    ensures value { result ≡ length (listed_in a b first lower_ends.now upper_ends.now) }
-    ensures out_after { out.new ≡ laid (listed_in a b first lower_ends.now upper_ends.now)
-        out.old }
-{
-    let end = (b as usize) + 1 - (first as usize);
-    let mut at: usize = 0;
-    let mut i = (a - first) as usize;
-    while i < end {
-        let position = first + (i as u32);
-        let listed = is_listed(a, b, lower_ends[i], upper_ends[i]);
-        i += 1;
-        if listed {
-            out[at] = position;
-            at += 1;
-        }
-    }
-    at
 }
 
 // The kind of a desk's joins.
@@ -103,45 +51,67 @@ fn lay_join(follower: Follower, position: u32, out: &mut [u8]) -> usize
     ensures out_after { out.new ≡ laid (frame (join_of follower position) []) out.old }
 {
     match follower {
-        Follower::Pair => {}
         Follower::Watch(desk, n) => {
             lay_change(join_kind(desk), n, position, out);
-            return 7;
+            7
+        }
+        Follower::Pair => {
+            lay_position(PAIR_JOIN, position, out);
+            5
         }
     }
-    lay_position(PAIR_JOIN, position, out);
-    5
 }
 
-// Writes the follower's join of each position of the list of the window from a to b. Returns how many bytes.
-pub fn write_joins(
-    follower: Follower,
-    lower_ends: &[u32],
-    upper_ends: &[u32],
-    first: u32,
-    a: u32,
-    b: u32,
-    out: &mut [u8],
-) -> usize
-    requires window { Window first a b lower_ends.now upper_ends.now }
-    requires upper_ends_in_bounds { length (frames (map (join_of follower) (listed_in a b first lower_ends.now upper_ends.now)))
-        ≤ length out.old }
-    ensures value { result ≡ length (frames (map (join_of follower)
-        (listed_in a b first lower_ends.now upper_ends.now))) }
-    ensures out_after { out.new ≡ laid (frames
-        (map (join_of follower) (listed_in a b first lower_ends.now upper_ends.now)))
-        out.old }
-{
-    let end = (b as usize) + 1 - (first as usize);
-    let mut at: usize = 0;
-    let mut i = (a - first) as usize;
-    while i < end {
-        let position = first + (i as u32);
-        let listed = is_listed(a, b, lower_ends[i], upper_ends[i]);
-        i += 1;
-        if listed {
+impl RowWindow<'_> {
+    ghost use Rattle.table_listing.specs.Listed.{on_list};
+
+    // How many rows are on the window's list.
+    pub fn count_listed(&self) -> usize
+        ensures { result ≡ length (on_list self.now) }
+    {
+        // `zip` and `filter(..).count()` take ten times the instructions: 2,714 for 901 rows, where this takes 262
+        let mut n: u32 = 0;
+        for i in self.first_place()..self.places_end() {
+            let listed = self.lists(self.lower_ends[i], self.upper_ends[i]);
+            n += u32::from(listed);
+        }
+        n as usize
+    }
+
+    // Writes the positions of the window's list to the front of out. Returns how many.
+    pub fn write_listed(&self, out: &mut [u32]) -> usize
+        requires { length (on_list self.now) ≤ length out.old }
+        ensures value { result ≡ length (on_list self.now) }
+        ensures out_after { out.new ≡ laid (on_list self.now) out.old }
+    {
+        let window = *self;
+        let mut at: usize = 0;
+        for i in window.first_place()..window.places_end() {
+            if !window.lists(window.lower_ends[i], window.upper_ends[i]) {
+                continue;
+            }
+            out[at] = window.first + (i as u32);
+            at += 1;
+        }
+        at
+    }
+
+    // Writes the follower's join of each position of the window's list. Returns how many bytes.
+    pub fn write_joins(&self, follower: Follower, out: &mut [u8]) -> usize
+        requires { length (frames (map (join_of follower) (on_list self.now))) ≤ length out.old }
+        ensures value { result ≡ length (frames (map (join_of follower) (on_list self.now))) }
+        ensures out_after { out.new ≡ laid (frames
+            (map (join_of follower) (on_list self.now))) out.old }
+    {
+        let window = *self;
+        let mut at: usize = 0;
+        for i in window.first_place()..window.places_end() {
+            if !window.lists(window.lower_ends[i], window.upper_ends[i]) {
+                continue;
+            }
+            let position = window.first + (i as u32);
             at += lay_join(follower, position, &mut out[at..]);
         }
+        at
     }
-    at
 }

@@ -1,4 +1,5 @@
 -- A loop that writes a frame for each row that is sought by a key, from one such key to the next: its invariant and its turns.
+use Rattle.std.specs.Prelude.{Option, Some, None}
 use mathlib.Core.Path.{◌≡◌, sym, ap, ◌∙◌}
 use Prim.Native.Nat.{ℕ, ◌+◌, ◌-◌, ◌≤◌, ◌<◌}
 use native.Mathlib.Nat.{zero-add}
@@ -18,7 +19,7 @@ use Rattle.table_listing.specs.Picked.{picked}
 use Rattle.table_listing.proofs.Picking.{picked_skip}
 use Rattle.table_listing.proofs.Writing.{Writing, writing_start, writing_fits, writing_pass, writing_more, writing_skip, writing_all}
 use Rattle.table_listing.proofs.Framing.{framing, frames_cells}
-use Rattle.table_changes.specs.Sought.{Unequal, Next}
+use Rattle.table_changes.specs.Sought.{Unequal, Next, place_or, Found}
 use Rattle.table_pair_changes.specs.Pairs.{sought}
 
 module _ (keys : List ℕ) (x : ℕ) (rest : ℕ → Bool) (s : ℕ) where
@@ -95,3 +96,32 @@ module _ {m : ℕ → Message} {keys : List ℕ} {x : ℕ} {rest : ℕ → Bool}
   pub seeking_all : (k : ℕ) → s + k ≡ to → {entry out : List ℕ} {at i : ℕ} → Seeking m keys x rest first s to entry out at i → to ≤ i
       → (at ≡ length (frames (map m (sought first keys x rest s k)))) × (out ≡ laid (frames (map m (sought first keys x rest s k))) entry)
   seeking_all k e u h = rw (sought_picked keys x rest s first k, e, frames_cells m) (writing_all u.writing h)
+
+-- so it is at the next place that was found, which is below the end
+pub record SeekingAt (m : ℕ → Message) (keys : List ℕ) (x : ℕ) (rest : ℕ → Bool) (first s to : ℕ) (entry out : List ℕ) (at : ℕ) (next : Option ℕ) : Type 0 where
+  pub seeking : Seeking m keys x rest first s to entry out at (place_or to next)
+  pub below : (i : ℕ) → next ≡ Some i → i < to
+
+module _ {m : ℕ → Message} {keys : List ℕ} {x : ℕ} {rest : ℕ → Bool} {first s to : ℕ} where
+  pub found_first : (entry : List ℕ) (k : ℕ) {from : ℕ} {next : Option ℕ} → s + k ≡ to → length (frames (map m (sought first keys x rest s k))) ≤ length entry
+      → Unequal keys x s to from → Found keys x from to next → SeekingAt m keys x rest first s to entry entry 0 next
+  found_first entry k e h u f = record { seeking = seeking_start entry k e h u f.next; below = f.below }
+
+  module _ (size : (p : ℕ) → length (framing m p) ≡ 5) {entry out : List ℕ} {at i : ℕ} {now next : Option ℕ} {b : Bool}
+      (u : SeekingAt m keys x rest first s to entry out at now) (is : now ≡ Some i) (e : Found keys x (i + 1) to next) (q : b ≡ rest i) where
+    here : Seeking m keys x rest first s to entry out at i
+    here = rw is at u.seeking
+
+    pub turn_fits : b ≡ true → at + 5 ≤ length out
+    turn_fits t = seeking_fits size here (u.below i is) e.next q t
+
+    pub turn_pass : b ≡ false → SeekingAt m keys x rest first s to entry out at next
+    turn_pass t = record { seeking = seeking_pass size here (u.below i is) e.next q t; below = e.below }
+
+    pub turn_more : {last : List ℕ} → last ≡ laid (framing m (first + i)) (mid_of at (length out - at) out) → b ≡ true
+        → SeekingAt m keys x rest first s to entry (put_mid at (length out - at) out last) (at + 5) next
+    turn_more l t = record { seeking = seeking_more size here (u.below i is) e.next q l t; below = e.below }
+
+  pub all_found : (k : ℕ) → s + k ≡ to → {entry out : List ℕ} {at : ℕ} {now : Option ℕ} → SeekingAt m keys x rest first s to entry out at now → now ≡ None
+      → (at ≡ length (frames (map m (sought first keys x rest s k)))) × (out ≡ laid (frames (map m (sought first keys x rest s k))) entry)
+  all_found k e u is = seeking_all k e (rw is at u.seeking) (omega arith)

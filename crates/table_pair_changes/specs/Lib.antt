@@ -1,2 +1,3 @@
 -- The definitions of the crate.
 pub mod Pairs
+pub mod Frames

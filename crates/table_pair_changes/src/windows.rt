@@ -4,13 +4,16 @@ ghost use Rattle.lists.specs.Lists.{keep, laid};
 ghost use Rattle.head.specs.Heads.{last_position};
 ghost use Rattle.frames.specs.declared.Message.TheVariants.{Position};
 ghost use Rattle.model.specs.Changes.{frames};
-ghost use Rattle.table_pair_changes.specs.Pairs.{falls, begun, end_shift};
+ghost use Rattle.table_pair_changes.specs.Pairs.{lasts, falls, begun, end_shift};
 
-use head::Head;
+use crate::pair_window::PairWindow;
+use head::{Head, PAIR_FRAME};
 use octets::lay_position;
 use table_changes::Shift;
 
-// Whether a pair stands, and the next quote brings its window a position.
+// Whether a pair stands, and the next quote brings its window a position. An n1 of 0 stands for no pair, as in the saved head of the C
+// interface.
+#[tactic(auto, unfolding(crate::specs::Pairs::begun))]
 pub fn begun(head: Head) -> bool
     requires { head.newest < last_position }
     ensures { result ≡ begun head }
@@ -31,20 +34,30 @@ pub fn end_of(head: Head) -> Shift
     }
 }
 
-// Whether the row at the window's old start leaves the list: the window moves past it, and it was listed.
-pub fn falls(upper_ends: &[u32], first: u32, start: Shift, end: Shift) -> bool
-    requires first_le_before { first ≤ start.before }
-    requires before_bound { start.before < start.after → start.before < first + length upper_ends.now }
-    ensures { result ≡ falls first upper_ends.now start end }
+// Whether an upper end does not lie in a window up to a position.
+pub fn lasts(end: u32, upper: u32) -> bool
+    ensures { result ≡ lasts end upper }
 {
-    if start.after <= start.before {
-        return false;
-    }
-    let upper = upper_ends[(start.before - first) as usize];
-    (upper == 0) | (end.before < upper)
+    (upper == 0) | (end < upper)
 }
 
-// Writes the frame of a kind and a position, if it is asked for. Returns how many bytes.
+impl PairWindow<'_> {
+    // Whether the row at the window's old start leaves the list: the window moves past it, and it was listed.
+    #[tactic(auto, unfolding(crate::specs::Pairs::falls))]
+    pub fn falls(&self) -> bool
+        ensures { result ≡ falls self.now.first self.now.upper_ends.now self.now.start self.now.end }
+    {
+        let start = self.start.before;
+        start < self.start.after
+            && lasts(
+                self.end.before,
+                self.upper_ends[(start - self.first) as usize],
+            )
+    }
+}
+
+// Writes the frame of a kind and a position, if it is asked for. Returns how many bytes. The test stands beside the position, as in `keep`,
+// since both callers have it as a test and would only wrap it.
 pub fn write_one(kind: u8, position: u32, asked: bool, out: &mut [u8]) -> usize
     requires { length (frames (map (Position kind) (keep asked position []))) ≤ length out.old }
     ensures value { result ≡ length (frames (map (Position kind) (keep asked position []))) }
@@ -55,5 +68,5 @@ pub fn write_one(kind: u8, position: u32, asked: bool, out: &mut [u8]) -> usize
         return 0;
     }
     lay_position(kind, position, out);
-    5
+    PAIR_FRAME
 }

@@ -4,10 +4,11 @@
 
 ghost use Rattle.std.specs.Prelude.{◌≡◌, ◌+◌, ◌*◌, ◌≤◌};
 ghost use Rattle.head.specs.Heads.{max_capacity};
-ghost use Rattle.model.specs.Promises.{tables};
+ghost use Rattle.lent_tables.specs.Lent.{lent_mut, SameLoan};
 ghost use Rattle.table_starts.specs.Starts.{Long, Within, FullOpened, onward, Moved};
 
 use head::{COLUMN_CELLS, Head, PLACES};
+use lent_tables::LentTablesMut;
 use table_cells::shift;
 
 // Places of the tables that the rows slide through.
@@ -36,22 +37,12 @@ pub fn slid(start: Start, by: usize, head: Head) -> Start
 }
 
 // Moves the rows to the front of the tables where they may find no place behind them for one row more.
-pub fn rewind(
-    start: Start,
-    head: Head,
-    columns: &mut [u32],
-    positions: &mut [u32],
-    lower_ends: &mut [u32],
-    upper_ends: &mut [u32],
-) -> Start
-    requires long { Long (tables columns.old positions.old lower_ends.old upper_ends.old) }
+pub fn rewind(start: Start, head: Head, tables: &mut LentTablesMut<'_>) -> Start
+    requires long { Long (lent_mut tables.old) }
     requires within { Within max_capacity start × FullOpened start head }
     ensures within_2 { Within 1023 result }
-    ensures moved { Moved head
-        (onward start (tables columns.old positions.old lower_ends.old
-        upper_ends.old))
-        (onward result (tables columns.new positions.new lower_ends.new
-        upper_ends.new)) }
+    ensures moved { Moved head (onward start (lent_mut tables.old)) (onward result (lent_mut tables.new)) }
+    ensures same_loan { SameLoan tables.old tables.new }
 {
     let row = start.row;
     if row < PLACES {
@@ -60,9 +51,9 @@ pub fn rewind(
     let cell = start.cell;
     let n = head.capacity as usize;
     let d = head.dimensions as usize;
-    shift(columns, cell, cell + n * d);
-    shift(positions, row, row + n);
-    shift(lower_ends, row, row + n);
-    shift(upper_ends, row, row + n);
+    shift(tables.columns, cell, cell + n * d);
+    shift(tables.positions, row, row + n);
+    shift(tables.lower_ends, row, row + n);
+    shift(tables.upper_ends, row, row + n);
     Start { row: 0, cell: 0 }
 }

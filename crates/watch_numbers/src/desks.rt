@@ -7,7 +7,7 @@ use head::Desk;
 // What a desk counts for in the number of a record.
 pub const DESK_UNIT: u64 = 4294967296;
 
-// The number of a desk, as a record has it.
+// The number of a desk, as a record has it. A function, since `Desk` and `u32` are both of other crates, and so no `From` can stand here.
 pub fn desk_number(desk: Desk) -> u32
     ensures { result ≡ desk_number desk }
 {
@@ -18,13 +18,15 @@ pub fn desk_number(desk: Desk) -> u32
 }
 
 // The record of a desk's watch of n.
+#[tactic(auto, unfolding(head::specs::Desks::watch_of, head::specs::Desks::record_of))]
 pub fn watch_of(desk: Desk, n: u32) -> u64
     ensures { result ≡ watch_of desk n }
 {
-    (desk_number(desk) as u64) * DESK_UNIT + (n as u64)
+    u64::from(desk_number(desk)) * DESK_UNIT + u64::from(n)
 }
 
 // The desk of a record.
+#[tactic(auto, unfolding(head::specs::Desks::desk_in))]
 pub fn desk_of(watch: u64) -> u32
     ensures { result ≡ desk_in watch }
 {
@@ -32,6 +34,7 @@ pub fn desk_of(watch: u64) -> u32
 }
 
 // The n of a record.
+#[tactic(auto, unfolding(head::specs::Desks::size_in))]
 pub fn size_of(watch: u64) -> u32
     ensures { result ≡ size_in watch }
 {

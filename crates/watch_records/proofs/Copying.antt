@@ -1,6 +1,6 @@
 -- What eight steps over the records leave: the numbers that are read, and the records that numbers are stored in.
 use mathlib.Core.Path.{◌≡◌, refl, sym, ap, ◌∙◌}
-use Prim.Native.Nat.{ℕ, zero, suc, ◌+◌, ◌-◌, ◌*◌, ◌/◌, ◌%◌, ◌≤◌, min}
+use Prim.Native.Nat.{ℕ, zero, suc, ◌+◌, ◌-◌, ◌≤◌, min}
 use native.Mathlib.Decide.{dec_le}
 use native.Mathlib.Numerals.{add-one}
 use native.Mathlib.Omega.{arith}
@@ -10,8 +10,8 @@ use lib.Seq.{take-suc, take_all, take-length, drop-length, take-append-le, lengt
 use Rattle.lists.specs.Lists.{laid, padded}
 use Rattle.lists.proofs.Growing.{padded_more, laid_more}
 use Rattle.head.specs.declared.Watch.{Watch}
-use Rattle.head.specs.Desks.{desk_unit, record_of}
-use Rattle.watch_records.specs.Records.{record_number, watched, first_eight, stored}
+use Rattle.head.specs.Desks.{record_of}
+use Rattle.watch_records.specs.Records.{record_number, record_at, watched, first_eight, stored}
 use Rattle.watch_numbers.proofs.RecordNumbers.{made_up}
 use Rattle.watch_records.proofs.Records.{front_is}
 
@@ -23,10 +23,6 @@ copied ws (suc i) = set (copied ws i) i (get_or ws i 0)
 -- the record that is empty
 abbrev pub empty : Watch
 empty = record { n = 0; desk = 0 }
-
--- the record that a number stands for
-abbrev pub record_at : ℕ → Watch
-record_at w = record { n = w % desk_unit; desk = w / desk_unit }
 
 -- the records after i steps of storing
 unfoldable pub put_in : List Watch → List ℕ → ℕ → List Watch
@@ -71,7 +67,7 @@ none_read ws = refl
 
 -- one more is read
 pub read_on : (records : List Watch) (i : ℕ)
-    → set (copied (watched records) i) i ((get_or records i empty).desk * desk_unit + (get_or records i empty).n) ≡ copied (watched records) (i + 1)
+    → set (copied (watched records) i) i (record_number (get_or records i empty)) ≡ copied (watched records) (i + 1)
 unfolding copied watched record_of
 read_on records i = rw add-one (ap (set (copied (map record_number records) i) i) (sym (get_or-map record_number records i empty)))
 

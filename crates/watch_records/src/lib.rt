@@ -5,38 +5,49 @@ ghost use Rattle.std.specs.Prelude.{◌≡◌, ◌≤◌, length};
 ghost use Rattle.lists.specs.Lists.{contains, insert, without, padded};
 ghost use Rattle.head.specs.Desks.{watch_of};
 ghost use Rattle.model.specs.Book.{standing};
-ghost use Rattle.watch_records.specs.Records.{watched, first_eight, stored};
+ghost use Rattle.watch_records.specs.Records.{record_number, record_at, watched, first_eight, stored};
 ghost use Rattle.watch_numbers.specs.Vacancy.{Vacant};
 
 use head::{Desk, Watch};
-use watch_numbers::{DESK_UNIT, find, insert, remove};
+use watch_numbers::{DESK_UNIT, desk_of, find, insert, remove, size_of};
 
-// The first eight records as numbers; 0 where there is no record.
+// A record as one number.
+#[tactic(auto, unfolding(head::specs::Desks::record_of))]
+fn number_of(watch: Watch) -> u64
+    ensures { result ≡ record_number watch }
+{
+    u64::from(watch.desk) * DESK_UNIT + u64::from(watch.n)
+}
+
+// The record that a number stands for.
+#[tactic(auto, unfolding(head::specs::Desks::size_in, head::specs::Desks::desk_in))]
+fn record_at(number: u64) -> Watch
+    ensures { result ≡ record_at number }
+{
+    Watch {
+        n: size_of(number),
+        desk: desk_of(number),
+    }
+}
+
+// The first eight records as numbers; 0 where there is no record. Written by index, since of what is written through a zipped `iter_mut` a
+// proof knows the length alone.
 pub fn numbers(records: &[Watch]) -> [u64; 8]
     ensures { result ≡ first_eight (watched records.now) }
 {
     let mut watches = [0u64; 8];
-    let mut i: usize = 0;
-    while (i < 8) & (i < records.len()) {
-        let record = records[i];
-        watches[i] = (record.desk as u64) * DESK_UNIT + (record.n as u64);
-        i += 1;
+    for i in 0..records.len().min(8) {
+        watches[i] = number_of(records[i]);
     }
     watches
 }
 
-// The first eight records, as far as there are any, get the numbers; those beyond stay.
+// The first eight records, as far as there are any, get the numbers; those beyond stay. Written by index, as `numbers` is.
 pub fn store(records: &mut [Watch], watches: [u64; 8])
     ensures { watched records.new ≡ stored watches (watched records.old) }
 {
-    let mut i: usize = 0;
-    while (i < 8) & (i < records.len()) {
-        let watch = watches[i];
-        records[i] = Watch {
-            n: (watch % DESK_UNIT) as u32,
-            desk: (watch / DESK_UNIT) as u32,
-        };
-        i += 1;
+    for i in 0..records.len().min(8) {
+        records[i] = record_at(watches[i]);
     }
 }
 
@@ -44,8 +55,7 @@ pub fn store(records: &mut [Watch], watches: [u64; 8])
 pub fn find_record(records: &[Watch], desk: Desk, n: u32) -> bool
     ensures { result ≡ contains (watch_of desk n) (standing (watched records.now)) }
 {
-    let watches = numbers(records);
-    find(watches, desk, n)
+    find(numbers(records), desk, n)
 }
 
 // The records with a desk's watch of n put into its place.
@@ -54,9 +64,8 @@ pub fn insert_record(records: &mut [Watch], desk: Desk, n: u32)
     ensures { watched records.new ≡ padded 8
         (insert (watch_of desk n) (standing (watched records.old))) (watched records.old) }
 {
-    let watches = numbers(&*records);
-    let after = insert(watches, desk, n);
-    store(&mut *records, after);
+    let watches = numbers(records);
+    store(records, insert(watches, desk, n));
 }
 
 // The records without a desk's watch of n, with no gap, and empties behind them.
@@ -65,7 +74,6 @@ pub fn remove_record(records: &mut [Watch], desk: Desk, n: u32)
     ensures { watched records.new ≡ padded 8
         (without (watch_of desk n) (standing (watched records.old))) (watched records.old) }
 {
-    let watches = numbers(&*records);
-    let after = remove(watches, desk, n);
-    store(&mut *records, after);
+    let watches = numbers(records);
+    store(records, remove(watches, desk, n));
 }

@@ -1,21 +1,18 @@
 -- `rename` meets its contract: each turn renames one cell, and where nothing expired none is renamed.
-use Prim.Native.Nat.{◌-◌}
+use Rattle.std.proofs.Common.{refl}
 use Rattle.model.specs.Rows.{renamed}
-use Rattle.table_cells.proofs.Renaming.{start, more, finish, none_renamed}
+use Rattle.table_cells.proofs.Renaming.{none_renamed, renamed_more, all_renamed}
 use Rattle.table_cells.proofs.rename.Goals as goal
 
 pub returns-then-gone-eq0 : goal.returns-then-gone-eq0
 returns-then-gone-eq0 c = none_renamed c.args.count _ c.if-gone-eq0.true
 
-pub loop-i-init : goal.loop-i-init
-loop-i-init c = start _ _ _ c.requires
+pub loop-cell-init : goal.loop-cell-init
+loop-cell-init c = refl
 
-pub loop-i-preserved : goal.loop-i-preserved
+pub loop-cell-preserved : goal.loop-cell-preserved
 unfolding renamed
-loop-i-preserved c = more c.loop-i.invariant c.loop-i-test.true _ c.chosen.ensures
-
-pub shape_of-cells : goal.shape_of-cells
-shape_of-cells c = c.loop-i.invariant.same_length
+loop-cell-preserved c = renamed_more _ _ _ _ c.loop-cell-test.true c.loop-cell.invariant _ c.chosen.ensures
 
 pub returns : goal.returns
-returns c = finish c.loop-i.invariant c.loop-i-test.false
+returns c = all_renamed _ _ _ _ c.loop-cell-test.false c.loop-cell.invariant _

@@ -1,5 +1,4 @@
 -- `shift` meets its contract: each turn moves one piece.
-use Prim.Native.Nat.{◌-◌}
 use Rattle.table_cells.proofs.Shifting.{start, more, finish, unmoved}
 use Rattle.table_cells.proofs.shift.Goals as goal
 
@@ -10,7 +9,7 @@ pub loop-at-init : goal.loop-at-init
 loop-at-init c = start _ _ _ c.requires.by_le_count c.requires.count_in_bounds
 
 pub loop-at-preserved : goal.loop-at-preserved
-loop-at-preserved c = more c.loop-at.invariant c.piece-n.ensures _ c.move_cells.ensures
+loop-at-preserved c = more c.loop-at.invariant c.min-n.ensures _ c.move_cells.ensures
 
 pub shape_of-cells : goal.shape_of-cells
 shape_of-cells c = c.loop-at.invariant.same_length

@@ -17,8 +17,8 @@ returns-in-Watch c =
 pub lay_position-requires : goal.lay_position-requires
 lay_position-requires c = omega (arith, pair_size c.args.position c.in-Pair.is, c.requires)
 
-pub returns : goal.returns
-returns c =
+pub returns-in-Pair : goal.returns-in-Pair
+returns-in-Pair c =
     let both = pair_laid _ c.in-Pair.is _ c.lay_position.ensures in
     record {
       value = both.0;

@@ -22,7 +22,7 @@ abbrev some : After-end_of-end → Else-not-begun
 some c = (goal.at.After-end_of-end c).Else-not-begun
 
 -- the window lies within the rows
-ready : (c : After-end_of-end) → Ready c.start_of-first.result c.args.lower_ends.now c.args.upper_ends.now c.shift_of-start.result c.end_of-end.result
+ready : (c : After-end_of-end) → Ready c.start_of-first.result c.args.tables.now.lower_ends.now c.args.tables.now.upper_ends.now c.shift_of-start.result c.end_of-end.result
 ready c =
     ready_of c.requires.paired (has (some c)) c.start_of-first.ensures c.shift_of-start.ensures c.end_of-end.ensures
 
@@ -33,20 +33,20 @@ held c =
 
 -- what is known of a sound book
 known : (c : After-end_of-end) → c.args.sound ≡ true
-    → Sound c.start_of-first.result c.args.head.held c.args.lower_ends.now c.args.upper_ends.now
+    → Sound c.start_of-first.result c.args.head.held c.args.tables.now.lower_ends.now c.args.tables.now.upper_ends.now
 known c e = sound_at c.start_of-first.ensures (c.requires.sound e)
 
 -- the leaves, and the joins
 abbrev L : After-end_of-end → List ℕ
-L c = frames (map pair_leave (leaving c.start_of-first.result c.args.lower_ends.now c.args.upper_ends.now c.shift_of-start.result c.end_of-end.result))
+L c = frames (map pair_leave (leaving c.start_of-first.result c.args.tables.now.lower_ends.now c.args.tables.now.upper_ends.now c.shift_of-start.result c.end_of-end.result))
 
 abbrev J : After-end_of-end → List ℕ
-J c = frames (map pair_join (joining c.start_of-first.result c.args.lower_ends.now c.args.upper_ends.now c.shift_of-start.result c.end_of-end.result))
+J c = frames (map pair_join (joining c.start_of-first.result c.args.tables.now.lower_ends.now c.args.tables.now.upper_ends.now c.shift_of-start.result c.end_of-end.result))
 
-both : (c : After-end_of-end) → pair_frames c.args.head c.args.lower_ends.now c.args.upper_ends.now ≡ L c ++ J c
+both : (c : After-end_of-end) → pair_frames c.args.head c.args.tables.now.lower_ends.now c.args.tables.now.upper_ends.now ≡ L c ++ J c
 both c =
-    pair_some c.args.head c.args.lower_ends.now c.args.upper_ends.now (has (some c)) c.start_of-first.ensures c.shift_of-start.ensures c.end_of-end.ensures
-    ∙ moved_frames c.start_of-first.result c.args.lower_ends.now c.args.upper_ends.now c.shift_of-start.result c.end_of-end.result
+    pair_some c.args.head c.args.tables.now.lower_ends.now c.args.tables.now.upper_ends.now (has (some c)) c.start_of-first.ensures c.shift_of-start.ensures c.end_of-end.ensures
+    ∙ moved_frames c.start_of-first.result c.args.tables.now.lower_ends.now c.args.tables.now.upper_ends.now c.shift_of-start.result c.end_of-end.result
 
 room : (c : After-end_of-end) → length (L c ++ J c) ≤ length c.args.out.now
 room c = rw (both c) at c.requires.upper_ends_in_bounds
@@ -74,8 +74,8 @@ pub returns-then-not-begun : goal.returns-then-not-begun
 unfolding laid
 returns-then-not-begun c =
     record {
-      value = rw (pair_none c.args.head c.args.lower_ends.now c.args.upper_ends.now (sym c.begun.ensures ∙ c.if-not-begun.true)) refl;
-      out_after = rw (pair_none c.args.head c.args.lower_ends.now c.args.upper_ends.now (sym c.begun.ensures ∙ c.if-not-begun.true)) refl;
+      value = rw (pair_none c.args.head c.args.tables.now.lower_ends.now c.args.tables.now.upper_ends.now (sym c.begun.ensures ∙ c.if-not-begun.true)) refl;
+      out_after = rw (pair_none c.args.head c.args.tables.now.lower_ends.now c.args.tables.now.upper_ends.now (sym c.begun.ensures ∙ c.if-not-begun.true)) refl;
     }
 
 pub end_of-end-requires : goal.end_of-end-requires
@@ -85,32 +85,17 @@ end_of-end-requires c =
       n1_bound = begun_low c.requires.paired (has (goal.at.end_of-end-requires c).Else-not-begun);
     }
 
-pub falls-fallen-requires : goal.falls-fallen-requires
-falls-fallen-requires c =
-    let v = ready (goal.at.falls-fallen-requires c).After-end_of-end in
+pub invariant_of-window : goal.invariant_of-window
+invariant_of-window c =
+    let a = (goal.at.invariant_of-window c).After-end_of-end in
     record {
-      first_le_before = v.starts;
-      before_bound = λ moved. omega (arith, v.forth, v.near, v.upper_room);
-    }
-
-pub dropped_from-from-requires : goal.dropped_from-from-requires
-dropped_from-from-requires c =
-    let v = ready (goal.at.dropped_from-from-requires c).After-end_of-end in
-    record {
-      first_le_after = omega (arith, v.starts, v.forth);
-      after_le_after = v.near;
-      after_bound = v.lower_room;
-      first_bound = v.low;
+      ready = ready a;
+      late = from_unequal _ _ _ _ _ (ready a) (known a) (held a);
+      gains = λ none. gains_none _ _ _ _ _ (ready a) (known a) (held a) refl none;
     }
 
 pub write_leaves-leaves-requires : goal.write_leaves-leaves-requires
-write_leaves-leaves-requires c =
-    record {
-      ready = ready (goal.at.write_leaves-leaves-requires c).After-end_of-end;
-      unequal = rw c.dropped_from-from.ensures (from_unequal _ _ _ _ _ (ready (goal.at.write_leaves-leaves-requires c).After-end_of-end) (known (goal.at.write_leaves-leaves-requires c).After-end_of-end) (held (goal.at.write_leaves-leaves-requires c).After-end_of-end));
-      fallen_value = c.falls-fallen.ensures;
-      end_in_bounds = leaves-room (goal.at.write_leaves-leaves-requires c).After-end_of-end;
-    }
+write_leaves-leaves-requires c = leaves-room (goal.at.write_leaves-leaves-requires c).After-end_of-end
 
 pub slice_bounds-write_joins-count : goal.slice_bounds-write_joins-count
 slice_bounds-write_joins-count c = omega (arith, joins_room (goal.at.slice_bounds-write_joins-count c).After-write_leaves-leaves)
@@ -120,11 +105,8 @@ slice_bounds-write_joins-start c = omega (arith, joins_room (goal.at.slice_bound
 
 pub write_joins-joins-requires : goal.write_joins-joins-requires
 write_joins-joins-requires c =
-    record {
-      ready = ready (goal.at.write_joins-joins-requires c).After-end_of-end;
-      end_value = λ none. gains_none _ _ _ _ _ (ready (goal.at.write_joins-joins-requires c).After-end_of-end) (known (goal.at.write_joins-joins-requires c).After-end_of-end) (held (goal.at.write_joins-joins-requires c).After-end_of-end) c.falls-fallen.ensures none;
-      end_in_bounds = front_rest (front (goal.at.write_joins-joins-requires c).After-write_leaves-leaves) (J (goal.at.write_joins-joins-requires c).After-end_of-end) (room (goal.at.write_joins-joins-requires c).After-end_of-end);
-    }
+    let b = (goal.at.write_joins-joins-requires c).After-write_leaves-leaves in
+    front_rest (front b) (J (window b)) (room (window b))
 
 pub overflow_add-result : goal.overflow_add-result
 overflow_add-result c =

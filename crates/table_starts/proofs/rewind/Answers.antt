@@ -4,12 +4,11 @@ use Rattle.table_starts.specs.Starts.{stays}
 use Rattle.table_starts.proofs.Rewinding.{rows_inside, rewound}
 use Rattle.table_starts.proofs.rewind.Goals as goal
 
-pub returns-then-row-lt-PLACES : goal.returns-then-row-lt-PLACES
-returns-then-row-lt-PLACES c =
-    record {
-      within_2 = record { bounded = omega (arith, c.if-row-lt-PLACES.true); near = c.requires.within.0.near };
-      moved = stays;
-    }
+pub returns-then-row-lt-PLACES-clause-within_2 : goal.returns-then-row-lt-PLACES-clause-within_2
+returns-then-row-lt-PLACES-clause-within_2 c = record { bounded = omega (arith, c.if-row-lt-PLACES.true); near = c.requires.within.0.near }
+
+pub returns-then-row-lt-PLACES-clause-moved : goal.returns-then-row-lt-PLACES-clause-moved
+returns-then-row-lt-PLACES-clause-moved c = stays
 
 pub overflow_mul-n : goal.overflow_mul-n
 overflow_mul-n c = omega (arith, (rows_inside c.requires.long c.requires.within.0 c.requires.within.1 c.if-row-lt-PLACES.false).0)
@@ -49,9 +48,9 @@ shift-requires-4 c =
       count_in_bounds = omega (arith, i.1, c.requires.long.upper_ends);
     }
 
-pub returns : goal.returns
-returns c =
-    record {
-      within_2 = record { bounded = omega arith; near = omega arith };
-      moved = rewound c.requires.long c.requires.within.0 c.requires.within.1 c.if-row-lt-PLACES.false c.shift.ensures c.shift-2.ensures c.shift-3.ensures c.shift-4.ensures;
-    }
+pub returns-clause-within_2 : goal.returns-clause-within_2
+returns-clause-within_2 c = record { bounded = omega arith; near = omega arith }
+
+pub returns-clause-moved : goal.returns-clause-moved
+returns-clause-moved c =
+    rewound c.requires.long c.requires.within.0 c.requires.within.1 c.if-row-lt-PLACES.false c.shift.ensures c.shift-2.ensures c.shift-3.ensures c.shift-4.ensures

@@ -4,4 +4,4 @@ use Rattle.watch_records.specs.Records.{watched}
 use Rattle.watch_records.proofs.find_record.Goals as goal
 
 pub returns : goal.returns
-returns c = rw (← standing_first (watched c.args.records.now), ← c.numbers-watches.ensures) c.find.ensures
+returns c = rw (← standing_first (watched c.args.records.now), ← c.numbers.ensures) c.find.ensures

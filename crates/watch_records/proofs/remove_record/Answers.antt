@@ -7,5 +7,5 @@ use Rattle.watch_records.proofs.remove_record.Goals as goal
 pub returns : goal.returns
 returns c =
     let n = watch_of c.args.desk c.args.n in
-    rw (c.store.ensures, c.remove-after.ensures, c.numbers-watches.ensures)
+    rw (c.store.ensures, c.remove.ensures, c.numbers-watches.ensures)
     (changed _ (many _ c.requires) (without n) (bounded_left n _))

@@ -27,4 +27,4 @@ in_places-requires c =
 
 pub returns : goal.returns
 returns c =
-    by_places _ _ _ _ _ _ c.requires.le_capacity (sym c.torn_head.ensures ∙ c.if-torn_head.false) c.window_start-first.ensures c.in_places.ensures
+    by_places _ _ _ _ c.requires.le_capacity (sym c.torn_head.ensures ∙ c.if-torn_head.false) c.window_start-first.ensures c.in_places.ensures

@@ -8,7 +8,7 @@ use Rattle.table_changes.proofs.each_watch.shift_of.Goals as goal
 
 pub overflow_add-result : goal.overflow_add-result
 unfolding window_start
-overflow_add-result c = omega (arith, c.start_of-before.ensures, byte_small (leb c.args.n c.args.head.newest), c.requires)
+overflow_add-result c = omega (arith, c.start_of-before.ensures, c.from.ensures, byte_small (leb c.args.n c.args.head.newest), c.requires)
 
 pub returns : goal.returns
-returns c = shift_is _ _ c.start_of-before.ensures
+returns c = rw c.from.ensures (shift_is _ _ c.start_of-before.ensures)

@@ -1,12 +1,7 @@
--- `any_equal` meets its contract: after i turns the first i cells are tested.
-use Prim.Native.Nat.{◌-◌}
-use lib.Dec.{eqb}
-use lib.ListN.{get_or}
-use Rattle.table_changes.proofs.Passing.{Tested}
+-- `any_equal` meets its contract: at each turn the cells before it are tested.
+use Rattle.std.proofs.Common.{◌≡◌, ◌==◌, take}
+use Rattle.std.specs.List.{list_any}
 use Rattle.table_changes.proofs.seeking.any_equal.Given as goal
 
-abbrev pub invariant-loop-i : goal.invariant-loop-i
-invariant-loop-i l = Tested (λ k. eqb (get_or l.cells k 0) l.x) l.from l.size l.found l.i
-
-abbrev pub decreases-loop-i : goal.decreases-loop-i
-decreases-loop-i l = l.size - l.i
+abbrev pub invariant-loop-cell : goal.invariant-loop-cell
+invariant-loop-cell l = l.found ≡ list_any (λ cell. cell == l.x) (take l.cell-index l.cells)

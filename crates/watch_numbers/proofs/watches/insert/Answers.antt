@@ -1,5 +1,4 @@
 -- `insert` meets its contract.
-use Prim.Native.Nat.{◌-◌}
 use native.Mathlib.Omega.{arith}
 use Rattle.watch_numbers.proofs.Inserting.{goes_here, start, more, finish}
 use Rattle.watch_numbers.proofs.watches.insert.Goals as goal

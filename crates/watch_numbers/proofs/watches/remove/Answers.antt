@@ -1,28 +1,27 @@
 -- `remove` meets its contract.
-use Prim.Native.Nat.{◌-◌}
 use native.Mathlib.Omega.{arith}
 use Rattle.watch_numbers.proofs.Removing.{stays, start, bounded, more_stays, more_goes, finish}
 use Rattle.watch_numbers.proofs.watches.remove.Goals as goal
 
-pub loop-i-init : goal.loop-i-init
-loop-i-init c = start _ _ (omega arith)
+pub loop-watch-init : goal.loop-watch-init
+loop-watch-init c = start _ _ (omega arith)
 
 pub offset_bounds-kept-count : goal.offset_bounds-kept-count
-offset_bounds-kept-count c = omega (arith, bounded _ _ _ _ _ c.loop-i.invariant c.loop-i-test.true)
+offset_bounds-kept-count c = omega (arith, bounded _ _ _ _ _ c.loop-watch.invariant c.loop-watch-test.true)
 
 pub bounds-kept-count : goal.bounds-kept-count
-bounds-kept-count c = bounded _ _ _ _ _ c.loop-i.invariant c.loop-i-test.true
+bounds-kept-count c = bounded _ _ _ _ _ c.loop-watch.invariant c.loop-watch-test.true
 
 pub overflow_add-count : goal.overflow_add-count
-overflow_add-count c = omega (arith, bounded _ _ _ _ _ c.loop-i.invariant c.loop-i-test.true)
+overflow_add-count c = omega (arith, bounded _ _ _ _ _ c.loop-watch.invariant c.loop-watch-test.true)
 
-pub loop-i-preserved-then-watch-ended : goal.loop-i-preserved-then-watch-ended
+pub loop-watch-preserved-then-not-stays : goal.loop-watch-preserved-then-not-stays
 unfolding stays
-loop-i-preserved-then-watch-ended c = more_stays _ _ _ _ _ c.loop-i.invariant c.loop-i-test.true c.if-watch-ended.true
+loop-watch-preserved-then-not-stays c = more_goes _ _ _ _ _ c.loop-watch.invariant c.loop-watch-test.true c.if-not-stays.true
 
-pub loop-i-preserved : goal.loop-i-preserved
+pub loop-watch-preserved : goal.loop-watch-preserved
 unfolding stays
-loop-i-preserved c = more_goes _ _ _ _ _ c.loop-i.invariant c.loop-i-test.true c.if-watch-ended.false
+loop-watch-preserved c = more_stays _ _ _ _ _ c.loop-watch.invariant c.loop-watch-test.true c.if-not-stays.false
 
 pub returns : goal.returns
-returns c = rw (← c.watch_of-ended.ensures) (finish _ _ _ _ _ c.loop-i.invariant c.loop-i-test.false)
+returns c = rw (← c.watch_of-ended.ensures) (finish _ _ _ _ _ c.loop-watch.invariant c.loop-watch-test.false)

@@ -1,0 +1,8 @@
+-- `count_listed` meets its contract: each turn counts the row at one place.
+use Rattle.table_listing.specs.Picked.{listed_at}
+use Rattle.table_listing.proofs.Windows.{Counting}
+use Rattle.table_listing.proofs.window.RowWindow.count_listed.Given as goal
+
+abbrev pub invariant-loop-i : goal.invariant-loop-i
+invariant-loop-i l =
+    Counting (listed_at l.self.start l.self.end l.self.first l.self.lower_ends.now l.self.upper_ends.now) l.self.first l.self.start l.self.end l.n l.i
