@@ -10,13 +10,13 @@ use native.Mathlib.Omega.{arith}
 use borrow.Author.Tests.{ltb-true, ltb-false, lt-ltb, le-ltb, leb-true, not-false}
 use Rattle.lists.proofs.Booleans.{and_left, and_right, none_left, none_right}
 use Rattle.head.specs.declared.Head.{Head}
-use Rattle.refusals.specs.declared.Answer.{Answer}
-use Rattle.refusals.specs.declared.Answer.TheVariants.{Refused}
+use Rattle.std.specs.Prelude.{Result, Ok, Err}
+use Rattle.std.specs.Result.{IsErr, IsErrAnd}
 use Rattle.refusals.specs.declared.Refusal.{Refusal}
 use Rattle.refusals.specs.declared.Refusal.TheVariants.{Settings, ShortLoan, Torn}
 use Rattle.refusals.specs.Refusals.{number, number_of, first_of, granted}
 use Rattle.head.specs.Heads.{fresh_head, settings_hold, torn_pair}
-use Rattle.refusals.proofs.Numbers.{zero_passed, first_of_append, number_above, refused_number, granted_refused, positive}
+use Rattle.refusals.proofs.Numbers.{zero_passed, first_of_append, number_above, handed_refusal, accepted_number, refused_number, granted_refused, refused_granted, accepted_granted, positive}
 use Rattle.head.proofs.Settings.{Within, settings_within}
 use Rattle.model.specs.Rows.{Row, Tables}
 use Rattle.model.specs.Book.{short_tables, short_loan, torn_rows, torn_watches, book_rows, answer_of, watchful_answer, open_answer, out_of_range}
@@ -36,16 +36,25 @@ module _ (cs : List (Bool × ℕ)) where
   pub tested_more : (more : List (Bool × ℕ)) {a r : ℕ} → a ≡ first_of cs → r ≡ granted a (first_of more) a → positive cs ≡ true → r ≡ first_of (cs ++ more)
   tested_more more e f p = f ∙ rw e (sym (first_of_append cs more p))
 
-  -- so is one with one more
-  pub tested : (b : Bool) (n : ℕ) {a r : ℕ} {test : Bool} → a ≡ first_of cs → test ≡ b → r ≡ granted a (first_of ((test, n) ∷ [])) a → positive cs ≡ true
+  -- an acceptance leaves the answer to the tests behind
+  pub goes_on : (more : List (Bool × ℕ)) {a : Result (Unit {0}) Refusal} {r : ℕ} → number_of a ≡ first_of cs → a ≡ Ok tt → r ≡ first_of more → positive cs ≡ true → r ≡ first_of (cs ++ more)
+  goes_on more {a} e f g p = tested_more more e (g ∙ sym (accepted_granted (number_of a) (ap number_of f) (first_of more) (number_of a))) p
+
+  -- so it does to one more
+  pub tested : (b : Bool) (n : ℕ) {a : Result (Unit {0}) Refusal} {r : ℕ} {test : Bool} → number_of a ≡ first_of cs → a ≡ Ok tt → test ≡ b → r ≡ first_of ((test, n) ∷ []) → positive cs ≡ true
       → r ≡ first_of (cs ++ ((b, n) ∷ []))
-  tested b n e t f p = tested_more ((b, n) ∷ []) e (rw t at f) p
+  tested b n e ok t f p = goes_on ((b, n) ∷ []) e ok (rw t at f) p
 
   -- a refusal is the answer, whatever tests are added
-  pub stays : (more : List (Bool × ℕ)) {a : Answer} {k : Refusal} → number_of a ≡ first_of cs → a ≡ Refused k → positive cs ≡ true → number_of a ≡ first_of (cs ++ more)
+  pub stays : (more : List (Bool × ℕ)) {a : Result (Unit {0}) Refusal} {k : Refusal} → number_of a ≡ first_of cs → a ≡ Err k → positive cs ≡ true → number_of a ≡ first_of (cs ++ more)
   stays more {a} {k} e f p =
       let above : 1 ≤ first_of cs = rw (refused_number a k e f) (number_above k) in
       e ∙ sym (first_of_append cs more p ∙ granted_refused (first_of cs) above (first_of more) (first_of cs))
+
+  -- so is it where a function hands on the refusal of another
+  pub handed_on : (more : List (Bool × ℕ)) {a : Result (Unit {0}) Refusal} (r : Result (Unit {0}) Refusal) {k : Refusal} → number_of a ≡ first_of cs → a ≡ Err k
+      → IsErr r × IsErrAnd r (λ j. j ≡ k) → positive cs ≡ true → number_of r ≡ first_of (cs ++ more)
+  handed_on more r e f g p = ap number_of (handed_refusal r g ∙ sym f) ∙ stays more e f p
 
 -- tests behind an answer, and one more behind them, are a longer list
 pub tested_again : (a : ℕ) (ps : List (Bool × ℕ)) (q : Bool × ℕ) {b r : ℕ} → b ≡ granted a (first_of ps) a → r ≡ granted b (first_of (q ∷ [])) b → positive ps ≡ true
@@ -101,10 +110,10 @@ module _ (ws : List ℕ) (lent : ℕ) (eight : length ws ≡ 8) where
       go false e = le-ltb (length (take lent ws)) 8 (omega (arith, length-take lent ws, ltb-false lent 8 e))
 
   -- they are judged behind the rows
-  pub watchful_judged : (h : Head) (t : Tables) {a r : ℕ} {test : Bool} → a ≡ rows_answer h t lent → test ≡ torn_watches h.capacity ws
+  judged_behind : (h : Head) (t : Tables) {a r : ℕ} {test : Bool} → a ≡ rows_answer h t lent → test ≡ torn_watches h.capacity ws
       → r ≡ granted a (first_of ((test, number Torn) ∷ [])) a → r ≡ watchful_answer h t (take lent ws) []
   unfolding rows_answer watchful_answer short_loan granted first_of
-  watchful_judged h t e w f =
+  judged_behind h t e w f =
       f ∙ rw (e, w, lent_short)
       (go (held h t) (short h t) (torn h t) (ltb lent 8) (torn_watches h.capacity ws) (λ b. ap (torn_watches h.capacity) (lent_all (ltb-false lent 8 b))))
     where
@@ -117,6 +126,15 @@ module _ (ws : List ℕ) (lent : ℕ) (eight : length ws ≡ 8) where
       go true false true false w same = refl
       go true false false false w same = ap (λ (b : Bool). first_of ((b, number Torn) ∷ [])) (sym (same refl))
       go false l r b w same = refl
+
+  -- a refusal of the rows is the answer
+  pub watchful_refused : (h : Head) (t : Tables) {a : Result (Unit {0}) Refusal} {k : Refusal} → number_of a ≡ rows_answer h t lent → a ≡ Err k → number k ≡ watchful_answer h t (take lent ws) []
+  watchful_refused h t {a} {k} e f = sym (ap number_of f) ∙ judged_behind h t e refl (sym (rw f (refused_granted k _ _)))
+
+  -- an acceptance leaves it to the watches
+  pub watchful_judged : (h : Head) (t : Tables) {a : Result (Unit {0}) Refusal} {r : ℕ} {test : Bool} → number_of a ≡ rows_answer h t lent → a ≡ Ok tt → test ≡ torn_watches h.capacity ws
+      → r ≡ first_of ((test, number Torn) ∷ []) → r ≡ watchful_answer h t (take lent ws) []
+  watchful_judged h t {a} e f w g = judged_behind h t e w (g ∙ sym (accepted_granted (number_of a) (ap number_of f) _ _))
 
   -- an accepted call was lent eight
   pub lent_enough : (h : Head) (t : Tables) (more : List (Bool × ℕ)) → watchful_answer h t (take lent ws) more ≡ 0 → 8 ≤ lent

@@ -1,6 +1,6 @@
 -- The look at what is due: the rows of a book that passed, read off the lower ends, and what the look leaves.
 use mathlib.Core.Path.{◌≡◌, refl, ap, ◌∙◌}
-use Prim.Native.Nat.{ℕ, ◌-◌, ◌*◌, ◌≤◌, ◌<◌}
+use Prim.Native.Nat.{ℕ, ◌+◌, ◌-◌, ◌*◌, ◌≤◌, ◌<◌}
 use native.Mathlib.Omega.{arith}
 use mathlib.Core.Bool.{true}
 use mathlib.Core.List.{List, [], ◌∷◌, map}
@@ -11,8 +11,8 @@ use Rattle.lists.specs.Lists.{flat, laid}
 use Rattle.skyline.specs.Skyline.{window_start}
 use Rattle.head.specs.declared.Head.{Head}
 use Rattle.head.specs.declared.replies.Reply.{Reply}
-use Rattle.refusals.specs.declared.Answer.{Answer}
-use Rattle.refusals.specs.declared.Answer.TheVariants.{Accepted, Refused}
+use Rattle.std.specs.Prelude.{Result, Ok, Err}
+use Rattle.head.specs.Replies.{refusing, accepting}
 use Rattle.refusals.specs.declared.Refusal.{Refusal}
 use Rattle.refusals.specs.declared.Refusal.TheVariants.{ShortOutput}
 use Rattle.refusals.specs.Refusals.{number, number_of}
@@ -22,12 +22,13 @@ use Rattle.model.specs.Book.{answer_of, book_rows, pair_stands, due_in, due_writ
 use Rattle.model.specs.Promises.{DueLooked}
 use Rattle.model.proofs.Replying.{refused_reply, refused_left}
 use Rattle.model.proofs.Torn.{PairWithin, pair_within}
+use Rattle.table_listing.specs.declared.window.RowWindow.{RowWindow}
 use Rattle.table_listing.specs.Picked.{Window}
 use Rattle.table_listing.specs.Due.{due_positions, due_of}
 use Rattle.table_listing.proofs.Listing.{whole_consecutive}
 use Rattle.table_listing.proofs.DueRows.{due_count, due_written_lem, due_length}
 use Rattle.call_judging.proofs.Answering.{Passed, rows_stand, answer_passed, stays}
-use Rattle.call_looking.specs.Shown.{room_answer, Written}
+use Rattle.call_looking.specs.Shown.{room_answer, Written, WindowOf}
 use Rattle.call_looking.specs.Due.{due_on, due_cells_on}
 use Rattle.call_looking.proofs.Listing.{first, filled, behind, shown_reply, shown_none, shown_all}
 
@@ -36,24 +37,27 @@ pub due_cells_lem : (h : Head) (lowers : List ℕ) → length (due_cells_on h lo
 unfolding due_cells_on
 due_cells_lem h lowers = due_length h.newest h.n1 (due_on h lowers)
 
--- the rows counted and written by the starts of the three windows
-module _ (h : Head) (lowers out : List ℕ) {base a c : ℕ} (e : base ≡ window_start h.newest h.capacity) (f : a ≡ window_start h.newest (h.n1 - 1))
-    (g : c ≡ window_start h.newest h.n2) {count : ℕ} (n : count ≡ length (due_positions a h.newest c base lowers)) where
-  counted : count ≡ length (due_on h lowers)
+-- the rows counted and written by a window from n1 - 1 positions before the newest on
+module _ (h : Head) (t : Tables) (out : List ℕ) {w : RowWindow} (s : WindowOf h 1 (h.n1 - 1) t w) {c : ℕ} (g : c ≡ window_start h.newest h.n2)
+    {count : ℕ} (n : count ≡ length (due_positions w.start w.end c w.first w.lower_ends.now)) where
+  pub ends : w.end ≡ h.newest
+  ends = omega (arith, s.end)
+
+  counted : count ≡ length (due_on h t.lower_ends)
   unfolding due_on
-  counted = n ∙ rw (e, f, g)
+  counted = n ∙ rw (ends, s.first, s.start, s.lower_ends, g)
 
-  written : flat (map (due_of h.newest h.n1) (due_positions a h.newest c base lowers)) ≡ due_cells_on h lowers
+  written : flat (map (due_of w.end h.n1) (due_positions w.start w.end c w.first w.lower_ends.now)) ≡ due_cells_on h t.lower_ends
   unfolding due_cells_on due_on
-  written = rw (e, f, g)
+  written = rw (ends, s.first, s.start, s.lower_ends, g)
 
-  pub rows_none : length out < 2 * count
-      → Written h (due_cells_on h lowers) (length (due_on h lowers)) out (record { answer = Refused ShortOutput; head = h; count = 0 }) out
-  rows_none l = shown_none h (due_cells_on h lowers) out (length (due_on h lowers)) (rw (due_cells_lem h lowers, ← counted) l)
+  pub rows_none : {r : Reply} → length out < 2 * count → r ≡ refusing ShortOutput h → Written h (due_cells_on h t.lower_ends) (length (due_on h t.lower_ends)) out r out
+  rows_none l f = rw f (shown_none h (due_cells_on h t.lower_ends) out (length (due_on h t.lower_ends)) (rw (due_cells_lem h t.lower_ends, ← counted) l))
 
-  pub rows_all : {after : List ℕ} → 2 * count ≤ length out → after ≡ laid (flat (map (due_of h.newest h.n1) (due_positions a h.newest c base lowers))) out
-      → Written h (due_cells_on h lowers) (length (due_on h lowers)) out (record { answer = Accepted; head = h; count = count }) after
-  rows_all l w = shown_all h (due_cells_on h lowers) out (rw (due_cells_lem h lowers, ← counted) l) counted (w ∙ ap (λ (cells : List ℕ). laid cells out) written)
+  pub rows_all : {r : Reply} {after : List ℕ} → 2 * count ≤ length out → after ≡ laid (flat (map (due_of w.end h.n1) (due_positions w.start w.end c w.first w.lower_ends.now))) out
+      → r ≡ accepting h count → Written h (due_cells_on h t.lower_ends) (length (due_on h t.lower_ends)) out r after
+  rows_all l d f =
+      rw f (shown_all h (due_cells_on h t.lower_ends) out (rw (due_cells_lem h t.lower_ends, ← counted) l) counted (d ∙ ap (λ (cells : List ℕ). laid cells out) written))
 
 module _ (h : Head) (t : Tables) where
   -- what is known of a book that passed and whose pair stands
@@ -62,7 +66,7 @@ module _ (h : Head) (t : Tables) where
     pub pair : PairWithin h.n1 h.n2 h.capacity
     pub stands : pair_stands h ≡ true
 
-  pub due_passed : {a : Answer} → number_of a ≡ answer_of h t [] → a ≡ Accepted → (h.n1 ≡ 0 → ⊥) → Standing
+  pub due_passed : {a : Result (Unit {0}) Refusal} → number_of a ≡ answer_of h t [] → a ≡ Ok tt → (h.n1 ≡ 0 → ⊥) → Standing
   unfolding pair_stands
   due_passed {a} e f some =
       let p = (answer_passed h t [] (accepted_number a e f)).0 in
@@ -70,7 +74,7 @@ module _ (h : Head) (t : Tables) where
       record { passed = p; pair = pair_within h p.pair_untorn stands; stands = stands }
 
   -- the rows that can be due lie within the cells
-  pub due_window : Standing → Window (first h t) (window_start h.newest (h.n1 - 1)) h.newest t.lower_ends t.lower_ends
+  pub due_window : Standing → Window (first h t) (window_start h.newest (h.n1 - 1)) (h.newest + 1 - 1) t.lower_ends t.upper_ends
   unfolding window_start
   due_window s =
       let stand = rows_stand h t s.passed in
@@ -115,16 +119,16 @@ module _ (h : Head) (t : Tables) where
         rw stands_due
         (due_written_lem (first h t) h.dimensions h.held t (whole_consecutive h t p.whole).0 h.newest h.n1 h.n2 starts some (filled h t p))
 
-  module _ (out : List ℕ) {a : Answer} (e : number_of a ≡ answer_of h t []) where
+  module _ (out : List ℕ) {a : Result (Unit {0}) Refusal} (e : number_of a ≡ answer_of h t []) where
     -- what a refused look leaves
-    pub due_refused : {k : Refusal} → a ≡ Refused k → DueLooked h t out (record { answer = a; head = h; count = 0 }) out
+    pub due_refused : {k : Refusal} {r : Reply} → a ≡ Err k → r ≡ refusing k h → DueLooked h t out r out
     unfolding due_reply due_out due_answer answer_of
-    due_refused f =
-        let g = stays _ ((ltb (length out) (length (due_written h t)), number ShortOutput) ∷ []) e f refl in
-        record { reply = refused_reply g f h h (length (due_in h t)); out = refused_left g f out (laid (due_written h t) out) }
+    due_refused {k} f w =
+        let g : number_of (Err k) ≡ due_answer h t (length out) = rw f at (stays _ ((ltb (length out) (length (due_written h t)), number ShortOutput) ∷ []) e f refl) in
+        record { reply = rw w (refused_reply g refl h h (length (due_in h t))); out = refused_left g refl out (laid (due_written h t) out) }
 
     -- what is left where these cells are written of what is due
-    due_by : {cells : List ℕ} {count : ℕ} {r : Reply} {after : List ℕ} → a ≡ Accepted → due_written h t ≡ cells → length (due_in h t) ≡ count
+    due_by : {cells : List ℕ} {count : ℕ} {r : Reply} {after : List ℕ} → a ≡ Ok tt → due_written h t ≡ cells → length (due_in h t) ≡ count
         → Written h cells count out r after → DueLooked h t out r after
     unfolding due_reply due_out due_answer answer_of room_answer
     due_by f c n v =
@@ -132,11 +136,11 @@ module _ (h : Head) (t : Tables) where
         record { reply = q.0; out = q.1 }
 
     -- nothing is due where no pair is watched
-    pub due_none : a ≡ Accepted → h.n1 ≡ 0 → DueLooked h t out (record { answer = a; head = h; count = 0 }) out
+    pub due_none : {r : Reply} → a ≡ Ok tt → h.n1 ≡ 0 → r ≡ accepting h 0 → DueLooked h t out r out
     unfolding laid
-    due_none f none = rw f (due_by f (none_written none) (ap length (none_due none)) (shown_all h [] out (omega arith) refl refl))
+    due_none f none w = rw w (due_by f (none_written none) (ap length (none_due none)) (shown_all h [] out (omega arith) refl refl))
 
     -- what an accepted look leaves
-    pub due_done : {r : Reply} {after : List ℕ} → a ≡ Accepted → Standing → Written h (due_cells_on h t.lower_ends) (length (due_on h t.lower_ends)) out r after
+    pub due_done : {r : Reply} {after : List ℕ} → a ≡ Ok tt → Standing → Written h (due_cells_on h t.lower_ends) (length (due_on h t.lower_ends)) out r after
         → DueLooked h t out r after
     due_done f s v = due_by f (stands_written s) (stands_count s) v

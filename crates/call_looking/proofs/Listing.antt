@@ -1,5 +1,5 @@
 -- The lists of a book that passed, read off the cells, and the looks: what they answer and leave.
-use mathlib.Core.Path.{◌≡◌, refl, sym, ap, ap₂, ◌∙◌}
+use mathlib.Core.Path.{◌≡◌, refl, sym, ap, ◌∙◌}
 use Prim.Native.Nat.{ℕ, ◌+◌, ◌-◌, ◌≤◌, ◌<◌}
 use native.Mathlib.Omega.{arith}
 use mathlib.Core.Bool.{Bool, true, false}
@@ -14,21 +14,22 @@ use Rattle.lists.proofs.Runs.{length_run, filter_from}
 use Rattle.skyline.specs.Skyline.{window_start}
 use Rattle.head.specs.declared.Head.{Head}
 use Rattle.head.specs.declared.replies.Reply.{Reply}
-use Rattle.refusals.specs.declared.Answer.{Answer}
-use Rattle.refusals.specs.declared.Answer.TheVariants.{Accepted, Refused}
+use Rattle.std.specs.Prelude.{Result, Ok, Err}
 use Rattle.refusals.specs.declared.Refusal.{Refusal}
 use Rattle.refusals.specs.declared.Refusal.TheVariants.{ShortOutput}
 use Rattle.refusals.specs.Refusals.{number, number_of, first_of, granted}
-use Rattle.head.specs.Replies.{outcome}
+use Rattle.head.specs.Replies.{outcome, refusing, accepting}
 use Rattle.refusals.proofs.Numbers.{zero_passed, accepted_number, first_of_append, accepted_granted, positive}
 use Rattle.model.specs.Rows.{Tables, listed}
 use Rattle.model.specs.Book.{answer_of, book_rows, list_of, past_list_of, reply_of, look_cells, look_answer, look_reply, look_out, past_cells, past_answer, past_reply, past_out}
 use Rattle.model.specs.Promises.{Looked, PastLooked}
 use Rattle.model.proofs.Replying.{refused_reply, refused_left}
+use Rattle.table_listing.specs.declared.window.RowWindow.{RowWindow}
+use Rattle.table_listing.specs.Listed.{on_list}
 use Rattle.table_listing.specs.Picked.{picked, listed_at, listed_in, Window}
 use Rattle.table_listing.proofs.Listing.{listed_early, whole_consecutive, listed_rows}
 use Rattle.call_judging.proofs.Answering.{Passed, InRange, in_range, rows_stand, answer_passed, stays}
-use Rattle.call_looking.specs.Shown.{room_answer, Written, Shown, size_answer, sizes_answer}
+use Rattle.call_looking.specs.Shown.{room_answer, Written, Shown, WindowOf, size_answer, sizes_answer}
 
 -- 5 of a past look asks whether n1 is 0
 pub below_one : (n : ℕ) → ltb n 1 ≡ eqb n 0
@@ -91,6 +92,35 @@ module _ (h : Head) (t : Tables) where
     unfolding window_start
     pair_in_lem u v w e f = (omega arith, omega arith, omega arith)
 
+    -- the window of the list of n
+    pub list_window : {n : ℕ} → InRange h n → Window first (window_start h.newest n) (h.newest + 1 - 1) t.lower_ends t.upper_ends
+    list_window r = let w = start_in r refl in window_in _ _ w.0 (omega (arith, w.1)) (omega arith)
+
+    -- and that of the past list of n1 and n2
+    pub past_window : {n1 n2 : ℕ} → 1 ≤ n1 → n1 ≤ n2 → n2 ≤ h.capacity → Window first (window_start h.newest n2) (h.newest + 1 - n1) t.lower_ends t.upper_ends
+    past_window u v w = let i = pair_in_lem u v w refl refl in window_in _ _ i.0 i.1 i.2
+
+  -- what is on the list of such a window
+  pub window_list : {n1 n2 : ℕ} {w : RowWindow} → WindowOf h n1 n2 t w → on_list w ≡ cells_of (window_start h.newest n2) (h.newest + 1 - n1)
+  window_list w = rw (w.first, w.start, w.end, w.lower_ends, w.upper_ends)
+
+  module _ (p : Passed h t) {w : RowWindow} where
+    -- the list of n is that of its window
+    pub size_list : (n : ℕ) → InRange h n → WindowOf h 1 n t w → list_of h (book_rows h t) n ≡ on_list w
+    unfolding list_of
+    size_list n r s =
+        let start = window_start h.newest n in
+        let i = start_in p r refl in
+        let last : h.newest + 1 - 1 ≡ h.newest = omega arith in
+        list_cells p start h.newest i.0 i.1 (omega arith) ∙ sym (window_list s ∙ ap (cells_of start) last)
+
+    -- and the past list of n1 and n2
+    pub sizes_list : (n1 n2 : ℕ) → 1 ≤ n1 → n1 ≤ n2 → n2 ≤ h.capacity → WindowOf h n1 n2 t w → past_list_of h (book_rows h t) n1 n2 ≡ on_list w
+    unfolding past_list_of
+    sizes_list n1 n2 x y z s =
+        let i = pair_in_lem p x y z refl refl in
+        list_cells p (window_start h.newest n2) (h.newest + 1 - n1) i.0 i.1 i.2 ∙ sym (window_list s)
+
   -- ---- answers
 
   -- what passed the tests before is answered by those behind
@@ -104,33 +134,32 @@ module _ (h : Head) (t : Tables) where
 
   module _ (n : ℕ) where
     -- an accepted look at the list of n
-    pub size_passed : {a : Answer} → number_of a ≡ size_answer h n t → a ≡ Accepted → Passed h t × InRange h n
+    pub size_passed : {a : Result (Unit {0}) Refusal} → number_of a ≡ size_answer h n t → a ≡ Ok tt → Passed h t × InRange h n
     unfolding size_answer
     size_passed {a} e f =
         let p = answer_passed h t _ (accepted_number a e f) in
         (p.0, in_range h n (zero_passed _ _ _ p.1).0)
 
-    module _ (out : List ℕ) {a : Answer} (e : number_of a ≡ size_answer h n t) where
+    module _ (out : List ℕ) {a : Result (Unit {0}) Refusal} (e : number_of a ≡ size_answer h n t) where
       -- what a refused look leaves
-      pub look_refused : {k : Refusal} → a ≡ Refused k → Looked h n t out (record { answer = a; head = h; count = 0 }) out
+      pub look_refused : {k : Refusal} {r : Reply} → a ≡ Err k → r ≡ refusing k h → Looked h n t out r out
       unfolding look_reply look_out look_answer size_answer answer_of
-      look_refused f =
-          let g = stays _ ((ltb (length out) (length (look_cells h n t)), number ShortOutput) ∷ []) e f refl in
-          record { reply = refused_reply g f h h (length (look_cells h n t)); out = refused_left g f out (laid (look_cells h n t) out) }
+      look_refused {k} f w =
+          let g : number_of (Err k) ≡ look_answer h n t (length out) = rw f at (stays _ ((ltb (length out) (length (look_cells h n t)), number ShortOutput) ∷ []) e f refl) in
+          record { reply = rw w (refused_reply g refl h h (length (look_cells h n t))); out = refused_left g refl out (laid (look_cells h n t) out) }
 
       -- what an accepted look leaves
-      pub look_done : {start : ℕ} {r : Reply} {after : List ℕ} → a ≡ Accepted → start ≡ window_start h.newest n → Shown h (cells_of start h.newest) out r after → Looked h n t out r after
-      unfolding look_reply look_out look_answer look_cells list_of size_answer answer_of room_answer
-      look_done {start} f s v =
+      pub look_done : {w : RowWindow} {r : Reply} {after : List ℕ} → a ≡ Ok tt → WindowOf h 1 n t w → Shown h (on_list w) out r after → Looked h n t out r after
+      unfolding look_reply look_out look_answer look_cells size_answer answer_of room_answer
+      look_done f s v =
           let p = size_passed e f in
-          let w = start_in p.0 p.1 s in
-          let cells = ap (λ (k : ℕ). listed k h.newest (book_rows h t)) (sym s) ∙ list_cells p.0 start h.newest w.0 w.1 (omega arith) in
+          let cells = size_list p.0 n p.1 s in
           let q = shown_reply (behind _ _ refl (accepted_number a e f)) cells (ap length cells) v in
           record { reply = q.0; out = q.1 }
 
   module _ (n1 n2 : ℕ) where
     -- an accepted look at the past list of n1 and n2
-    pub sizes_passed : {a : Answer} → number_of a ≡ sizes_answer h n1 n2 t → a ≡ Accepted → Passed h t × (1 ≤ n1) × (n1 ≤ n2) × (n2 ≤ h.capacity)
+    pub sizes_passed : {a : Result (Unit {0}) Refusal} → number_of a ≡ sizes_answer h n1 n2 t → a ≡ Ok tt → Passed h t × (1 ≤ n1) × (n1 ≤ n2) × (n2 ≤ h.capacity)
     unfolding sizes_answer
     sizes_passed {a} e f =
         let p = answer_passed h t _ (accepted_number a e f) in
@@ -139,22 +168,20 @@ module _ (h : Head) (t : Tables) where
         let some : (n1 ≡ 0) → ⊥ = eqb-false n1 0 (none_left (eqb n1 0) (ltb h.capacity n2) s.0) in
         (p.0, omega (arith, some), ltb-false n2 n1 o.0, ltb-false h.capacity n2 (none_right (eqb n1 0) (ltb h.capacity n2) s.0))
 
-    module _ (out : List ℕ) {a : Answer} (e : number_of a ≡ sizes_answer h n1 n2 t) where
+    module _ (out : List ℕ) {a : Result (Unit {0}) Refusal} (e : number_of a ≡ sizes_answer h n1 n2 t) where
       -- what a refused look at a past list leaves
-      pub past_refused : {k : Refusal} → a ≡ Refused k → PastLooked h n1 n2 t out (record { answer = a; head = h; count = 0 }) out
+      pub past_refused : {k : Refusal} {r : Reply} → a ≡ Err k → r ≡ refusing k h → PastLooked h n1 n2 t out r out
       unfolding past_reply past_out past_answer sizes_answer answer_of
-      past_refused f =
-          let g = stays _ ((ltb (length out) (length (past_cells h n1 n2 t)), number ShortOutput) ∷ []) e f refl in
-          record { reply = refused_reply g f h h (length (past_cells h n1 n2 t)); out = refused_left g f out (laid (past_cells h n1 n2 t) out) }
+      past_refused {k} f w =
+          let g : number_of (Err k) ≡ past_answer h n1 n2 t (length out) = rw f at (stays _ ((ltb (length out) (length (past_cells h n1 n2 t)), number ShortOutput) ∷ []) e f refl) in
+          record { reply = rw w (refused_reply g refl h h (length (past_cells h n1 n2 t))); out = refused_left g refl out (laid (past_cells h n1 n2 t) out) }
 
       -- what an accepted one leaves
-      pub past_done : {start end : ℕ} {r : Reply} {after : List ℕ} → a ≡ Accepted → start ≡ window_start h.newest n2 → end ≡ h.newest + 1 - n1 → Shown h (cells_of start end) out r after
-          → PastLooked h n1 n2 t out r after
-      unfolding past_reply past_out past_answer past_cells past_list_of sizes_answer answer_of room_answer
-      past_done {start} {end} f s d v =
+      pub past_done : {w : RowWindow} {r : Reply} {after : List ℕ} → a ≡ Ok tt → WindowOf h n1 n2 t w → Shown h (on_list w) out r after → PastLooked h n1 n2 t out r after
+      unfolding past_reply past_out past_answer past_cells sizes_answer answer_of room_answer
+      past_done f s v =
           let p = sizes_passed e f in
-          let w = pair_in_lem p.0 p.1 p.2 p.3 s d in
-          let cells = ap₂ (λ (k l : ℕ). listed k l (book_rows h t)) (sym s) (sym d) ∙ list_cells p.0 start end w.0 w.1 w.2 in
+          let cells = sizes_list p.0 n1 n2 p.1 p.2 p.3 s in
           let q = shown_reply (behind _ _ refl (accepted_number a e f)) cells (ap length cells) v in
           record { reply = q.0; out = q.1 }
 
@@ -162,12 +189,12 @@ module _ (h : Head) (t : Tables) where
 
 module _ (h : Head) (cells out : List ℕ) where
   -- cells that do not fit
-  pub shown_none : (count : ℕ) → length out < length cells → Written h cells count out (record { answer = Refused ShortOutput; head = h; count = 0 }) out
+  pub shown_none : (count : ℕ) → length out < length cells → Written h cells count out (refusing ShortOutput h) out
   unfolding room_answer first_of reply_of granted
   shown_none count l = let short = lt-ltb (length out) (length cells) l in record { reply = rw short; out = rw short }
 
   -- cells written
   pub shown_all : {count n : ℕ} {after : List ℕ} → length cells ≤ length out → n ≡ count → after ≡ laid cells out
-      → Written h cells count out (record { answer = Accepted; head = h; count = n }) after
+      → Written h cells count out (accepting h n) after
   unfolding room_answer first_of reply_of granted
   shown_all l c e = let fits = le-ltb (length out) (length cells) l in record { reply = rw (fits, c); out = rw fits e }

@@ -4,37 +4,28 @@
 mod due_rows;
 
 ghost use Rattle.std.specs.Prelude.{◌≡◌, ◌+◌, ◌-◌, ◌≤◌, ◌||◌, ltb, length};
-ghost use Rattle.skyline.specs.Skyline.{window_start};
 ghost use Rattle.head.specs.Heads.{last_position};
 ghost use Rattle.refusals.specs.Refusals.{number_of};
-ghost use Rattle.model.specs.Promises.{tables, Looked, PastLooked};
-ghost use Rattle.table_listing.specs.Picked.{listed_in, Window};
-ghost use Rattle.call_looking.specs.Shown.{Shown, size_answer, sizes_answer};
+ghost use Rattle.lent_tables.specs.Lent.{lent};
+ghost use Rattle.model.specs.Promises.{Looked, PastLooked};
+ghost use Rattle.skyline.specs.Skyline.{window_start};
+ghost use Rattle.table_listing.specs.Listed.{on_list};
+ghost use Rattle.table_listing.specs.Picked.{Window};
+ghost use Rattle.call_looking.specs.Shown.{Shown, WindowOf, size_answer, sizes_answer};
 
-use call_judging::{judge, out_of_range, with_test};
+use call_judging::{judge, out_of_range, refuse_if};
 pub use due_rows::due;
 use head::{Head, Reply};
-use refusals::{Answer, Refusal};
-use table_listing::{count_listed, start_of, write_listed};
+use lent_tables::LentTables;
+use refusals::Refusal;
+use table_listing::{RowWindow, start_of};
 
 // The answer of a look at the list of n but for the output: 3, 11, 12, 5.
-fn judge_size(
-    head: Head,
-    n: u32,
-    columns: &[u32],
-    positions: &[u32],
-    lower_ends: &[u32],
-    upper_ends: &[u32],
-) -> Answer
-    ensures { number_of result ≡ size_answer head n
-        (tables columns.now positions.now lower_ends.now
-        upper_ends.now) }
+fn judge_size(head: Head, n: u32, tables: &LentTables<'_>) -> Result<(), Refusal>
+    ensures { number_of result ≡ size_answer head n (lent tables.now) }
 {
-    with_test(
-        judge(head, columns, positions, lower_ends, upper_ends),
-        out_of_range(head, n),
-        Refusal::WindowSize,
-    )
+    judge(head, tables)?;
+    refuse_if(out_of_range(head, n), Refusal::WindowSize)
 }
 
 // Whether n1 is below this least or n2 above the capacity.
@@ -45,140 +36,76 @@ pub fn out_of_sizes(head: Head, least: u32, n1: u32, n2: u32) -> bool
 }
 
 // The answer of a look at the past list of n1 and n2 but for the output: 3, 11, 12, 5, 14.
-fn judge_sizes(
-    head: Head,
-    n1: u32,
-    n2: u32,
-    columns: &[u32],
-    positions: &[u32],
-    lower_ends: &[u32],
-    upper_ends: &[u32],
-) -> Answer
-    ensures { number_of result ≡ sizes_answer head n1 n2
-        (tables columns.now positions.now lower_ends.now
-        upper_ends.now) }
+fn judge_sizes(head: Head, n1: u32, n2: u32, tables: &LentTables<'_>) -> Result<(), Refusal>
+    ensures { number_of result ≡ sizes_answer head n1 n2 (lent tables.now) }
 {
-    let judged = judge(head, columns, positions, lower_ends, upper_ends);
-    let beyond = out_of_sizes(head, 1, n1, n2);
-    let sized = with_test(judged, beyond, Refusal::WindowSize);
-    with_test(sized, n2 < n1, Refusal::WindowOrder)
+    judge(head, tables)?;
+    refuse_if(out_of_sizes(head, 1, n1, n2), Refusal::WindowSize)?;
+    refuse_if(n2 < n1, Refusal::WindowOrder)
 }
 
 // The last position of the window that ends n - 1 positions before the newest, or 0.
-pub fn end_of(head: Head, n: u32) -> u32
+fn end_of(head: Head, n: u32) -> u32
     requires { head.newest ≤ last_position }
     ensures { result ≡ head.newest + 1 - n }
 {
-    if head.newest < n {
-        return 0;
-    }
-    head.newest - n + 1
+    (head.newest + 1).saturating_sub(n)
 }
 
-// Whether the list of the window from a to b has more positions than this space. It has no more than the window, so with space for all of
-// those they are not counted.
-fn short_list(
-    lower_ends: &[u32],
-    upper_ends: &[u32],
-    first: u32,
-    a: u32,
-    b: u32,
-    space: usize,
-) -> bool
-    requires { Window first a b lower_ends.now upper_ends.now }
-    ensures { result ≡ ltb space (length
-        (listed_in a b first lower_ends.now upper_ends.now)) }
-{
-    if (b as usize) + 1 - (a as usize) <= space {
-        return false;
-    }
-    space < count_listed(lower_ends, upper_ends, first, a, b)
-}
-
-// Writes the positions of the list of the window from a to b into out, oldest first, if there is room, and hands back how many.
-fn write_list(
-    head: Head,
-    a: u32,
-    b: u32,
-    lower_ends: &[u32],
-    upper_ends: &[u32],
-    out: &mut [u32],
-) -> Reply
+// The window of the past list of n1 and n2, which for an n1 of 1 is that of the list of n2.
+pub fn window_of<'a>(head: Head, n1: u32, n2: u32, tables: &LentTables<'a>) -> RowWindow<'a>
     requires newest_le_last_position { head.newest ≤ last_position }
-    requires window { Window (window_start head.newest head.capacity) a b lower_ends.now upper_ends.now }
-    ensures { Shown head (listed_in a b (window_start head.newest head.capacity) lower_ends.now
-        upper_ends.now) out.old result out.new }
+    requires within { Window (window_start head.newest head.capacity) (window_start head.newest n2) (head.newest + 1 - n1)
+        tables.now.lower_ends.now tables.now.upper_ends.now }
+    ensures { WindowOf head n1 n2 (lent tables.now) result }
 {
-    let first = start_of(head, head.capacity);
-    if short_list(lower_ends, upper_ends, first, a, b, out.len()) {
-        return Reply {
-            answer: Answer::Refused(Refusal::ShortOutput),
-            head,
-            count: 0,
-        };
+    RowWindow {
+        first: start_of(head, head.capacity),
+        start: start_of(head, n2),
+        end: end_of(head, n1),
+        lower_ends: tables.lower_ends,
+        upper_ends: tables.upper_ends,
     }
-    let written = write_listed(lower_ends, upper_ends, first, a, b, out);
-    Reply {
-        answer: Answer::Accepted,
-        head,
-        count: written,
+}
+
+// Whether the list of a window has more positions than this space. It has no more than the window, so with space for all of those they
+// are not counted.
+fn short_list(window: &RowWindow<'_>, space: usize) -> bool
+    ensures { result ≡ ltb space (length (on_list window.now)) }
+{
+    let most = (window.end as usize) + 1 - (window.start as usize);
+    (space < most) && (space < window.count_listed())
+}
+
+// Writes the positions of the list of a window into out, oldest first, if there is room, and hands back how many.
+fn write_list(head: Head, window: &RowWindow<'_>, out: &mut [u32]) -> Reply
+    ensures { Shown head (on_list window.now) out.old result out.new }
+{
+    if short_list(window, out.len()) {
+        return Reply::refused(Refusal::ShortOutput, head);
     }
+    let written = window.write_listed(out);
+    Reply::accepted(head, written)
 }
 
 // Writes the positions of the list of n into out, oldest first, and hands back how many.
-pub fn look(
-    head: Head,
-    n: u32,
-    columns: &[u32],
-    positions: &[u32],
-    lower_ends: &[u32],
-    upper_ends: &[u32],
-    out: &mut [u32],
-) -> Reply
-    ensures { Looked head n (tables columns.now positions.now lower_ends.now
-        upper_ends.now) out.old result out.new }
+pub fn look(head: Head, n: u32, tables: &LentTables<'_>, out: &mut [u32]) -> Reply
+    ensures { Looked head n (lent tables.now) out.old result out.new }
 {
-    let answer = judge_size(head, n, columns, positions, lower_ends, upper_ends);
-    match answer {
-        Answer::Accepted => {}
-        Answer::Refused(_) => {
-            return Reply {
-                answer,
-                head,
-                count: 0,
-            };
-        }
+    if let Err(refusal) = judge_size(head, n, tables) {
+        return Reply::refused(refusal, head);
     }
-    let a = start_of(head, n);
-    write_list(head, a, head.newest, lower_ends, upper_ends, out)
+    let window = window_of(head, 1, n, tables);
+    write_list(head, &window, out)
 }
 
 // Writes the positions of the past list of n1 and n2 into out, oldest first, and hands back how many.
-pub fn past(
-    head: Head,
-    n1: u32,
-    n2: u32,
-    columns: &[u32],
-    positions: &[u32],
-    lower_ends: &[u32],
-    upper_ends: &[u32],
-    out: &mut [u32],
-) -> Reply
-    ensures { PastLooked head n1 n2 (tables columns.now positions.now
-        lower_ends.now upper_ends.now) out.old result out.new }
+pub fn past(head: Head, n1: u32, n2: u32, tables: &LentTables<'_>, out: &mut [u32]) -> Reply
+    ensures { PastLooked head n1 n2 (lent tables.now) out.old result out.new }
 {
-    let answer = judge_sizes(head, n1, n2, columns, positions, lower_ends, upper_ends);
-    match answer {
-        Answer::Accepted => {}
-        Answer::Refused(_) => {
-            return Reply {
-                answer,
-                head,
-                count: 0,
-            };
-        }
+    if let Err(refusal) = judge_sizes(head, n1, n2, tables) {
+        return Reply::refused(refusal, head);
     }
-    let a = start_of(head, n2);
-    let b = end_of(head, n1);
-    write_list(head, a, b, lower_ends, upper_ends, out)
+    let window = window_of(head, n1, n2, tables);
+    write_list(head, &window, out)
 }

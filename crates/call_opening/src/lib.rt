@@ -2,11 +2,12 @@
 #![tactic(auto)]
 
 ghost use Rattle.std.specs.Prelude.{◌≡◌, length, take};
-ghost use Rattle.model.specs.Promises.{tables, Opened};
+ghost use Rattle.lent_tables.specs.Lent.{lent_mut, SameLoan};
+ghost use Rattle.model.specs.Promises.{Opened};
 
 use call_judging::judge_loan;
 use head::{Head, Reply};
-use refusals::Answer;
+use lent_tables::LentTablesMut;
 use table_cells::clear;
 use watch_numbers::WatchReply;
 
@@ -15,45 +16,29 @@ pub fn open(
     dimensions: u32,
     capacity: u32,
     directions: u32,
-    columns: &mut [u32],
-    positions: &mut [u32],
-    lower_ends: &mut [u32],
-    upper_ends: &mut [u32],
+    tables: &mut LentTablesMut<'_>,
     watches: [u64; 8],
-    lent: usize,
+    records: usize,
 ) -> WatchReply
-    ensures opened { Opened dimensions capacity directions
-        (tables columns.old positions.old lower_ends.old upper_ends.old)
-        (take lent watches) result.reply (tables columns.new positions.new lower_ends.new
-        upper_ends.new) (take lent result.watches) }
+    ensures same_loan { SameLoan tables.old tables.new }
+    ensures opened { Opened dimensions capacity directions (lent_mut tables.old) (take records watches)
+        result.reply (lent_mut tables.new) (take records result.watches) }
     ensures watches_len { length result.watches ≡ 8 }
 {
     let head = Head::fresh(dimensions, capacity, directions);
-    let answer = judge_loan(head, columns, positions, lower_ends, upper_ends, lent);
-    match answer {
-        Answer::Accepted => {}
-        Answer::Refused(_) => {
-            return WatchReply {
-                reply: Reply {
-                    answer,
-                    head: Head::fresh(0, 0, 0),
-                    count: 0,
-                },
-                watches,
-            };
-        }
+    if let Err(refusal) = judge_loan(head, &tables.to_read(), records) {
+        return WatchReply {
+            reply: Reply::refused(refusal, Head::fresh(0, 0, 0)),
+            watches,
+        };
     }
     let n = capacity as usize;
-    clear(columns, 0, n * (dimensions as usize));
-    clear(positions, 0, n);
-    clear(lower_ends, 0, n);
-    clear(upper_ends, 0, n);
+    clear(tables.columns, 0, n * (dimensions as usize));
+    clear(tables.positions, 0, n);
+    clear(tables.lower_ends, 0, n);
+    clear(tables.upper_ends, 0, n);
     WatchReply {
-        reply: Reply {
-            answer,
-            head,
-            count: 0,
-        },
+        reply: Reply::accepted(head, 0),
         watches: [0; 8],
     }
 }

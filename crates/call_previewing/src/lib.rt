@@ -3,30 +3,28 @@
 #![tactic(auto)]
 
 ghost use Rattle.std.specs.Prelude.{◌≡◌, take};
-ghost use Rattle.model.specs.Promises.{tables, Previewed};
+ghost use Rattle.lent_tables.specs.Lent.{lent};
+ghost use Rattle.model.specs.Promises.{Previewed};
 ghost use Rattle.call_previewing.specs.Effects.{effect_of};
 
 use call_quoting::judge;
 use call_settling::find;
 use call_writing::{accept, write};
 use head::{Effect, Head, PLACES, Reply};
-use refusals::Answer;
+use lent_tables::LentTables;
 
 // What a preview tells of the reply that the quote would give: its answer and count, the head as it came, and how many rows are live and
 // held by the reply's head.
 pub fn effect_of(came: Head, reply: Reply) -> Effect
     ensures { result ≡ effect_of came reply }
 {
-    let answer = reply.answer;
-    let next = reply.head;
     Effect {
         reply: Reply {
-            answer,
             head: came,
-            count: reply.count,
+            ..reply
         },
-        live: next.live,
-        held: next.held,
+        live: reply.head.live,
+        held: reply.head.held,
     }
 }
 
@@ -34,46 +32,24 @@ pub fn effect_of(came: Head, reply: Reply) -> Effect
 pub fn preview(
     head: Head,
     quote: &[u32],
-    columns: &[u32],
-    positions: &[u32],
-    lower_ends: &[u32],
-    upper_ends: &[u32],
+    tables: &LentTables<'_>,
     watches: [u64; 8],
-    lent: usize,
+    records: usize,
     out: &mut [u8],
 ) -> Effect
-    ensures { Previewed head quote.now
-        (tables columns.now positions.now lower_ends.now upper_ends.now)
-        (take lent watches) out.old result out.new }
+    ensures { Previewed head quote.now (lent tables.now) (take records watches) out.old result out.new }
 {
-    let room = out.len();
-    let answer = judge(
-        false, head, quote, columns, positions, lower_ends, upper_ends, watches, lent, room,
-    );
-    match answer {
-        Answer::Accepted => {}
-        Answer::Refused(_) => {
-            return effect_of(
-                head,
-                Reply {
-                    answer,
-                    head,
-                    count: 0,
-                },
-            );
-        }
+    if let Err(refusal) = judge(false, head, quote, tables, watches, records, out.len()) {
+        return effect_of(head, Reply::refused(refusal, head));
     }
     let mut places = [0u16; PLACES];
-    let found = find(false, head, quote, columns, upper_ends, &mut places);
-    let at = found.at;
+    let found = find(false, head, quote, tables, &mut places);
     let count = write(
         head,
         found,
-        &places[at..],
+        &places[found.at..],
         quote,
-        columns,
-        lower_ends,
-        upper_ends,
+        tables,
         watches,
         out,
     );

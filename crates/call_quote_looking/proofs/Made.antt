@@ -1,5 +1,6 @@
 -- What a quote and look in one hands back and leaves, where both are taken and where neither is.
-use mathlib.Core.Path.{◌≡◌, refl, ap, ◌∙◌}
+use Rattle.std.specs.Prelude.{Result, Err}
+use mathlib.Core.Path.{◌≡◌, refl, sym, ap, ◌∙◌}
 use Prim.Native.Nat.{ℕ, ◌+◌}
 use mathlib.Core.Bool.{Bool, true, false, ◌&&◌}
 use mathlib.Core.List.{List}
@@ -8,8 +9,6 @@ use lib.ListN.{length, drop}
 use Rattle.lists.specs.Lists.{laid}
 use Rattle.skyline.specs.Skyline.{window_start}
 use Rattle.head.specs.declared.Head.{Head}
-use Rattle.refusals.specs.declared.Answer.{Answer}
-use Rattle.refusals.specs.declared.Answer.TheVariants.{Refused}
 use Rattle.refusals.specs.declared.Refusal.{Refusal}
 use Rattle.refusals.specs.declared.Refusal.TheVariants.{ShortOutput}
 use Rattle.refusals.specs.Refusals.{number_of, granted}
@@ -29,23 +28,24 @@ use Rattle.call_quote_looking.proofs.Counting.{cells_short, cells_fit}
 use Rattle.call_quote_looking.proofs.Lists.{list_is, writable}
 
 -- refused, all is as it was
-pub made_refused : (reachable : Bool) (h : Head) (x : List ℕ) (n : ℕ) (t : Tables) (ws out cells : List ℕ) {a : Answer} {k : Refusal}
-    → number_of a ≡ both_answer h x n t ws (length out) (length cells) → a ≡ Refused k → {s : BothEntered} → s ≡ refusal h a
+pub made_refused : (reachable : Bool) (h : Head) (x : List ℕ) (n : ℕ) (t : Tables) (ws out cells : List ℕ) {a : Result (Unit {0}) Refusal} {k : Refusal}
+    → number_of a ≡ both_answer h x n t ws (length out) (length cells) → a ≡ Err k → {s : BothEntered} → s ≡ refusal h (Err k)
     → BothMade reachable h x n t ws out cells s t out cells
 unfolding both_reply both_listed both_tables both_out both_cells
-made_refused reachable h x n t ws out cells e f g =
+made_refused reachable h x n t ws out cells {k = why} e' f' g =
+    let e : number_of (Err why) ≡ both_answer h x n t ws (length out) (length cells) = ap number_of (sym f') ∙ e' in
     rw g (record {
       made = record {
-        reply = refused_reply e f h _ _;
-        listed = refused_left e f 0 _;
+        reply = refused_reply e refl h _ _;
+        listed = refused_left e refl 0 _;
         lent = refl;
-        out = refused_left e f out _;
-        positions = refused_left e f cells _;
+        out = refused_left e refl out _;
+        positions = refused_left e refl cells _;
       };
-      moved = λ k. refused_left e f t _;
-      behind = λ k. refused_left e f t _;
-      later_by = λ k. refused_left e f 0 _;
-      slides = λ k. stayed (refused_left e f t _);
+      moved = λ k. refused_left e refl t _;
+      behind = λ k. refused_left e refl t _;
+      later_by = λ k. refused_left e refl 0 _;
+      slides = λ k. stayed (refused_left e refl t _);
     })
 
 -- once the quote and the size are judged and the rows are compared with the quote; short: whether the cells are too few
@@ -57,7 +57,7 @@ module _ (reachable : Bool) {h : Head} {x : List ℕ} (n : ℕ) {t : Tables} {ws
   list = both_list h x n t ws (length out)
 
   -- too few, all is as it was
-  pub made_short : short ≡ true → {r : BothEntered} → r ≡ refusal h (Refused ShortOutput) → BothMade reachable h x n t ws out cells r t out cells
+  pub made_short : short ≡ true → {r : BothEntered} → r ≡ refusal h (Err ShortOutput) → BothMade reachable h x n t ws out cells r t out cells
   made_short s g =
       let refused = room_refused h x n t ws (length out) v.accepted o (length cells) (cells_short v (in_range h n o) starts e s) in
       made_refused reachable h x n t ws out cells refused refl g

@@ -1,8 +1,9 @@
 -- What a quote and look in one hands back and leaves: in a reachable book no row is moved, and where the oldest one expires the rows are those
 -- from one place later on.
+use Rattle.std.specs.Prelude.{Result}
 use Rattle.std.specs.Prelude.{◌≡◌, ℕ, Bool, true, false, List, length}
 use Rattle.head.specs.declared.Head.{Head}
-use Rattle.refusals.specs.declared.Answer.{Answer}
+use Rattle.refusals.specs.declared.Refusal.{Refusal}
 use Rattle.refusals.specs.Refusals.{granted}
 use Rattle.model.specs.Rows.{Tables}
 use Rattle.model.specs.Book.{both_answer, both_tables}
@@ -13,7 +14,7 @@ use Rattle.call_quoting.specs.Entered.{Slid, row_behind}
 use Rattle.call_quote_looking.specs.declared.BothEntered.{BothEntered}
 
 -- what is handed back where neither is taken
-abbrev pub refusal : Head → Answer → BothEntered
+abbrev pub refusal : Head → Result (Unit {0}) Refusal → BothEntered
 refusal h a = record { both = record { reply = record { answer = a; head = h; count = 0 }; listed = 0 }; by = 0 }
 
 -- what is handed back where both are taken, once the quote is entered and so many positions are written

@@ -5,21 +5,23 @@
 ghost use Rattle.std.specs.Prelude.{◌≡◌, ◌≤◌, true, ◌&&◌, ltb, length, take, drop};
 ghost use Rattle.lists.specs.Lists.{laid};
 ghost use Rattle.head.specs.Heads.{last_position};
-ghost use Rattle.refusals.specs.Refusals.{number_of, granted};
+ghost use Rattle.refusals.specs.Refusals.{number_of};
 ghost use Rattle.model.specs.Calls.{Reached};
-ghost use Rattle.model.specs.Promises.{tables, world, QuotedLooked};
+ghost use Rattle.lent_tables.specs.Lent.{lent, lent_mut, SameLoan};
+ghost use Rattle.model.specs.Promises.{world, QuotedLooked};
 ghost use Rattle.table_cells.specs.Marked.{Below};
 ghost use Rattle.call_quoting.specs.Known.{Known};
 ghost use Rattle.call_quote_looking.specs.Looks.{sized_answer, stabbed_places, count_after, Countable, first_place, list_after, Writable};
 ghost use Rattle.call_quote_looking.specs.Made.{refusal, acceptance, BothMade};
 
-use call_judging::{out_of_range, with_test};
+use call_judging::{out_of_range, refuse_if};
 use call_quoting::{Entered, enter, judge};
 use call_settling::{Finding, find};
 use head::{BothReply, Head, PLACES, Reply};
-use refusals::{Answer, Refusal};
+use lent_tables::{LentTables, LentTablesMut};
+use refusals::Refusal;
 use table_changes::shift_of;
-use table_listing::{count_listed, start_of, write_listed};
+use table_listing::{RowWindow, start_of};
 
 // What a quote and look in one hands back, and how many places later its rows begin where none was moved.
 #[derive(Clone, Copy)]
@@ -29,13 +31,13 @@ pub struct BothEntered {
 }
 
 // What is handed back where neither is taken.
-fn refuse(head: Head, answer: Answer) -> BothEntered
-    ensures { result ≡ refusal head answer }
+fn refuse(head: Head, why: Refusal) -> BothEntered
+    ensures { result ≡ refusal head (Err why) }
 {
     BothEntered {
         both: BothReply {
             reply: Reply {
-                answer,
+                answer: Err(why),
                 head,
                 count: 0,
             },
@@ -45,44 +47,22 @@ fn refuse(head: Head, answer: Answer) -> BothEntered
     }
 }
 
-// The first answer, or where it accepts the second.
-fn first_refusal(first: Answer, second: Answer) -> Answer
-    ensures { number_of result ≡ granted (number_of first) (number_of second) (number_of first) }
-{
-    match first {
-        Answer::Accepted => {}
-        Answer::Refused(_) => {
-            return first;
-        }
-    }
-    second
-}
-
 // The answer of a quote with an output of this length and, behind it, of a look at the list of n but for its cells: 3, 11, 12, 4, 6, 13, 5.
 fn judge_both(
     reachable: bool,
     head: Head,
     quote: &[u32],
     n: u32,
-    columns: &[u32],
-    positions: &[u32],
-    lower_ends: &[u32],
-    upper_ends: &[u32],
+    tables: &LentTables<'_>,
     watches: [u64; 8],
-    lent: usize,
+    records: usize,
     room: usize,
-) -> Answer
-    requires { reachable ≡ true → Reached (world head (tables columns.now positions.now lower_ends.now
-        upper_ends.now) (take lent watches)) }
-    ensures { number_of result ≡ sized_answer head quote.now n
-        (tables columns.now positions.now lower_ends.now upper_ends.now)
-        (take lent watches) room }
+) -> Result<(), Refusal>
+    requires { reachable ≡ true → Reached (world head (lent tables.now) (take records watches)) }
+    ensures { number_of result ≡ sized_answer head quote.now n (lent tables.now) (take records watches) room }
 {
-    let quoted = judge(
-        reachable, head, quote, columns, positions, lower_ends, upper_ends, watches, lent, room,
-    );
-    let sized = with_test(Answer::Accepted, out_of_range(head, n), Refusal::WindowSize);
-    first_refusal(quoted, sized)
+    judge(reachable, head, quote, tables, watches, records, room)?;
+    refuse_if(out_of_range(head, n), Refusal::WindowSize)
 }
 
 // How many of the rows at these places the start of a window stabs; the row at place 0 has position first.
@@ -92,12 +72,10 @@ fn count_stabbed(places: &[u16], lower_ends: &[u32], first: u32, start: u32) -> 
     ensures { result ≡ length (stabbed_places first start lower_ends.now places.now) }
 {
     let mut count: usize = 0;
-    let mut k = 0;
-    while k < places.len() {
-        let i = places[k] as usize;
+    for &place in places {
+        let i = place as usize;
         let position = first + (i as u32);
         count += ((lower_ends[i] < start) & (start <= position)) as usize;
-        k += 1;
     }
     count
 }
@@ -110,23 +88,28 @@ fn short_cells(
     start: u32,
     found: Finding,
     places: &[u16],
-    lower_ends: &[u32],
-    upper_ends: &[u32],
+    tables: &LentTables<'_>,
     space: usize,
 ) -> bool
     requires at_in_bounds { found.at ≤ length places.now }
-    requires countable { Countable head start (drop found.at places.now) lower_ends.now upper_ends.now }
+    requires countable { Countable head start (drop found.at places.now) tables.now.lower_ends.now tables.now.upper_ends.now }
     ensures { result ≡ (ltb space n && ltb space
-        (count_after head start found.lower (drop found.at places.now) lower_ends.now
-        upper_ends.now)) }
+        (count_after head start found.lower (drop found.at places.now) tables.now.lower_ends.now
+        tables.now.upper_ends.now)) }
 {
     if (n as usize) <= space {
         return false;
     }
     let first = start_of(head, head.capacity);
-    let stabbed = count_listed(lower_ends, upper_ends, first, start, head.newest);
-    let at = found.at;
-    let lost = count_stabbed(&places[at..], lower_ends, first, start);
+    let window = RowWindow {
+        first,
+        start,
+        end: head.newest,
+        lower_ends: tables.lower_ends,
+        upper_ends: tables.upper_ends,
+    };
+    let stabbed = window.count_listed();
+    let lost = count_stabbed(&places[found.at..], tables.lower_ends, first, start);
     space + lost < stabbed + ((found.lower < start) as usize)
 }
 
@@ -142,30 +125,29 @@ fn look_after(
     reachable: bool,
     entered: Entered,
     start: u32,
-    lower_ends: &[u32],
-    upper_ends: &[u32],
+    tables: &LentTables<'_>,
     cells: &mut [u32],
 ) -> BothEntered
-    requires { Writable reachable entered start lower_ends.now upper_ends.now (length cells.old) }
+    requires { Writable reachable entered start tables.now.lower_ends.now tables.now.upper_ends.now (length cells.old) }
     ensures value { result ≡ acceptance entered (length
-        (list_after reachable entered start lower_ends.now upper_ends.now)) }
-    ensures cells_after { cells.new ≡ laid (list_after reachable entered start lower_ends.now
-        upper_ends.now) cells.old }
+        (list_after reachable entered start tables.now.lower_ends.now tables.now.upper_ends.now)) }
+    ensures cells_after { cells.new ≡ laid (list_after reachable entered start tables.now.lower_ends.now tables.now.upper_ends.now) cells.old }
 {
-    let reply = entered.reply;
-    let head = reply.head;
+    let head = entered.reply.head;
     let from = first_place(reachable, entered.by);
     let first = start_of(head, head.capacity);
-    let listed = write_listed(
-        &lower_ends[from..],
-        &upper_ends[from..],
+    let window = RowWindow {
         first,
         start,
-        head.newest,
-        cells,
-    );
+        end: head.newest,
+        lower_ends: &tables.lower_ends[from..],
+        upper_ends: &tables.upper_ends[from..],
+    };
     BothEntered {
-        both: BothReply { reply, listed },
+        both: BothReply {
+            reply: entered.reply,
+            listed: window.write_listed(cells),
+        },
         by: entered.by,
     }
 }
@@ -176,52 +158,38 @@ pub fn both_known(
     head: Head,
     quote: &[u32],
     n: u32,
-    columns: &mut [u32],
-    positions: &mut [u32],
-    lower_ends: &mut [u32],
-    upper_ends: &mut [u32],
+    tables: &mut LentTablesMut<'_>,
     watches: [u64; 8],
-    lent: usize,
+    records: usize,
     out: &mut [u8],
     cells: &mut [u32],
 ) -> BothEntered
-    requires { Known reachable head (tables columns.old positions.old lower_ends.old upper_ends.old)
-        (take lent watches) }
-    ensures { BothMade reachable head quote.now n
-        (tables columns.old positions.old lower_ends.old upper_ends.old)
-        (take lent watches) out.old cells.old result
-        (tables columns.new positions.new lower_ends.new upper_ends.new)
-        out.new cells.new }
+    requires { Known reachable head (lent_mut tables.old) (take records watches) }
+    ensures same_loan { SameLoan tables.old tables.new }
+    ensures both_made { BothMade reachable head quote.now n (lent_mut tables.old) (take records watches) out.old
+        cells.old result (lent_mut tables.new) out.new cells.new }
 {
-    let room = out.len();
-    let answer = judge_both(
-        reachable, head, quote, n, columns, positions, lower_ends, upper_ends, watches, lent, room,
-    );
-    match answer {
-        Answer::Accepted => {}
-        Answer::Refused(_) => {
-            return refuse(head, answer);
-        }
+    let read = tables.to_read();
+    if let Err(why) = judge_both(
+        reachable,
+        head,
+        quote,
+        n,
+        &read,
+        watches,
+        records,
+        out.len(),
+    ) {
+        return refuse(head, why);
     }
     let mut places = [0u16; PLACES];
-    let found = find(reachable, head, quote, columns, upper_ends, &mut places);
+    let found = find(reachable, head, quote, &read, &mut places);
     let start = shift_of(head, n).after;
-    if short_cells(
-        head,
-        n,
-        start,
-        found,
-        &places,
-        lower_ends,
-        upper_ends,
-        cells.len(),
-    ) {
-        return refuse(head, Answer::Refused(Refusal::ShortOutput));
+    if short_cells(head, n, start, found, &places, &read, cells.len()) {
+        return refuse(head, Refusal::ShortOutput);
     }
-    let entered = enter(
-        head, found, &places, quote, columns, positions, lower_ends, upper_ends, watches, out,
-    );
-    look_after(reachable, entered, start, lower_ends, upper_ends, cells)
+    let entered = enter(head, found, &places, quote, tables, watches, out);
+    look_after(reachable, entered, start, &tables.to_read(), cells)
 }
 
 // Takes a quote and a look behind it on any tables.
@@ -229,24 +197,15 @@ pub fn both(
     head: Head,
     quote: &[u32],
     n: u32,
-    columns: &mut [u32],
-    positions: &mut [u32],
-    lower_ends: &mut [u32],
-    upper_ends: &mut [u32],
+    tables: &mut LentTablesMut<'_>,
     watches: [u64; 8],
-    lent: usize,
+    records: usize,
     out: &mut [u8],
     cells: &mut [u32],
 ) -> BothReply
-    ensures { QuotedLooked head quote.now n
-        (tables columns.old positions.old lower_ends.old upper_ends.old)
-        (take lent watches) out.old cells.old result
-        (tables columns.new positions.new lower_ends.new upper_ends.new)
-        out.new cells.new }
+    ensures same_loan { SameLoan tables.old tables.new }
+    ensures quoted_looked { QuotedLooked head quote.now n (lent_mut tables.old) (take records watches) out.old
+        cells.old result (lent_mut tables.new) out.new cells.new }
 {
-    let entered = both_known(
-        false, head, quote, n, columns, positions, lower_ends, upper_ends, watches, lent, out,
-        cells,
-    );
-    entered.both
+    both_known(false, head, quote, n, tables, watches, records, out, cells).both
 }

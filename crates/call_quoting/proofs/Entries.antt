@@ -1,5 +1,6 @@
 -- A quote entered by what was found: where each table has room, and that the rows which it leaves are those of the book model, moved, or from
 -- the rows that are left on.
+use Rattle.std.specs.Prelude.{Result, Err}
 use mathlib.Core.Path.{◌≡◌, refl, sym, ap, ◌∙◌}
 use Prim.Native.Nat.{ℕ, ◌+◌, ◌-◌, ◌*◌, ◌≤◌, ◌<◌}
 use native.Mathlib.Nat.{mul-le-mul}
@@ -11,10 +12,9 @@ use borrow.Author.Tests.{lt-ltb}
 use Rattle.lists.specs.Lists.{laid}
 use Rattle.lists.proofs.Booleans.{clash}
 use Rattle.head.specs.declared.Head.{Head}
-use Rattle.refusals.specs.declared.Answer.{Answer}
-use Rattle.refusals.specs.declared.Answer.TheVariants.{Refused}
 use Rattle.refusals.specs.declared.Refusal.{Refusal}
 use Rattle.head.specs.declared.replies.Reply.{Reply}
+use Rattle.head.specs.Replies.{refusing}
 use Rattle.head.specs.Heads.{settings_hold, last_position, after_quote}
 use Rattle.refusals.specs.Refusals.{number_of, granted}
 use Rattle.refusals.proofs.Numbers.{accepted_granted}
@@ -140,14 +140,15 @@ entered {h} {x} {t} {ws} {f} out v w c e o cs qs ls us =
 
 -- ---- a refused one
 
-pub entry_refused : (reachable : Bool) (h : Head) (x : List ℕ) (t : Tables) (ws out : List ℕ) {a : Answer} {k : Refusal} → number_of a ≡ quote_answer h x t ws (length out) → a ≡ Refused k
-    → QuoteEntered reachable h x t ws out (record { reply = record { answer = a; head = h; count = 0 }; by = 0 }) t out
-entry_refused reachable h x t ws out e f =
-    let done = quote_refused h x t ws out e f in
-    record {
+pub entry_refused : (reachable : Bool) (h : Head) (x : List ℕ) (t : Tables) (ws out : List ℕ) {a : Result (Unit {0}) Refusal} {k : Refusal} → number_of a ≡ quote_answer h x t ws (length out) → a ≡ Err k
+    → {r : Reply} → r ≡ refusing k h → QuoteEntered reachable h x t ws out (record { reply = r; by = 0 }) t out
+entry_refused reachable h x t ws out {k = k} e f g =
+    let refused : number_of (Err k) ≡ quote_answer h x t ws (length out) = ap number_of (sym f) ∙ e in
+    let done = quote_refused h x t ws out refused refl in
+    rw g (record {
       quoted = record { reply = done.reply; lent = refl; out = done.out };
       moved = λ k. done.lent;
-      behind = λ k. refused_left e f t (row_behind h x t);
-      later_by = λ k. refused_left e f 0 _;
+      behind = λ k. refused_left refused refl t (row_behind h x t);
+      later_by = λ k. refused_left refused refl 0 _;
       slides = λ k. stayed done.lent;
-    }
+    })

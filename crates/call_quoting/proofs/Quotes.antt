@@ -1,4 +1,5 @@
 -- A quote on a book: what is known once it is accepted and its rows are compared with it, and what it leaves.
+use Rattle.std.specs.Prelude.{Result, Ok, Err}
 use mathlib.Core.Path.{◌≡◌, refl, sym, ap, ap₂, ◌∙◌}
 use Prim.Native.Nat.{ℕ, ◌+◌, ◌-◌, ◌≤◌}
 use native.Mathlib.Omega.{arith}
@@ -11,8 +12,6 @@ use borrow.Author.Tests.{ltb-false, leb-false, eqb-true, not-false}
 use Rattle.lists.specs.Lists.{laid}
 use Rattle.skyline.specs.Skyline.{window_start}
 use Rattle.head.specs.declared.Head.{Head}
-use Rattle.refusals.specs.declared.Answer.{Answer}
-use Rattle.refusals.specs.declared.Answer.TheVariants.{Accepted, Refused}
 use Rattle.refusals.specs.declared.Refusal.{Refusal}
 use Rattle.head.specs.declared.replies.Reply.{Reply}
 use Rattle.head.specs.Heads.{last_position, after_quote}
@@ -146,7 +145,7 @@ module _ {h : Head} {x : List ℕ} {t : Tables} {ws : List ℕ} {room : ℕ} {f 
   uppers_settled_lem e = e ∙ rw retired_is
 
   -- an accepted quote is answered with no number
-  answered : number_of Accepted ≡ quote_answer h x t ws room
+  answered : number_of (Ok tt) ≡ quote_answer h x t ws room
   answered = sym v.accepted
 
   -- what is handed back once so many bytes are written is the quote's reply
@@ -171,7 +170,7 @@ unfolding quote_tables quote_rows
 quote_done {t = t} out v c e o l = record { reply = reply_is v c e; lent = accepted_left (answered v) refl t l; out = out_is out v o }
 
 -- a quote that is refused leaves everything as it was
-pub quote_refused : (h : Head) (x : List ℕ) (t : Tables) (ws out : List ℕ) {a : Answer} {k : Refusal} → number_of a ≡ quote_answer h x t ws (length out) → a ≡ Refused k
+pub quote_refused : (h : Head) (x : List ℕ) (t : Tables) (ws out : List ℕ) {a : Result (Unit {0}) Refusal} {k : Refusal} → number_of a ≡ quote_answer h x t ws (length out) → a ≡ Err k
     → Quoted h x t ws out (record { answer = a; head = h; count = 0 }) t out
 unfolding quote_reply quote_tables quote_out
 quote_refused h x t ws out e f = record { reply = refused_reply e f h _ _; lent = refused_left e f t _; out = refused_left e f out _ }

@@ -4,7 +4,8 @@
 
 ghost use Rattle.std.specs.Prelude.{◌≡◌, true, length, take};
 ghost use Rattle.model.specs.Book.{quote_answer};
-ghost use Rattle.model.specs.Promises.{tables, Quoted};
+ghost use Rattle.lent_tables.specs.Lent.{lent_mut, SameLoan};
+ghost use Rattle.model.specs.Promises.{Quoted};
 ghost use Rattle.call_settling.specs.Findings.{Finds};
 ghost use Rattle.call_quoting.specs.Known.{Known};
 ghost use Rattle.call_quoting.specs.Entered.{QuoteEntered};
@@ -15,7 +16,7 @@ use call_settling::{Finding, find, settle, settle_lower_ends, settle_upper_ends}
 use call_writing::{accept, write};
 use head::{Head, PLACES, Reply};
 pub use judged::judge;
-use refusals::Answer;
+use lent_tables::LentTablesMut;
 
 // What a quote hands back, and how many places later its rows begin where none was moved.
 #[derive(Clone, Copy)]
@@ -30,40 +31,23 @@ pub fn enter(
     found: Finding,
     places: &[u16],
     quote: &[u32],
-    columns: &mut [u32],
-    positions: &mut [u32],
-    lower_ends: &mut [u32],
-    upper_ends: &mut [u32],
+    tables: &mut LentTablesMut<'_>,
     watches: [u64; 8],
     out: &mut [u8],
 ) -> Entered
-    requires out_value { quote_answer head quote.now (tables columns.old positions.old lower_ends.old
-        upper_ends.old) watches (length out.old) ≡ 0 }
-    requires finds { Finds head quote.now columns.old upper_ends.old places.now found }
-    requires known { Known found.reachable head (tables columns.old positions.old lower_ends.old
-        upper_ends.old) watches }
-    ensures { QuoteEntered found.reachable head quote.now
-        (tables columns.old positions.old lower_ends.old upper_ends.old)
-        watches out.old result (tables columns.new positions.new lower_ends.new
-        upper_ends.new) out.new }
+    requires out_value { quote_answer head quote.now (lent_mut tables.old) watches (length out.old) ≡ 0 }
+    requires finds { Finds head quote.now tables.old.columns.now tables.old.upper_ends.now places.now found }
+    requires known { Known found.reachable head (lent_mut tables.old) watches }
+    ensures same_loan { SameLoan tables.old tables.new }
+    ensures entered { QuoteEntered found.reachable head quote.now (lent_mut tables.old) watches out.old result
+        (lent_mut tables.new) out.new }
 {
-    let at = found.at;
-    let count = write(
-        head,
-        found,
-        &places[at..],
-        quote,
-        columns,
-        lower_ends,
-        upper_ends,
-        watches,
-        out,
-    );
-    let d = head.dimensions as usize;
-    settle(head, found, d, quote, columns);
-    settle(head, found, 1, &[head.newest + 1], positions);
-    settle_lower_ends(head, found, lower_ends);
-    settle_upper_ends(head, found, &places[at..], upper_ends);
+    let retired = &places[found.at..];
+    let count = write(head, found, retired, quote, &tables.to_read(), watches, out);
+    settle(head, found, head.dimensions as usize, quote, tables.columns);
+    settle(head, found, 1, &[head.newest + 1], tables.positions);
+    settle_lower_ends(head, found, tables.lower_ends);
+    settle_upper_ends(head, found, retired, tables.upper_ends);
     Entered {
         reply: accept(head, found, count),
         by: found.by,
@@ -75,66 +59,40 @@ pub fn quote_known(
     reachable: bool,
     head: Head,
     quote: &[u32],
-    columns: &mut [u32],
-    positions: &mut [u32],
-    lower_ends: &mut [u32],
-    upper_ends: &mut [u32],
+    tables: &mut LentTablesMut<'_>,
     watches: [u64; 8],
-    lent: usize,
+    records: usize,
     out: &mut [u8],
 ) -> Entered
-    requires { Known reachable head (tables columns.old positions.old lower_ends.old upper_ends.old)
-        (take lent watches) }
-    ensures { QuoteEntered reachable head quote.now
-        (tables columns.old positions.old lower_ends.old upper_ends.old)
-        (take lent watches) out.old result
-        (tables columns.new positions.new lower_ends.new upper_ends.new)
-        out.new }
+    requires { Known reachable head (lent_mut tables.old) (take records watches) }
+    ensures same_loan { SameLoan tables.old tables.new }
+    ensures entered { QuoteEntered reachable head quote.now (lent_mut tables.old) (take records watches) out.old
+        result (lent_mut tables.new) out.new }
 {
-    let room = out.len();
-    let answer = judge(
-        reachable, head, quote, columns, positions, lower_ends, upper_ends, watches, lent, room,
-    );
-    match answer {
-        Answer::Accepted => {}
-        Answer::Refused(_) => {
-            return Entered {
-                reply: Reply {
-                    answer,
-                    head,
-                    count: 0,
-                },
-                by: 0,
-            };
-        }
+    let read = tables.to_read();
+    if let Err(refusal) = judge(reachable, head, quote, &read, watches, records, out.len()) {
+        return Entered {
+            reply: Reply::refused(refusal, head),
+            by: 0,
+        };
     }
     let mut places = [0u16; PLACES];
-    let found = find(reachable, head, quote, columns, upper_ends, &mut places);
-    enter(
-        head, found, &places, quote, columns, positions, lower_ends, upper_ends, watches, out,
-    )
+    let found = find(reachable, head, quote, &read, &mut places);
+    enter(head, found, &places, quote, tables, watches, out)
 }
 
 // Takes a quote on any tables.
 pub fn quote(
     head: Head,
     quote: &[u32],
-    columns: &mut [u32],
-    positions: &mut [u32],
-    lower_ends: &mut [u32],
-    upper_ends: &mut [u32],
+    tables: &mut LentTablesMut<'_>,
     watches: [u64; 8],
-    lent: usize,
+    records: usize,
     out: &mut [u8],
 ) -> Reply
-    ensures { Quoted head quote.now
-        (tables columns.old positions.old lower_ends.old upper_ends.old)
-        (take lent watches) out.old result
-        (tables columns.new positions.new lower_ends.new upper_ends.new)
-        out.new }
+    ensures same_loan { SameLoan tables.old tables.new }
+    ensures quoted { Quoted head quote.now (lent_mut tables.old) (take records watches) out.old result
+        (lent_mut tables.new) out.new }
 {
-    let entered = quote_known(
-        false, head, quote, columns, positions, lower_ends, upper_ends, watches, lent, out,
-    );
-    entered.reply
+    quote_known(false, head, quote, tables, watches, records, out).reply
 }

@@ -1,23 +1,23 @@
 -- What a quote finds among the rows of a book is so by the book model: its lower end, and how many rows are live and held after it.
 use mathlib.Core.Path.{◌≡◌, refl, sym, ap, ◌∙◌}
-use Prim.Native.Nat.{ℕ, zero, suc, ◌+◌, ◌-◌, ◌*◌, ◌≤◌, ◌<◌}
-use native.Mathlib.Nat.{zero-add, le_trans, mul-le-mul_right}
+use Prim.Native.Nat.{ℕ, zero, suc, ◌+◌, ◌-◌, ◌≤◌}
+use native.Mathlib.Nat.{le_trans, mul-le-mul_right}
 use native.Mathlib.Omega.{arith}
 use mathlib.Core.Bool.{Bool, true, false, ◌&&◌, not, cond}
 use mathlib.Core.List.{List, [], ◌∷◌, ◌++◌, map}
 use lib.Dec.{eqb}
 use lib.ListN.{length, get_or, length-append, length-map}
 use borrow.Author.Tests.{ne_eqb}
-use Rattle.lists.specs.Lists.{keep, filter, last_or, run}
-use Rattle.lists.proofs.Filters.{filter_append, filter_map, map_map, map-append}
-use Rattle.lists.proofs.Runs.{length_run, run_append, filter_same, map_same}
+use Rattle.lists.specs.Lists.{filter, last_or, run}
+use Rattle.lists.proofs.Filters.{filter_append, filter_map, map_map}
+use Rattle.lists.proofs.Runs.{length_run, filter_same, map_same}
 use Rattle.skyline.specs.Skyline.{window_start}
 use Rattle.head.specs.declared.Head.{Head}
 use Rattle.model.specs.Rows.{Row, Tables, row_at, rows_in, is_live, live_rows, expiring, over_older, over_younger, retired_by, row_after, lower_end_among, rows_after}
 use Rattle.model.specs.Book.{book_rows}
 use Rattle.table_finding.specs.Found.{Rows, live, live_in, over, under, retires, retired, youngest, Fits}
 use Rattle.call_settling.specs.declared.Finding.{Finding}
-use Rattle.call_settling.specs.Findings.{expired_places, position_of, held_rows, Findable, retired_places, youngest_over, Finds, named_if}
+use Rattle.call_settling.specs.Findings.{expired_places, position_of, held_rows, Findable, Finds, named_if}
 use Rattle.call_settling.proofs.Numbers.{split_counted, live_parts}
 use Rattle.call_settling.proofs.Standing.{Admitted, within, long, whole, held_is, places, position_at_lem, left_is}
 

@@ -2,6 +2,7 @@
 -- expired position.
 use mathlib.Core.Path.{◌≡◌, refl, sym, ap, ◌∙◌}
 use mathlib.Core.Logic.{◌⊎◌, inl, inr}
+use mir.Val.{bool_byte}
 use Prim.Native.Nat.{ℕ, suc, ◌+◌, ◌-◌, ◌≤◌, ◌<◌}
 use native.Mathlib.Nat.{zero-add}
 use native.Mathlib.Omega.{arith}
@@ -18,7 +19,7 @@ use Rattle.head.specs.declared.Head.{Head}
 use Rattle.model.specs.Rows.{expiring}
 use Rattle.table_finding.specs.declared.Found.{Found}
 use Rattle.table_finding.specs.Found as finding
-use Rattle.table_finding.specs.Found.{Rows, live, live_in, over, under, retires, retired, youngest}
+use Rattle.table_finding.specs.Found.{Rows, live, live_in, over, under, retires, retired, youngest, last_number}
 use Rattle.call_settling.specs.declared.Finding.{Finding}
 use Rattle.call_settling.specs.Findings.{expired_places, position_of, held_rows, Findable, Tellable, told, retired_places, Finds, Placed, named_before, named_if}
 
@@ -47,15 +48,14 @@ pub live_none : (uppers : List ℕ) {by : ℕ} → by ≡ 0 → 0 ≡ live_in up
 unfolding live_in filter run
 live_none uppers e = rw e
 
--- one where the expired row is live
-pub live_one : (uppers : List ℕ) {by : ℕ} → by ≤ 1 → (by ≡ 0 → ⊥) → get_or uppers 0 0 ≡ 0 → 1 ≡ live_in uppers 0 by
+-- one or none where a place does, as the row there is live or not
+pub live_first : (uppers : List ℕ) {by : ℕ} → by ≤ 1 → (by ≡ 0 → ⊥) → bool_byte (eqb (get_or uppers 0 0) 0) ≡ live_in uppers 0 by
 unfolding live_in filter run live
-live_one uppers {by} h n e = let z : by ≡ 1 = omega arith in rw (z, eq-eqb (get_or uppers 0 0) 0 e)
-
--- none where it is not
-pub live_lost : (uppers : List ℕ) {by : ℕ} → by ≤ 1 → (by ≡ 0 → ⊥) → (get_or uppers 0 0 ≡ 0 → ⊥) → 0 ≡ live_in uppers 0 by
-unfolding live_in filter run live
-live_lost uppers {by} h n e = let z : by ≡ 1 = omega arith in rw (z, ne_eqb (get_or uppers 0 0) 0 e)
+live_first uppers {by} h n = let z : by ≡ 1 = omega arith in rw z (go (eqb (get_or uppers 0 0) 0))
+  where
+    go : (b : Bool) → bool_byte b ≡ length {A = ℕ} (keep b 0 [])
+    go true = refl
+    go false = refl
 
 -- ---- the rows that are found
 
@@ -93,7 +93,7 @@ module _ {h : Head} {x columns uppers before : List ℕ} (v : Findable h x colum
     count_is : length places - r.at ≡ length (retired_places h x columns uppers)
     count_is = sym (length-drop r.at places) ∙ ap length f.listed ∙ rw e
 
-    pub tellable : Tellable h uppers r.last (length places - r.at)
+    pub tellable : Tellable h uppers (last_number r.last) (length places - r.at)
     tellable =
         let c = counts in
         record {
@@ -109,7 +109,7 @@ module _ {h : Head} {x columns uppers before : List ℕ} (v : Findable h x colum
         }
 
     -- and is what is to be found
-    pub tells : {g : Finding} {reachable : Bool} → g ≡ told h uppers reachable r.at r.last (length places - r.at) → (g.reachable ≡ reachable) × Finds h x columns uppers places g
+    pub tells : {g : Finding} {reachable : Bool} → g ≡ told h uppers reachable r.at (last_number r.last) (length places - r.at) → (g.reachable ≡ reachable) × Finds h x columns uppers places g
     tells {g} t =
         let at : g.at ≡ r.at = ap Finding.at t in
         let same = ap Finding.reachable t in (

@@ -18,7 +18,7 @@ use Rattle.dominance.specs.Renewal.{quote_at}
 use Rattle.dominance.proofs.Laws.{dominates_no_less, dominates_irreflexive, dominates_no_worse, no_worse_dominates}
 use Rattle.dominance.proofs.Renewal.{renewed_later}
 use Rattle.skyline.specs.Skyline.{window_start}
-use Rattle.skyline.specs.Past.{lower_end, upper_end}
+use Rattle.skyline.specs.Past.{upper_end}
 use Rattle.skyline.proofs.Ends.{NoneOrYounger, upper_spec, lower_below, upper_most}
 use Rattle.head.specs.declared.Head.{Head}
 use Rattle.model.specs.Rows.{Row, Tables, row_at, rows_in, filled, expiring, renamed}

@@ -1,11 +1,10 @@
 -- Where the ends of a book that calls left need not be sought: which rows can name a position as their end, and on which lists.
 use mathlib.Core.Path.{◌≡◌}
 use mathlib.Core.Logic.{◌⊎◌}
-use Prim.Native.Nat.{ℕ, ◌-◌, ◌≤◌, ◌<◌}
+use Prim.Native.Nat.{ℕ, ◌≤◌, ◌<◌}
 use mathlib.Core.Bool.{true, false}
 use Rattle.dominance.proofs.Renewal.{renewed_irreflexive, renewed_transitive}
 use Rattle.skyline.specs.Skyline.{window_start}
-use Rattle.skyline.specs.Past.{lower_end, upper_end}
 use Rattle.skyline.proofs.Sought.{lower_before_upper, gained_from_live, upper_behind_lower}
 use Rattle.model.specs.Reference.{Reference, newest, over, row_of}
 

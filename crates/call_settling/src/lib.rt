@@ -5,18 +5,21 @@ ghost use Rattle.std.specs.Prelude.{◌≡◌, ◌+◌, ◌*◌, ◌≤◌, ◌<
 ghost use Rattle.head.specs.Heads.{last_position};
 ghost use Rattle.model.specs.Rows.{expiring};
 ghost use Rattle.table_cells.specs.Marked.{Below};
-ghost use Rattle.table_finding.specs.Found.{live_in, Sound};
+ghost use Rattle.lent_tables.specs.Lent.{lent};
+ghost use Rattle.table_finding.specs.Found.{live_in, last_number, Sound};
 ghost use Rattle.call_settling.specs.Findings.{expired_places, position_of, held_rows, Findable, Tellable, told, Finds, Placed, named_if};
 ghost use Rattle.call_settling.specs.Settled.{rows_settled, lowers_settled, uppers_settled, Ready};
 
 use head::Head;
+use lent_tables::LentTables;
 use table_cells::{enter, put, rename, store_at};
-use table_finding::find_rows;
+use table_finding::{ComparedRows, Found};
 
 // What is found of a quote before anything is written: how many places expire with it, the position that does, how many places may hold a
 // lower end that names it, from where on the places of the retired rows are listed, the quote's lower end, how many rows are live and held
 // after it, and whether the book is known to be a reachable one, in tables with a place to spare: its row is then put behind the others,
-// none of which is moved.
+// none of which is moved. The position and the lower end are as cells of the tables hold them, where 0 stands for none (`told` and the saved
+// tables hold it).
 #[derive(Clone, Copy)]
 pub struct Finding {
     pub by: usize,
@@ -30,35 +33,34 @@ pub struct Finding {
 }
 
 // How many places expire with the next quote: one where all N hold a row.
+#[tactic(auto, unfolding(crate::specs::Findings::expired_places))]
 fn expired_places(head: Head) -> usize
     requires { head.held ≤ head.capacity }
     ensures { result ≡ expired_places head }
 {
-    if head.held < head.capacity { 0 } else { 1 }
+    usize::from(head.held == head.capacity)
 }
 
 // The position that expires with the next quote, or 0.
+#[tactic(auto, unfolding(model::specs::Rows::expiring))]
 fn expired_position(head: Head) -> u32
     requires { head.newest < last_position }
     ensures { result ≡ expiring head.newest head.capacity }
 {
-    let next = head.newest + 1;
-    if next < head.capacity {
-        return 0;
-    }
-    next - head.capacity
+    (head.newest + 1).saturating_sub(head.capacity)
 }
 
-// The position of the row with this number, counted from 1; 0 stands for none.
-fn position_of(head: Head, number: usize) -> u32
+// The position of the row at a place, as a cell of the tables: 0 where there is none.
+#[tactic(auto, unfolding(crate::specs::Findings::position_of))]
+fn position_of(head: Head, place: Option<usize>) -> u32
     requires held_le_newest { head.held ≤ head.newest }
-    requires number_le_held { number ≤ head.held }
-    ensures { result ≡ position_of head number }
+    requires number_le_held { last_number place ≤ head.held }
+    ensures { result ≡ position_of head (last_number place) }
 {
-    if number == 0 {
-        return 0;
+    match place {
+        None => 0,
+        Some(i) => head.newest - head.held + (i as u32 + 1),
     }
-    head.newest - head.held + (number as u32)
 }
 
 // How many of the places that expire hold a live row.
@@ -70,7 +72,7 @@ fn expired_live(by: usize, upper_ends: &[u32]) -> u32
     if by == 0 {
         return 0;
     }
-    if upper_ends[0] == 0 { 1 } else { 0 }
+    u32::from(upper_ends[0] == 0)
 }
 
 // How many places may hold a lower end that names the expired position: all of those held, or fewer in a reachable book.
@@ -93,29 +95,22 @@ fn named_before(reachable: bool, head: Head, upper_ends: &[u32]) -> usize
     (upper - gone) as usize
 }
 
-// What is found, from where the retired rows are listed, the number of the youngest row over the quote, how many are retired, and whether
-// the book is known to be reachable.
-fn tell(
-    reachable: bool,
-    head: Head,
-    upper_ends: &[u32],
-    at: usize,
-    last: usize,
-    retired: usize,
-) -> Finding
-    requires tellable { Tellable head upper_ends.now last retired }
+// What is found, whether the book is known to be reachable, what is found among its rows, and how many of them are retired.
+fn tell(reachable: bool, head: Head, upper_ends: &[u32], found: Found, retired: usize) -> Finding
+    requires tellable { Tellable head upper_ends.now (last_number found.last) retired }
     requires placed { Placed head upper_ends.now }
-    ensures { result ≡ told head upper_ends.now reachable at last retired }
+    ensures { result ≡ told head upper_ends.now reachable found.at (last_number
+        found.last) retired }
 {
     let by = expired_places(head);
     let gone = expired_position(head);
-    let lower = position_of(head, last);
+    let lower = position_of(head, found.last);
     let lost = expired_live(by, upper_ends) + (retired as u32);
     Finding {
         by,
         gone,
         named: named_before(reachable, head, upper_ends),
-        at,
+        at: found.at,
         lower,
         live: head.live - lost + 1,
         held: head.held - (by as u32) + 1,
@@ -129,39 +124,33 @@ pub fn find(
     reachable: bool,
     head: Head,
     quote: &[u32],
-    columns: &[u32],
-    upper_ends: &[u32],
+    tables: &LentTables<'_>,
     places: &mut [u16],
 ) -> Finding
-    requires findable { Findable head quote.now columns.now upper_ends.now places.old }
-    requires placed { Placed head upper_ends.now }
-    requires sound { reachable ≡ true → Sound (held_rows head quote.now columns.now upper_ends.now)
-        (expired_places head) head.held }
+    requires findable { Findable head quote.now (lent tables.now).columns (lent
+        tables.now).upper_ends places.old }
+    requires placed { Placed head (lent tables.now).upper_ends }
+    requires sound { reachable ≡ true → Sound (held_rows head quote.now (lent
+        tables.now).columns (lent tables.now).upper_ends) (expired_places head) head.held }
     ensures reachable_value { result.reachable ≡ reachable }
-    ensures finds { Finds head quote.now columns.now upper_ends.now
-        places.new result }
+    ensures finds { Finds head quote.now (lent tables.now).columns (lent
+        tables.now).upper_ends places.new result }
 {
-    let d = head.dimensions as usize;
-    let held = head.held as usize;
-    let by = expired_places(head);
-    let found = find_rows(
-        reachable,
-        head.directions,
-        d,
-        columns,
-        upper_ends,
+    let rows = ComparedRows {
+        directions: head.directions,
+        d: head.dimensions as usize,
+        columns: tables.columns,
+        uppers: tables.upper_ends,
         quote,
-        head.held / 2 <= head.live,
-        by,
-        held,
-        places,
-    );
+        sound: reachable,
+        dense: head.held / 2 <= head.live,
+    };
+    let found = rows.find_rows(expired_places(head), head.held as usize, places);
     tell(
         reachable,
         head,
-        upper_ends,
-        found.at,
-        found.last,
+        tables.upper_ends,
+        found,
         places.len() - found.at,
     )
 }

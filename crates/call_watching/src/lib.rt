@@ -6,46 +6,33 @@ mod pairing;
 ghost use Rattle.std.specs.Prelude.{◌≡◌, [], ◌∷◌, take};
 ghost use Rattle.refusals.specs.declared.Refusal.TheVariants.{WindowSize};
 ghost use Rattle.refusals.specs.Refusals.{number, number_of};
+ghost use Rattle.lent_tables.specs.Lent.{lent};
 ghost use Rattle.model.specs.Book.{watchful_answer, out_of_range, watch_answer, end_answer};
-ghost use Rattle.model.specs.Promises.{tables, Watched, Ended};
+ghost use Rattle.model.specs.Promises.{Watched, Ended};
 ghost use Rattle.call_watching.specs.Judged.{WatchJudged, EndJudged};
 
-use call_judging::{judge_watchful, out_of_range, short_output, with_test};
+use call_judging::{judge_watchful, out_of_range, refuse_if, short_output};
+use call_looking::window_of;
 use head::{Desk, Head, Reply};
+use lent_tables::LentTables;
 pub use pairing::{pair, unpair};
-use refusals::{Answer, Refusal};
-use table_listing::{Follower, start_of, write_joins};
+use refusals::Refusal;
+use table_listing::Follower;
 use watch_numbers::{WatchReply, find, full, insert, remove};
-
-// What a watch or its end came to before the watches change: its reply, and whether they do.
-#[derive(Clone, Copy)]
-pub struct Judgement {
-    pub reply: Reply,
-    pub accepted: bool,
-}
 
 // The answer of a watch or its end before the watches are searched: 3, 11, 12, 5.
 fn judge_watch_size(
     head: Head,
     n: u32,
-    columns: &[u32],
-    positions: &[u32],
-    lower_ends: &[u32],
-    upper_ends: &[u32],
+    tables: &LentTables<'_>,
     watches: [u64; 8],
-    lent: usize,
-) -> Answer
-    ensures { number_of result ≡ watchful_answer head
-        (tables columns.now positions.now lower_ends.now upper_ends.now)
-        (take lent watches) ((out_of_range head n, number WindowSize) ∷ []) }
+    records: usize,
+) -> Result<(), Refusal>
+    ensures { number_of result ≡ watchful_answer head (lent tables.now) (take records watches)
+        ((out_of_range head n, number WindowSize) ∷ []) }
 {
-    with_test(
-        judge_watchful(
-            head, columns, positions, lower_ends, upper_ends, watches, lent,
-        ),
-        out_of_range(head, n),
-        Refusal::WindowSize,
-    )
+    judge_watchful(head, tables, watches, records)?;
+    refuse_if(out_of_range(head, n), Refusal::WindowSize)
 }
 
 // The answer of the end of a desk's watch of n.
@@ -53,21 +40,14 @@ fn judge_end(
     head: Head,
     desk: Desk,
     n: u32,
-    columns: &[u32],
-    positions: &[u32],
-    lower_ends: &[u32],
-    upper_ends: &[u32],
+    tables: &LentTables<'_>,
     watches: [u64; 8],
-    lent: usize,
-) -> Answer
-    ensures { number_of result ≡ end_answer head desk n
-        (tables columns.now positions.now lower_ends.now upper_ends.now)
-        (take lent watches) }
+    records: usize,
+) -> Result<(), Refusal>
+    ensures { number_of result ≡ end_answer head desk n (lent tables.now) (take records watches) }
 {
-    let answer = judge_watch_size(
-        head, n, columns, positions, lower_ends, upper_ends, watches, lent,
-    );
-    with_test(answer, !find(watches, desk, n), Refusal::NotWatched)
+    judge_watch_size(head, n, tables, watches, records)?;
+    refuse_if(!find(watches, desk, n), Refusal::NotWatched)
 }
 
 // The answer of a desk's watch of n with an output of this length.
@@ -75,107 +55,53 @@ fn judge_watch(
     head: Head,
     desk: Desk,
     n: u32,
-    columns: &[u32],
-    positions: &[u32],
-    lower_ends: &[u32],
-    upper_ends: &[u32],
+    tables: &LentTables<'_>,
     watches: [u64; 8],
-    lent: usize,
+    records: usize,
     room: usize,
-) -> Answer
-    ensures { number_of result ≡ watch_answer head desk n
-        (tables columns.now positions.now lower_ends.now upper_ends.now)
-        (take lent watches) room }
+) -> Result<(), Refusal>
+    ensures { number_of result ≡ watch_answer head desk n (lent tables.now) (take records watches) room }
 {
-    let sized = judge_watch_size(
-        head, n, columns, positions, lower_ends, upper_ends, watches, lent,
-    );
-    let new = with_test(sized, find(watches, desk, n), Refusal::AlreadyWatched);
-    let free = with_test(new, full(desk, watches), Refusal::NoFreeRecord);
-    with_test(free, short_output(room), Refusal::ShortOutput)
+    judge_watch_size(head, n, tables, watches, records)?;
+    refuse_if(find(watches, desk, n), Refusal::AlreadyWatched)?;
+    refuse_if(full(desk, watches), Refusal::NoFreeRecord)?;
+    refuse_if(short_output(room), Refusal::ShortOutput)
 }
 
-// Sets a desk's watch of n but for the watches: writes a join for each position of its list, and says whether n is to be inserted.
+// Sets a desk's watch of n but for the watches: writes a join for each position of its list. Where it is accepted, n is to be inserted.
 pub fn set_watch(
     head: Head,
     desk: Desk,
     n: u32,
-    columns: &[u32],
-    positions: &[u32],
-    lower_ends: &[u32],
-    upper_ends: &[u32],
+    tables: &LentTables<'_>,
     watches: [u64; 8],
-    lent: usize,
+    records: usize,
     out: &mut [u8],
-) -> Judgement
-    ensures { WatchJudged head desk n
-        (tables columns.now positions.now lower_ends.now upper_ends.now)
-        (take lent watches) out.old result out.new }
+) -> Reply
+    ensures { WatchJudged head desk n (lent tables.now) (take records watches) out.old result out.new }
 {
-    let room = out.len();
-    let answer = judge_watch(
-        head, desk, n, columns, positions, lower_ends, upper_ends, watches, lent, room,
-    );
-    match answer {
-        Answer::Accepted => {}
-        Answer::Refused(_) => {
-            return Judgement {
-                reply: Reply {
-                    answer,
-                    head,
-                    count: 0,
-                },
-                accepted: false,
-            };
-        }
+    if let Err(refusal) = judge_watch(head, desk, n, tables, watches, records, out.len()) {
+        return Reply::refused(refusal, head);
     }
-    let first = start_of(head, head.capacity);
-    let a = start_of(head, n);
-    let follower = Follower::Watch(desk, n as u16);
-    let count = write_joins(follower, lower_ends, upper_ends, first, a, head.newest, out);
-    Judgement {
-        reply: Reply {
-            answer,
-            head,
-            count,
-        },
-        accepted: true,
-    }
+    let window = window_of(head, 1, n, tables);
+    let count = window.write_joins(Follower::Watch(desk, n as u16), out);
+    Reply::accepted(head, count)
 }
 
-// Ends a desk's watch of n but for the watches: says whether n is to be removed.
+// Ends a desk's watch of n but for the watches. Where it is accepted, n is to be removed.
 pub fn end_watch(
     head: Head,
     desk: Desk,
     n: u32,
-    columns: &[u32],
-    positions: &[u32],
-    lower_ends: &[u32],
-    upper_ends: &[u32],
+    tables: &LentTables<'_>,
     watches: [u64; 8],
-    lent: usize,
-) -> Judgement
-    ensures { EndJudged head desk n
-        (tables columns.now positions.now lower_ends.now upper_ends.now)
-        (take lent watches) result }
+    records: usize,
+) -> Reply
+    ensures { EndJudged head desk n (lent tables.now) (take records watches) result }
 {
-    let answer = judge_end(
-        head, desk, n, columns, positions, lower_ends, upper_ends, watches, lent,
-    );
-    let reply = Reply {
-        answer,
-        head,
-        count: 0,
-    };
-    match answer {
-        Answer::Accepted => Judgement {
-            reply,
-            accepted: true,
-        },
-        Answer::Refused(_) => Judgement {
-            reply,
-            accepted: false,
-        },
+    match judge_end(head, desk, n, tables, watches, records) {
+        Ok(()) => Reply::accepted(head, 0),
+        Err(refusal) => Reply::refused(refusal, head),
     }
 }
 
@@ -184,53 +110,32 @@ pub fn watch(
     head: Head,
     desk: Desk,
     n: u32,
-    columns: &[u32],
-    positions: &[u32],
-    lower_ends: &[u32],
-    upper_ends: &[u32],
+    tables: &LentTables<'_>,
     watches: [u64; 8],
     out: &mut [u8],
 ) -> WatchReply
-    ensures { Watched head desk n (tables columns.now positions.now
-        lower_ends.now upper_ends.now) watches out.old result.reply result.watches
-        out.new }
+    ensures { Watched head desk n (lent tables.now) watches out.old result.reply result.watches out.new }
 {
-    let judged = set_watch(
-        head, desk, n, columns, positions, lower_ends, upper_ends, watches, 8, out,
-    );
-    let reply = judged.reply;
-    if judged.accepted {
-        return WatchReply {
-            reply,
-            watches: insert(watches, desk, n),
-        };
+    let reply = set_watch(head, desk, n, tables, watches, 8, out);
+    if let Err(_) = reply.answer {
+        return WatchReply { reply, watches };
     }
-    WatchReply { reply, watches }
+    WatchReply {
+        reply,
+        watches: insert(watches, desk, n),
+    }
 }
 
 // Ends a desk's watch of n among eight.
-pub fn end(
-    head: Head,
-    desk: Desk,
-    n: u32,
-    columns: &[u32],
-    positions: &[u32],
-    lower_ends: &[u32],
-    upper_ends: &[u32],
-    watches: [u64; 8],
-) -> WatchReply
-    ensures { Ended head desk n (tables columns.now positions.now
-        lower_ends.now upper_ends.now) watches result.reply result.watches }
+pub fn end(head: Head, desk: Desk, n: u32, tables: &LentTables<'_>, watches: [u64; 8]) -> WatchReply
+    ensures { Ended head desk n (lent tables.now) watches result.reply result.watches }
 {
-    let judged = end_watch(
-        head, desk, n, columns, positions, lower_ends, upper_ends, watches, 8,
-    );
-    let reply = judged.reply;
-    if judged.accepted {
-        return WatchReply {
-            reply,
-            watches: remove(watches, desk, n),
-        };
+    let reply = end_watch(head, desk, n, tables, watches, 8);
+    if let Err(_) = reply.answer {
+        return WatchReply { reply, watches };
     }
-    WatchReply { reply, watches }
+    WatchReply {
+        reply,
+        watches: remove(watches, desk, n),
+    }
 }

@@ -3,8 +3,8 @@ use Rattle.std.specs.Prelude.{◌≡◌, ℕ, ◌≤◌, ◌<◌, Bool, true, fa
 use Rattle.skyline.specs.Skyline.{window_start}
 use Rattle.head.specs.declared.Head.{Head}
 use Rattle.head.specs.declared.replies.Reply.{Reply}
-use Rattle.refusals.specs.declared.Answer.TheVariants.{Accepted}
 use Rattle.head.specs.Heads.{after_quote}
+use Rattle.head.specs.Replies.{accepting}
 use Rattle.model.specs.Book.{torn_watches}
 use Rattle.table_finding.specs.Found.{Rows}
 use Rattle.table_changes.specs.Held.{LiveNamed}
@@ -31,4 +31,4 @@ pub record SoundIf (sound : Bool) (h : Head) (lowers : List ℕ) (rows : Rows) :
 
 -- what an accepted quote hands back: so many rows are live and held after it, and so many bytes are written
 abbrev pub accepted_reply : Head → ℕ → ℕ → ℕ → Reply
-accepted_reply h live held count = record { answer = Accepted; head = after_quote h live held; count = count }
+accepted_reply h live held count = accepting (after_quote h live held) count

@@ -8,8 +8,9 @@ ghost use Rattle.call_writing.specs.Bytes.{change_bytes, SoundIf, Writable, acce
 
 use call_settling::Finding;
 use head::{Head, Reply};
-use refusals::Answer;
-use table_changes::write_all_changes;
+use lent_tables::LentTables;
+use table_changes::{Before, write_all_changes};
+use table_listing::start_of;
 use table_pair_changes::write_pair_changes;
 
 // Writes the changes of every watch, and behind them those of the pair; retired has the places of the rows that the quote retires.
@@ -19,36 +20,32 @@ pub fn write(
     found: Finding,
     retired: &[u16],
     quote: &[u32],
-    columns: &[u32],
-    lower_ends: &[u32],
-    upper_ends: &[u32],
+    tables: &LentTables<'_>,
     watches: [u64; 8],
     out: &mut [u8],
 ) -> usize
-    requires writable { Writable head found.lower retired.now lower_ends.now
-        (held_rows head quote.now columns.now upper_ends.now) watches (length out.old) }
-    requires sound_if { SoundIf found.reachable head lower_ends.now
-        (held_rows head quote.now columns.now upper_ends.now) }
-    ensures value { result ≡ length (change_bytes head found.lower lower_ends.now
-        (held_rows head quote.now columns.now upper_ends.now) watches) }
-    ensures out_after { out.new ≡ laid (change_bytes head found.lower lower_ends.now
-        (held_rows head quote.now columns.now upper_ends.now) watches)
+    requires writable { Writable head found.lower retired.now tables.now.lower_ends.now
+        (held_rows head quote.now tables.now.columns.now tables.now.upper_ends.now) watches (length out.old) }
+    requires sound_if { SoundIf found.reachable head tables.now.lower_ends.now
+        (held_rows head quote.now tables.now.columns.now tables.now.upper_ends.now) }
+    ensures value { result ≡ length (change_bytes head found.lower tables.now.lower_ends.now
+        (held_rows head quote.now tables.now.columns.now tables.now.upper_ends.now) watches) }
+    ensures out_after { out.new ≡ laid (change_bytes head found.lower tables.now.lower_ends.now
+        (held_rows head quote.now tables.now.columns.now tables.now.upper_ends.now) watches)
         out.old }
 {
-    let sound = found.reachable;
-    let watched = write_all_changes(
-        watches,
+    let first = start_of(head, head.capacity);
+    let before = Before {
         head,
-        retired,
-        columns,
-        lower_ends,
-        upper_ends,
+        tables: *tables,
+        first,
         quote,
-        found.lower,
-        sound,
-        out,
-    );
-    let paired = write_pair_changes(head, lower_ends, upper_ends, sound, &mut out[watched..]);
+        retired,
+        lower: found.lower,
+        sound: found.reachable,
+    };
+    let watched = write_all_changes(&before, watches, out);
+    let paired = write_pair_changes(head, tables, found.reachable, &mut out[watched..]);
     watched + paired
 }
 
@@ -56,9 +53,6 @@ pub fn write(
 pub fn accept(head: Head, found: Finding, count: usize) -> Reply
     ensures { result ≡ accepted_reply head found.live found.held count }
 {
-    Reply {
-        answer: Answer::Accepted,
-        head: head.after_quote(found.live, found.held),
-        count,
-    }
+    let after = head.after_quote(found.live, found.held);
+    Reply::accepted(after, count)
 }

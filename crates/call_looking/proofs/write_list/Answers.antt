@@ -4,20 +4,13 @@ use borrow.Author.Tests.{ltb-true, ltb-false}
 use Rattle.call_looking.proofs.Listing.{shown_none, shown_all}
 use Rattle.call_looking.proofs.write_list.Goals as goal
 
-pub short_list-requires : goal.short_list-requires
-short_list-requires c = rw c.start_of-first.ensures c.requires.window
-
 pub returns-then-short_list : goal.returns-then-short_list
-returns-then-short_list c = rw (← c.start_of-first.ensures) (shown_none _ _ _ _ (ltb-true _ _ (sym c.short_list.ensures ∙ c.if-short_list.true)))
+returns-then-short_list c = rw c.refused.ensures (shown_none _ _ _ _ (ltb-true _ _ (sym c.short_list.ensures ∙ c.if-short_list.true)))
 
 pub write_listed-written-requires : goal.write_listed-written-requires
-write_listed-written-requires c =
-    record {
-      window = rw c.start_of-first.ensures c.requires.window;
-      upper_ends_in_bounds = ltb-false _ _ (sym c.short_list.ensures ∙ c.if-short_list.false);
-    }
+write_listed-written-requires c = ltb-false _ _ (sym c.short_list.ensures ∙ c.if-short_list.false)
 
 pub returns : goal.returns
 returns c =
-    rw (← c.start_of-first.ensures)
+    rw c.accepted.ensures
     (shown_all _ _ _ (ltb-false _ _ (sym c.short_list.ensures ∙ c.if-short_list.false)) c.write_listed-written.ensures.value c.write_listed-written.ensures.out_after)

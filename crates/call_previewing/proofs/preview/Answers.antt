@@ -1,8 +1,10 @@
 -- `preview` meets its contract: it is judged as the quote is, and its changes are those of the quote.
-use mathlib.Core.Path.{refl}
+use mathlib.Core.Path.{◌≡◌, refl, sym, ap, ◌∙◌}
 use native.Mathlib.Omega.{arith}
 use mathlib.Core.Bool.{false}
+use Rattle.std.specs.Prelude.{Err}
 use Rattle.lists.proofs.Booleans.{clash}
+use Rattle.refusals.specs.Refusals.{number_of}
 use Rattle.refusals.proofs.Numbers.{accepted_number}
 use Rattle.call_settling.proofs.Findings.{findable}
 use Rattle.call_settling.proofs.Settled.{placed}
@@ -11,15 +13,17 @@ use Rattle.call_quoting.proofs.Reaching.{unknown_sound}
 use Rattle.call_previewing.proofs.Previews.{tells_quote, writable_in}
 use Rattle.call_previewing.proofs.preview.Goals as goal
 
-pub judge-answer-requires : goal.judge-answer-requires
-judge-answer-requires c = λ e. absurd (clash false e refl)
+pub judge-requires : goal.judge-requires
+judge-requires c = λ e. absurd (clash false e refl)
 
-pub returns-in-Refused : goal.returns-in-Refused
-returns-in-Refused c = let q = quote_refused _ _ _ _ _ c.judge-answer.ensures c.in-Refused.is in tells_quote _ _ _ _ _ c.effect_of.ensures q.reply q.out
+pub returns-in-Err : goal.returns-in-Err
+returns-in-Err c =
+    let q = quote_refused _ _ _ _ _ {a = Err c.in-Err.refusal} (ap number_of (sym c.in-Err.is) ∙ c.judge.ensures) refl in
+    tells_quote _ _ _ _ _ (rw c.refused.ensures at c.effect_of.ensures) q.reply q.out
 
 pub find-found-requires : goal.find-found-requires
 find-found-requires c =
-    let a = (taken _ _ _ _ _ (accepted_number _ c.judge-answer.ensures c.in-Accepted.is)).admitted in
+    let a = (taken _ _ _ _ _ (accepted_number _ c.judge.ensures c.in_default.is)).admitted in
     record {
       findable = findable a (omega (arith, bounded_held a));
       placed = placed a;
@@ -28,8 +32,8 @@ find-found-requires c =
 
 pub write-count-requires : goal.write-count-requires
 write-count-requires c =
-    let accepted = accepted_number _ c.judge-answer.ensures c.in-Accepted.is in
-    let all = quote_lent _ _ _ c.args.watches c.args.lent _ (omega (arith, c.well_formed)) accepted in
+    let accepted = accepted_number _ c.judge.ensures c.in_default.is in
+    let all = quote_lent _ _ _ c.args.watches c.args.records _ (omega (arith, c.well_formed)) accepted in
     let v : Entering _ _ _ _ _ _ _ = record { accepted = rw all at accepted; eight = omega (arith, c.well_formed); finds = c.find-found.ensures.finds } in
     record {
       writable = writable_in v (omega (arith, c.find-found.auto));
@@ -38,7 +42,7 @@ write-count-requires c =
 
 pub returns : goal.returns
 returns c =
-    let accepted = accepted_number _ c.judge-answer.ensures c.in-Accepted.is in
-    let all = quote_lent _ _ _ c.args.watches c.args.lent _ (omega (arith, c.well_formed)) accepted in
+    let accepted = accepted_number _ c.judge.ensures c.in_default.is in
+    let all = quote_lent _ _ _ c.args.watches c.args.records _ (omega (arith, c.well_formed)) accepted in
     let v : Entering _ _ _ _ _ _ _ = record { accepted = rw all at accepted; eight = omega (arith, c.well_formed); finds = c.find-found.ensures.finds } in
     rw all (tells_quote _ _ _ _ _ c.effect_of-2.ensures (reply_is v c.write-count.ensures.value c.accept.ensures) (out_is _ v c.write-count.ensures.out_after))

@@ -3,9 +3,13 @@ use mathlib.Core.Path.{refl}
 use Rattle.call_quoting.proofs.Reaching.{unknown}
 use Rattle.call_quote_looking.proofs.both.Goals as goal
 
-pub both_known-entered-requires : goal.both_known-entered-requires
-both_known-entered-requires c = unknown refl
+pub both_known-requires : goal.both_known-requires
+both_known-requires c = unknown refl
 
 pub returns : goal.returns
 returns c =
-    record { reply = c.both_known-entered.ensures.made.reply; listed = c.both_known-entered.ensures.made.listed; lent = c.both_known-entered.ensures.moved refl; out = c.both_known-entered.ensures.made.out; positions = c.both_known-entered.ensures.made.positions }
+    let both = c.both_known.ensures.both_made in
+    record {
+      same_loan = c.both_known.ensures.same_loan;
+      quoted_looked = record { reply = both.made.reply; listed = both.made.listed; lent = both.moved refl; out = both.made.out; positions = both.made.positions };
+    }

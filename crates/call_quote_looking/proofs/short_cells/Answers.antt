@@ -15,8 +15,8 @@ returns-then-n-space c = wide_enough _ c.if-n-space.true
 pub start_of-first-requires : goal.start_of-first-requires
 start_of-first-requires c = omega (arith, c.requires.countable.below)
 
-pub count_listed-stabbed-requires : goal.count_listed-stabbed-requires
-count_listed-stabbed-requires c = rw c.start_of-first.ensures c.requires.countable.window
+pub invariant_of-window : goal.invariant_of-window
+invariant_of-window c = record { within = rw c.start_of-first.ensures c.requires.countable.window }
 
 pub count_stabbed-lost-requires : goal.count_stabbed-lost-requires
 unfolding window_start

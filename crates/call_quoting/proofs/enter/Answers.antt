@@ -2,7 +2,9 @@
 use mathlib.Core.Path.{refl}
 use native.Mathlib.Omega.{arith}
 use lib.ListN.{length}
-use Rattle.model.specs.Promises.{tables}
+use Rattle.lent_tables.specs.Lent.{lent_mut}
+use Rattle.lent_tables.proofs.Parts.{parts}
+use Rattle.model.specs.Rows.{Tables}
 use Rattle.call_settling.proofs.Standing.{within}
 use Rattle.call_quoting.proofs.Quotes.{Entering, book, writable, retired_low}
 use Rattle.call_quoting.proofs.Reaching.{known_sound}
@@ -12,14 +14,16 @@ use Rattle.call_quoting.proofs.enter.Goals.{Start}
 
 -- what is known where the call begins
 entering : (s : Start)
-    → Entering s.args.head s.args.quote.now (tables s.args.columns.now s.args.positions.now s.args.lower_ends.now s.args.upper_ends.now) s.args.watches (length s.args.out.now) s.args.found s.args.places.now
+    → Entering s.args.head s.args.quote.now (lent_mut s.args.tables.now) s.args.watches (length s.args.out.now) s.args.found s.args.places.now
 entering s = record { accepted = s.requires.out_value; eight = omega (arith, s.well_formed); finds = s.requires.finds }
 
 pub write-count-requires : goal.write-count-requires
 write-count-requires c =
+    let p = parts c.to_read.result c.args.tables.now c.to_read.ensures in
     record {
-      writable = writable (entering (goal.at.write-count-requires c).Start);
-      sound_if = known_sound _ _ c.requires.known (within (book (entering (goal.at.write-count-requires c).Start))).some_capacity;
+      writable = rw (p.columns, p.lower_ends, p.upper_ends) (writable (entering (goal.at.write-count-requires c).Start));
+      sound_if =
+          rw (p.columns, p.lower_ends, p.upper_ends) (known_sound _ _ c.requires.known (within (book (entering (goal.at.write-count-requires c).Start))).some_capacity);
     }
 
 pub settle-requires : goal.settle-requires
@@ -46,15 +50,6 @@ settle_lower_ends-requires c =
       named_le_held = named_held (entering (goal.at.settle_lower_ends-requires c).Start) c.requires.known;
     }
 
-pub offset_bounds-places-at-2 : goal.offset_bounds-places-at-2
-offset_bounds-places-at-2 c = omega (arith, c.well_formed, c.requires.finds.most)
-
-pub slice_bounds-settle_upper_ends-count : goal.slice_bounds-settle_upper_ends-count
-slice_bounds-settle_upper_ends-count c = omega (arith, c.requires.finds.most)
-
-pub slice_bounds-settle_upper_ends-start : goal.slice_bounds-settle_upper_ends-start
-slice_bounds-settle_upper_ends-start c = omega (arith, c.requires.finds.most)
-
 pub settle_upper_ends-requires : goal.settle_upper_ends-requires
 settle_upper_ends-requires c =
     record {
@@ -68,4 +63,10 @@ shape_of-out c = omega (arith, c.write-count.auto)
 
 pub returns : goal.returns
 returns c =
-    entered _ (entering (goal.at.returns c).Start) c.requires.known c.write-count.ensures.value c.accept.ensures c.write-count.ensures.out_after c.settle.ensures c.settle-2.ensures c.settle_lower_ends.ensures c.settle_upper_ends.ensures
+    let p = parts c.to_read.result c.args.tables.now c.to_read.ensures in
+    record {
+      same_loan = (refl, refl, refl, refl, c.settle.auto.cells, c.settle-2.auto.cells, c.settle_lower_ends.auto.lower_ends, c.settle_upper_ends.auto.upper_ends);
+      entered =
+          entered _ (entering (goal.at.returns c).Start) c.requires.known (rw (p.columns, p.lower_ends, p.upper_ends) at c.write-count.ensures.value) c.accept.ensures
+          (rw (p.columns, p.lower_ends, p.upper_ends) at c.write-count.ensures.out_after) c.settle.ensures c.settle-2.ensures c.settle_lower_ends.ensures c.settle_upper_ends.ensures;
+    }

@@ -2,8 +2,8 @@
 use Rattle.call_watching.proofs.Watches.{end_refused, end_accepted}
 use Rattle.call_watching.proofs.end_watch.Goals as goal
 
-pub returns-in-Accepted : goal.returns-in-Accepted
-returns-in-Accepted c = end_accepted _ _ _ _ _ c.judge_end-answer.ensures c.in-Accepted.is
+pub returns-in-Ok : goal.returns-in-Ok
+returns-in-Ok c = end_accepted _ _ _ _ _ c.judge_end.ensures c.in-Ok.is c.accepted.ensures
 
-pub returns-in-Refused : goal.returns-in-Refused
-returns-in-Refused c = end_refused _ _ _ _ _ c.judge_end-answer.ensures c.in-Refused.is
+pub returns-in-Err : goal.returns-in-Err
+returns-in-Err c = end_refused _ _ _ _ _ c.judge_end.ensures c.in-Err.is c.refused.ensures

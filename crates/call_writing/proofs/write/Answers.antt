@@ -7,16 +7,17 @@ use Rattle.lists.proofs.Laying.{Front, front_one, front_room, front_rest, front_
 use Rattle.call_settling.specs.Findings.{held_rows}
 use Rattle.table_changes.specs.Watches.{all_frames}
 use Rattle.table_pair_changes.specs.Pairs.{pair_frames}
+use Rattle.table_changes.proofs.Known.{outdone_listed}
 use Rattle.call_writing.specs.Bytes.{change_bytes}
 use Rattle.call_writing.proofs.write.Goals as goal
 use Rattle.call_writing.proofs.write.Goals.{After-write_all_changes-watched, Start}
 
 -- the changes of the watches, and those of the pair
 abbrev W : Start → List ℕ
-W c = all_frames c.args.head c.args.lower_ends.now (held_rows c.args.head c.args.quote.now c.args.columns.now c.args.upper_ends.now) c.args.found.lower c.args.watches
+W c = all_frames c.args.head c.args.tables.now.lower_ends.now (held_rows c.args.head c.args.quote.now c.args.tables.now.columns.now c.args.tables.now.upper_ends.now) c.args.found.lower c.args.watches
 
 abbrev P : Start → List ℕ
-P c = pair_frames c.args.head c.args.lower_ends.now c.args.upper_ends.now
+P c = pair_frames c.args.head c.args.tables.now.lower_ends.now c.args.tables.now.upper_ends.now
 
 room : (c : Start) → length (W c ++ P c) ≤ length c.args.out.now
 unfolding change_bytes
@@ -37,16 +38,22 @@ front c = front_one (W (goal.at.After-write_all_changes-watched c).Start) c.args
 paired-room : (c : After-write_all_changes-watched) → c.write_all_changes-watched.result + length (P (goal.at.After-write_all_changes-watched c).Start) ≤ length (out1 c)
 paired-room c = front_room (front c) (P (goal.at.After-write_all_changes-watched c).Start) (room (goal.at.After-write_all_changes-watched c).Start)
 
+pub start_of-first-requires : goal.start_of-first-requires
+start_of-first-requires c = omega (arith, c.requires.writable.full.space)
+
+pub invariant_of-before : goal.invariant_of-before
+invariant_of-before c =
+    record {
+      bounded = c.requires.writable.bounded;
+      first_value = c.start_of-first.ensures;
+      full = c.requires.writable.full;
+      listed = outdone_listed c.requires.writable.outdone;
+      named = c.requires.sound_if.named;
+    }
+
 pub write_all_changes-watched-requires : goal.write_all_changes-watched-requires
 write_all_changes-watched-requires c =
-    record {
-      capacity_bound = c.requires.writable.bounded;
-      watches_value = c.requires.writable.untorn;
-      full = c.requires.writable.full;
-      outdone = c.requires.writable.outdone;
-      live_named = c.requires.sound_if.named;
-      watches_in_bounds = watched-room (goal.at.write_all_changes-watched-requires c).Start;
-    }
+    record { watches_value = c.requires.writable.untorn; watches_in_bounds = watched-room (goal.at.write_all_changes-watched-requires c).Start }
 
 pub slice_bounds-write_pair_changes-count : goal.slice_bounds-write_pair_changes-count
 slice_bounds-write_pair_changes-count c = omega (arith, paired-room (goal.at.slice_bounds-write_pair_changes-count c).After-write_all_changes-watched)

@@ -3,15 +3,15 @@ use native.Mathlib.Omega.{arith}
 use Rattle.call_looking.proofs.DueLooks.{due_passed, due_window, due_refused, due_none, due_done}
 use Rattle.call_looking.proofs.due_rows.due.Goals as goal
 
-pub returns-in-Refused : goal.returns-in-Refused
-returns-in-Refused c = due_refused _ _ _ c.judge-answer.ensures c.in-Refused.is
+pub returns-in-Err : goal.returns-in-Err
+returns-in-Err c = due_refused _ _ _ c.judge.ensures c.in-Err.is c.refused.ensures
 
 pub returns-then-head-eq0 : goal.returns-then-head-eq0
-returns-then-head-eq0 c = due_none _ _ _ c.judge-answer.ensures c.in-Accepted.is c.if-head-eq0.true
+returns-then-head-eq0 c = due_none _ _ _ c.judge.ensures c.in_default.is c.if-head-eq0.true c.accepted.ensures
 
 pub write_rows-requires : goal.write_rows-requires
 write_rows-requires c =
-    let s = due_passed _ _ c.judge-answer.ensures c.in-Accepted.is c.if-head-eq0.false in
+    let s = due_passed _ _ c.judge.ensures c.in_default.is c.if-head-eq0.false in
     record {
       newest_le_last_position = s.passed.whole.low_newest;
       le_n1 = omega (arith, s.pair);
@@ -21,4 +21,4 @@ write_rows-requires c =
 
 pub returns : goal.returns
 returns c =
-    due_done _ _ _ c.judge-answer.ensures c.in-Accepted.is (due_passed _ _ c.judge-answer.ensures c.in-Accepted.is c.if-head-eq0.false) c.write_rows.ensures
+    due_done _ _ _ c.judge.ensures c.in_default.is (due_passed _ _ c.judge.ensures c.in_default.is c.if-head-eq0.false) c.write_rows.ensures
