@@ -2,12 +2,14 @@
 #![tactic(auto)]
 
 ghost use Rattle.watch_records.specs.Records.{watched};
-ghost use Rattle.model.specs.Promises.{tables, Opened};
+ghost use Rattle.lent_tables.specs.Lent.{lent_mut, SameLoan};
+ghost use Rattle.model.specs.Promises.{Opened};
 
 pub use book_changed_records::{end, watch};
 pub use book_shared_records::{both, pair, preview, quote, unpair};
 pub use call_looking::{due, look, past};
 use head::{Reply, Watch};
+use lent_tables::LentTablesMut;
 pub use watch_records::find_record;
 use watch_records::{numbers, store};
 
@@ -16,23 +18,19 @@ pub fn open(
     dimensions: u32,
     capacity: u32,
     directions: u32,
-    columns: &mut [u32],
-    positions: &mut [u32],
-    lower_ends: &mut [u32],
-    upper_ends: &mut [u32],
+    tables: &mut LentTablesMut<'_>,
     watches: &mut [Watch],
 ) -> Reply
-    ensures { Opened dimensions capacity directions
-        (tables columns.old positions.old lower_ends.old upper_ends.old)
+    ensures same_loan { SameLoan tables.old tables.new }
+    ensures made { Opened dimensions capacity directions
+        (lent_mut tables.old)
         (watched watches.old) result
-        (tables columns.new positions.new lower_ends.new upper_ends.new)
+        (lent_mut tables.new)
         (watched watches.new) }
 {
-    let before = numbers(&*watches);
-    let lent = watches.len();
-    let made = call_opening::open(
-        dimensions, capacity, directions, columns, positions, lower_ends, upper_ends, before, lent,
-    );
-    store(&mut *watches, made.watches);
+    let before = numbers(watches);
+    let records = watches.len();
+    let made = call_opening::open(dimensions, capacity, directions, tables, before, records);
+    store(watches, made.watches);
     made.reply
 }

@@ -9,7 +9,6 @@ use mathlib.Core.List.{List, []}
 use lib.Dec.{eqb}
 use lib.ListN.{get_or}
 use Rattle.lists.specs.Lists.{any, run}
-use Rattle.lists.proofs.Booleans.{or_assoc}
 use Rattle.lists.proofs.Filters.{any_append}
 use Rattle.lists.proofs.Runs.{run_snoc}
 use Rattle.model.specs.Rows.{row_at, over_older, over_younger}

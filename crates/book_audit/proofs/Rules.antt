@@ -1,11 +1,11 @@
 -- The rules of the audit by what the parts found.
-use mathlib.Core.Path.{◌≡◌, refl, sym, ap, ◌∙◌}
+use mathlib.Core.Path.{◌≡◌, sym, ap, ◌∙◌}
 use Prim.Native.Nat.{ℕ, suc, ◌+◌, ◌-◌, ◌*◌, ◌≤◌, ◌<◌}
 use native.Mathlib.Nat.{mul-le-mul_right, zero-add}
 use native.Mathlib.Omega.{arith}
-use mathlib.Core.Bool.{Bool, true, false, ◌&&◌, ◌||◌, not}
-use mathlib.Core.List.{List, [], map}
-use lib.Dec.{ltb, eqb}
+use mathlib.Core.Bool.{Bool, true, false, ◌&&◌, not}
+use mathlib.Core.List.{List, map}
+use lib.Dec.{ltb}
 use lib.ListN.{length, get_or, length-map}
 use borrow.Author.Tests.{lt-ltb, le-ltb}
 use Rattle.lists.specs.Lists.{filter, any, head_or, last_or, run, between}
@@ -19,7 +19,6 @@ use Rattle.model_audit.specs.Audit.{right_lower, right_upper, wrong_end, zero_fr
 use Rattle.model.specs.Promises.{tables}
 use Rattle.model.proofs.Torn.{Whole, untorn_whole, window_bounded}
 use Rattle.table_cells.proofs.Reading.{length_rows}
-use Rattle.table_cells.proofs.Torn.{torn_columns}
 use Rattle.book_audit.specs.Ends.{position_at, over_younger_at, over_older_at, lower_found, upper_found, wrong_at}
 
 -- ---- rows whose positions rise by one from place to place
@@ -70,17 +69,17 @@ wrong_by_place d directions S n t risen =
 
 -- ---- rows that are not torn
 
-module _ (h : Head) (ps ls us : List ℕ) (some : 1 ≤ h.capacity) (untorn : torn_rows h (book_rows h (tables [] ps ls us)) ≡ false) where
-  whole : Whole h (book_rows h (tables [] ps ls us))
+module _ (h : Head) (cs ps ls us : List ℕ) (some : 1 ≤ h.capacity) (untorn : torn_rows h (book_rows h (tables cs ps ls us)) ≡ false) where
+  whole : Whole h (book_rows h (tables cs ps ls us))
   unfolding book_rows
-  whole = untorn_whole h (book_rows h (tables [] ps ls us)) (sym (length_rows h.dimensions h.held (tables [] ps ls us))) some untorn
+  whole = untorn_whole h (book_rows h (tables cs ps ls us)) (sym (length_rows h.dimensions h.held (tables cs ps ls us))) some untorn
 
   -- as many rows are held as the window has positions
   held_window : h.held ≡ length (between (window_start h.newest h.capacity) h.newest)
   unfolding book_rows
   held_window =
-      sym (length_rows h.dimensions h.held (tables [] ps ls us))
-      ∙ sym (length-map (book_rows h (tables [] ps ls us)) Row.position) ∙ ap length whole.window
+      sym (length_rows h.dimensions h.held (tables cs ps ls us))
+      ∙ sym (length-map (book_rows h (tables cs ps ls us)) Row.position) ∙ ap length whole.window
 
   -- the rows are no more than the capacity
   pub held_fits : h.held ≤ h.capacity
@@ -98,26 +97,25 @@ module _ (h : Head) (ps ls us : List ℕ) (some : 1 ≤ h.capacity) (untorn : to
       let m : h.held ≡ suc h.newest - S = held_window ∙ length_run S (suc h.newest - S) in
       ap (λ (j : ℕ). get_or ps j 0) (sym (zero-add k)) ∙ sym (get_or_run (λ j. get_or ps j 0) 0 0 h.held k l)
       ∙ ap (λ (p : List ℕ). get_or p k 0)
-      (sym (map_map Row.position (row_at h.dimensions (tables [] ps ls us)) (run 0 h.held)) ∙ whole.window ∙ sym (map-id (run S (suc h.newest - S))))
+      (sym (map_map Row.position (row_at h.dimensions (tables cs ps ls us)) (run 0 h.held)) ∙ whole.window ∙ sym (map-id (run S (suc h.newest - S))))
       ∙ get_or_run (λ j. j) 0 S (suc h.newest - S) k (omega arith)
 
   -- the rows held are judged by their places
-  wrong_held : (cs : List ℕ) → any (wrong_end h.dimensions h.directions (rows_in h.dimensions h.held (tables cs ps ls us))) (rows_in h.dimensions h.held (tables cs ps ls us))
+  wrong_held : any (wrong_end h.dimensions h.directions (rows_in h.dimensions h.held (tables cs ps ls us))) (rows_in h.dimensions h.held (tables cs ps ls us))
       ≡ any (wrong_at h.dimensions h.directions (tables cs ps ls us) h.held) (run 0 h.held)
   unfolding row_at
-  wrong_held cs = wrong_by_place h.dimensions h.directions (window_start h.newest h.capacity) h.held (tables cs ps ls us) risen
+  wrong_held = wrong_by_place h.dimensions h.directions (window_start h.newest h.capacity) h.held (tables cs ps ls us) risen
 
   -- on rows that are not torn the parts decide
-  pub by_parts : (cs : List ℕ) (right : Bool) → right ≡ not (any (wrong_at h.dimensions h.directions (tables cs ps ls us) h.held) (run 0 h.held))
+  pub by_parts : (right : Bool) → right ≡ not (any (wrong_at h.dimensions h.directions (tables cs ps ls us) h.held) (run 0 h.held))
       → (z1 z2 z3 z4 : Bool) → z1 ≡ zero_from (h.held * h.dimensions) (h.capacity * h.dimensions) cs → z2 ≡ zero_from h.held h.capacity ps
       → z3 ≡ zero_from h.held h.capacity ls → z4 ≡ zero_from h.held h.capacity us
       → right && (z1 && z2 && z3 && z4) ≡ passes h (tables cs ps ls us)
   unfolding passes book_rows
-  by_parts cs right er z1 z2 z3 z4 e1 e2 e3 e4 =
-      let untorn' : torn_rows h (book_rows h (tables cs ps ls us)) ≡ false = torn_columns h cs [] ps ls us ∙ untorn in
-      rw (untorn', wrong_held cs, er, e1, e2, e3, e4)
+  by_parts right er z1 z2 z3 z4 e1 e2 e3 e4 =
+      rw (untorn, wrong_held, er, e1, e2, e3, e4)
 
 -- torn rows fail
-pub torn_fails : (h : Head) (cs ps ls us : List ℕ) → torn_rows h (book_rows h (tables [] ps ls us)) ≡ true → passes h (tables cs ps ls us) ≡ false
+pub torn_fails : (h : Head) (cs ps ls us : List ℕ) → torn_rows h (book_rows h (tables cs ps ls us)) ≡ true → passes h (tables cs ps ls us) ≡ false
 unfolding passes
-torn_fails h cs ps ls us e = rw (torn_columns h cs [] ps ls us, e)
+torn_fails h cs ps ls us e = rw e

@@ -5,9 +5,9 @@ use native.Mathlib.Nat.{zero-add, le_refl}
 use native.Mathlib.Numerals.{add-one}
 use native.Mathlib.Omega.{arith}
 use mathlib.Core.Bool.{Bool, true, false, ◌&&◌, not}
-use mathlib.Core.List.{List, [], ◌∷◌, ◌++◌, map, append-nil}
+use mathlib.Core.List.{List, [], map, append-nil}
 use lib.ListN.{length, get_or, take, drop}
-use Rattle.lists.specs.Lists.{keep, filter, head_or, last_or, run}
+use Rattle.lists.specs.Lists.{filter, head_or, last_or, run}
 use Rattle.lists.proofs.Filters.{filter_append, map-append, last_snoc}
 use Rattle.lists.proofs.Runs.{run_snoc}
 use Rattle.dominance.specs.declared.Comparison.{Comparison}

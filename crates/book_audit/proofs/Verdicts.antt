@@ -1,10 +1,11 @@
 -- What the audit finds in each of its cases.
-use mathlib.Core.Path.{◌≡◌}
+use mathlib.Core.Path.{◌≡◌, refl, sym, ◌∙◌}
+use Rattle.std.specs.Prelude.{Ok}
 use mathlib.Core.Bool.{Bool, true, false}
 use Rattle.head.specs.declared.Head.{Head}
 use Rattle.refusals.specs.declared.Refusal.TheVariants.{Settings, ShortLoan}
 use Rattle.refusals.specs.Refusals.{number, first_of}
-use Rattle.head.specs.Replies.{refused}
+use Rattle.head.specs.Replies.{refused, finding}
 use Rattle.head.specs.Heads.{settings_hold}
 use Rattle.model.specs.Rows.{Tables}
 use Rattle.model.specs.Book.{short_tables}
@@ -27,3 +28,13 @@ module _ (h : Head) (t : Tables) where
       → (b : Bool) → passes h t ≡ b → audit_finding h t ≡ finding_of 0 b
   unfolding audit_finding first_of
   by_rules e f b g = rw (e, f, g)
+
+  -- what a verdict of yes or no says
+  pub by_verdict : settings_hold h.dimensions h.capacity h.directions ≡ true → short_tables t h.dimensions h.capacity ≡ false
+      → {b : Bool} → b ≡ passes h t → finding (Ok b) ≡ audit_finding h t
+  unfolding finding_of
+  by_verdict e f {b} g = sym (by_rules e f b (sym g) ∙ said b)
+    where
+      said : (b : Bool) → finding_of 0 b ≡ finding (Ok b)
+      said true = refl
+      said false = refl

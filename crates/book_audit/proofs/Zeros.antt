@@ -1,31 +1,24 @@
--- A turn of the loop that seeks a cell other than 0.
-use mathlib.Core.Path.{◌≡◌, refl, ◌∙◌}
-use Prim.Native.Nat.{ℕ, suc, ◌+◌, ◌-◌, ◌≤◌, ◌<◌}
-use native.Mathlib.Numerals.{add-one}
-use native.Mathlib.Omega.{arith}
-use mathlib.Core.Bool.{Bool, false, ◌||◌, not, or-false}
-use mathlib.Core.List.{List}
-use lib.Dec.{ltb}
-use lib.ListN.{length, get_or, take, drop}
-use lib.Seq.{drop-cons}
+-- Cells that are all 0, by the library's words.
+use Rattle.std.proofs.Common.{◌≡◌, refl, ℕ, zero, suc, sym, arith, ◌-◌, Bool, true, false, not, ◌&&◌, ◌||◌, List, [], ◌∷◌, take, drop, eqb, ltb}
+use Rattle.std.specs.List.{list_all}
+use borrow.Author.Tests.{ne_eqb, lt-ltb}
 use Rattle.lists.specs.Lists.{any}
-use Rattle.lists.proofs.Booleans.{or_assoc}
 use Rattle.model_audit.specs.Audit.{zero_from}
 
--- the cells before place i have been passed, and found says whether one of them is not 0
-pub record Seeking (cells : List ℕ) (from to : ℕ) (found : Bool) (i : ℕ) : Type 0 where
-  pub same : any (ltb 0) (take (to - from) (drop from cells)) ≡ found || any (ltb 0) (take (to - i) (drop i cells))
+not_or : (a b : Bool) → not (a || b) ≡ not a && not b
+not_or true b = refl
+not_or false b = refl
 
-module _ {cells : List ℕ} {from to : ℕ} where
-  pub start : Seeking cells from to false from
-  start = record { same = refl }
+zero_test : (x : ℕ) → eqb x 0 ≡ not (ltb 0 x)
+zero_test zero = refl
+zero_test (suc x) = rw (ne_eqb (suc x) 0 (λ e. omega arith), lt-ltb 0 (suc x) (omega arith))
 
-  pub more : {found : Bool} {i : ℕ} → Seeking cells from to found i → i < to → to ≤ length cells → Seeking cells from to (found || ltb 0 (get_or cells i 0)) (i + 1)
-  unfolding any
-  more {found} {i} v h k =
-      let z : to - i ≡ suc (to - suc i) = omega arith in
-      record { same = v.same ∙ rw (z, drop-cons cells i 0 (omega arith), add-one) (or_assoc found (ltb 0 (get_or cells i 0)) (any (ltb 0) (take (to - suc i) (drop (suc i) cells)))) }
+all_are : (cells : List ℕ) → list_all (λ x. eqb x 0) cells ≡ not (any (ltb 0) cells)
+unfolding any
+all_are [] = refl
+all_are (x ∷ xs) = rw (zero_test x, all_are xs) (sym (not_or (ltb 0 x) (any (ltb 0) xs)))
 
-  pub finish : {found : Bool} {i : ℕ} → Seeking cells from to found i → to ≤ i → not found ≡ zero_from from to cells
-  unfolding zero_from any
-  finish {found} {i} v h = let z : to - i ≡ 0 = omega arith in rw (v.same, z, or-false)
+-- the cells from one place up to another
+pub all_zeros : (from to : ℕ) (cells : List ℕ) → list_all (λ x. eqb x 0) (take (to - from) (drop from cells)) ≡ zero_from from to cells
+unfolding zero_from
+all_zeros from to cells = all_are (take (to - from) (drop from cells))

@@ -1,7 +1,7 @@
 -- The ends of a row by the places of the rows: what single functions of the audit find and judge.
 use Rattle.std.specs.Prelude.{ℕ, suc, ◌-◌, Bool, ◌||◌, not, map, eqb}
 use Rattle.lists.specs.Lists.{filter, head_or, last_or, run}
-use Rattle.model.specs.Rows.{Row, Tables, row_at, over_older, over_younger}
+use Rattle.model.specs.Rows.{Tables, row_at, over_older, over_younger}
 
 -- the position of the row at a place
 unfoldable pub position_at : ℕ → Tables → ℕ → ℕ

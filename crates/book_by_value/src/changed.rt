@@ -1,9 +1,11 @@
 // The calls of a book that may change its records, for callers that hold plain values: the eight records go in and come
 // back by value.
-ghost use Rattle.model.specs.Promises.{tables, Opened, Watched, Ended};
+ghost use Rattle.lent_tables.specs.Lent.{lent, lent_mut, SameLoan};
+ghost use Rattle.model.specs.Promises.{Opened, Watched, Ended};
 ghost use Rattle.watch_records.specs.Records.{watched};
 
 use head::{Desk, Head, Reply, Watch};
+use lent_tables::{LentTables, LentTablesMut};
 
 // What a call that may change the records hands back: its reply, and the records.
 #[derive(Clone, Copy)]
@@ -17,22 +19,18 @@ pub fn open(
     dimensions: u32,
     capacity: u32,
     directions: u32,
-    columns: &mut [u32],
-    positions: &mut [u32],
-    lower_ends: &mut [u32],
-    upper_ends: &mut [u32],
+    tables: &mut LentTablesMut<'_>,
     records: [Watch; 8],
 ) -> RecordReply
-    ensures { Opened dimensions capacity directions
-        (tables columns.old positions.old lower_ends.old upper_ends.old)
+    ensures same_loan { SameLoan tables.old tables.new }
+    ensures made { Opened dimensions capacity directions
+        (lent_mut tables.old)
         (watched records) result.reply
-        (tables columns.new positions.new lower_ends.new upper_ends.new)
+        (lent_mut tables.new)
         (watched result.records) }
 {
     let mut held = records;
-    let reply = book::open(
-        dimensions, capacity, directions, columns, positions, lower_ends, upper_ends, &mut held,
-    );
+    let reply = book::open(dimensions, capacity, directions, tables, &mut held);
     RecordReply {
         reply,
         records: held,
@@ -44,21 +42,16 @@ pub fn watch(
     head: Head,
     desk: Desk,
     n: u32,
-    columns: &[u32],
-    positions: &[u32],
-    lower_ends: &[u32],
-    upper_ends: &[u32],
+    tables: &LentTables<'_>,
     records: [Watch; 8],
     out: &mut [u8],
 ) -> RecordReply
     ensures { Watched head desk n
-        (tables columns.now positions.now lower_ends.now upper_ends.now)
+        (lent tables.now)
         (watched records) out.old result.reply (watched result.records) out.new }
 {
     let mut held = records;
-    let reply = book::watch(
-        head, desk, n, columns, positions, lower_ends, upper_ends, &mut held, out,
-    );
+    let reply = book::watch(head, desk, n, tables, &mut held, out);
     RecordReply {
         reply,
         records: held,
@@ -70,20 +63,15 @@ pub fn end(
     head: Head,
     desk: Desk,
     n: u32,
-    columns: &[u32],
-    positions: &[u32],
-    lower_ends: &[u32],
-    upper_ends: &[u32],
+    tables: &LentTables<'_>,
     records: [Watch; 8],
 ) -> RecordReply
     ensures { Ended head desk n
-        (tables columns.now positions.now lower_ends.now upper_ends.now)
+        (lent tables.now)
         (watched records) result.reply (watched result.records) }
 {
     let mut held = records;
-    let reply = book::end(
-        head, desk, n, columns, positions, lower_ends, upper_ends, &mut held,
-    );
+    let reply = book::end(head, desk, n, tables, &mut held);
     RecordReply {
         reply,
         records: held,

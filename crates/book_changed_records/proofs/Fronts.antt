@@ -14,6 +14,8 @@ use Rattle.head.specs.declared.Head.{Head}
 use Rattle.head.specs.declared.Desk.{Desk}
 use Rattle.head.specs.declared.Watch.{Watch}
 use Rattle.head.specs.Desks.{watch_of}
+use Rattle.std.specs.Prelude.{Ok, Err}
+use Rattle.refusals.specs.declared.Refusal.{Refusal}
 use Rattle.refusals.specs.Refusals.{granted}
 use Rattle.refusals.proofs.Numbers.{zero_passed}
 use Rattle.head.specs.declared.replies.Reply.{Reply}
@@ -22,7 +24,6 @@ use Rattle.model.specs.Book.{short_tables, short_loan, standing, watchful_answer
 use Rattle.watch_records.specs.Records.{record_number, watched, first_eight, stored}
 use Rattle.watch_numbers.specs.Vacancy.{Vacant}
 use Rattle.model.specs.Promises.{Opened, Watched, Ended}
-use Rattle.call_watching.specs.declared.Judgement.{Judgement}
 use Rattle.call_watching.specs.Judged.{WatchJudged, EndJudged}
 use Rattle.call_watching.proofs.Watches as watching
 use Rattle.book_shared_records.proofs.Fronts.{standing_front, short_front, watchful_front, front}
@@ -70,40 +71,39 @@ module _ (ys : List Watch) {ns : List ℕ} (e : ns ≡ first_eight (watched ys))
   unfolding watched
   as_many = length-map ys record_number
 
-  module _ (h : Head) (desk : Desk) (n : ℕ) (t : Tables) (j : Judgement) (f : EndJudged h desk n t (take (length ys) ns) j) where
+  module _ (h : Head) (desk : Desk) (n : ℕ) (t : Tables) (j : Reply) (f : EndJudged h desk n t (take (length ys) ns) j) where
     end_judged : EndJudged h desk n t ws j
     unfolding end_reply
-    end_judged = record { reply = f.reply ∙ rw (front ys e, end_front ws h desk n t); accepted = f.accepted ∙ rw (front ys e, end_front ws h desk n t) }
+    end_judged = record { reply = f.reply ∙ rw (front ys e, end_front ws h desk n t) }
 
     -- a refused end leaves the records
-    pub end_left : j.accepted ≡ false → Ended h desk n t ws j.reply ws
+    pub end_left : {k : Refusal} → j.answer ≡ Err k → Ended h desk n t ws j ws
     end_left off = watching.end_left end_judged off
 
     -- an accepted one was lent eight, and removes n
-    module _ (on : j.accepted ≡ true) where
+    module _ (on : j.answer ≡ Ok tt) where
       pub end_enough : 8 ≤ length ys
       unfolding end_answer
       end_enough = rw as_many at (eight_lent h t ws _ (watching.end_accepted_is end_judged on))
 
-      pub end_removed : (last : List ℕ) → last ≡ padded 8 (without (watch_of desk n) (standing ws)) ws → Ended h desk n t ws j.reply last
+      pub end_removed : (last : List ℕ) → last ≡ padded 8 (without (watch_of desk n) (standing ws)) ws → Ended h desk n t ws j last
       end_removed last m = watching.end_removed end_judged on m
 
-  module _ (h : Head) (desk : Desk) (n : ℕ) (t : Tables) {before after : List ℕ} (j : Judgement) (f : WatchJudged h desk n t (take (length ys) ns) before j after) where
+  module _ (h : Head) (desk : Desk) (n : ℕ) (t : Tables) {before after : List ℕ} (j : Reply) (f : WatchJudged h desk n t (take (length ys) ns) before j after) where
     watch_judged : WatchJudged h desk n t ws before j after
     unfolding watch_reply watch_out watch_bytes
     watch_judged =
         record {
           reply = f.reply ∙ rw (front ys e, watch_front ws h desk n t);
-          accepted = f.accepted ∙ rw (front ys e, watch_front ws h desk n t);
           out = f.out ∙ rw (front ys e, watch_front ws h desk n t);
         }
 
     -- a refused watch leaves the records
-    pub watch_left : j.accepted ≡ false → Watched h desk n t ws before j.reply ws after
+    pub watch_left : {k : Refusal} → j.answer ≡ Err k → Watched h desk n t ws before j ws after
     watch_left off = watching.watch_left watch_judged off
 
     -- an accepted one was lent eight, of which one is free, and inserts n
-    module _ (on : j.accepted ≡ true) where
+    module _ (on : j.answer ≡ Ok tt) where
       watch_is : watch_answer h desk n t ws (length before) ≡ 0
       watch_is = watching.watch_accepted watch_judged on
 
@@ -111,7 +111,7 @@ module _ (ys : List Watch) {ns : List ℕ} (e : ns ≡ first_eight (watched ys))
       unfolding watch_answer
       watch_asks = (rw as_many at (eight_lent h t ws _ watch_is), (watching.watch_free h desk n t ws (length before) watch_is).vacant)
 
-      pub watch_inserted : (last : List ℕ) → last ≡ padded 8 (insert (watch_of desk n) (standing ws)) ws → Watched h desk n t ws before j.reply last after
+      pub watch_inserted : (last : List ℕ) → last ≡ padded 8 (insert (watch_of desk n) (standing ws)) ws → Watched h desk n t ws before j last after
       watch_inserted last m = watching.watch_inserted watch_judged on m
 
   -- an opening's eight numbers stored in the records are what it leaves of them

@@ -2,9 +2,11 @@
 #![tactic(auto)]
 
 ghost use Rattle.watch_records.specs.Records.{watched};
-ghost use Rattle.model.specs.Promises.{tables, Quoted, Previewed, QuotedLooked, Paired, Unpaired};
+ghost use Rattle.lent_tables.specs.Lent.{lent, lent_mut, SameLoan};
+ghost use Rattle.model.specs.Promises.{Quoted, Previewed, QuotedLooked, Paired, Unpaired};
 
 use head::{BothReply, Effect, Head, Reply, Watch};
+use lent_tables::{LentTables, LentTablesMut};
 use watch_records::numbers;
 
 // Takes a quote: writes the changes of every watch, puts the quote's row into the tables, and hands back the next head
@@ -12,24 +14,20 @@ use watch_records::numbers;
 pub fn quote(
     head: Head,
     quote: &[u32],
-    columns: &mut [u32],
-    positions: &mut [u32],
-    lower_ends: &mut [u32],
-    upper_ends: &mut [u32],
+    tables: &mut LentTablesMut<'_>,
     watches: &[Watch],
     out: &mut [u8],
 ) -> Reply
-    ensures { Quoted head quote.now
-        (tables columns.old positions.old lower_ends.old upper_ends.old)
+    ensures same_loan { SameLoan tables.old tables.new }
+    ensures made { Quoted head quote.now
+        (lent_mut tables.old)
         (watched watches.now) out.old result
-        (tables columns.new positions.new lower_ends.new upper_ends.new)
+        (lent_mut tables.new)
         out.new }
 {
     let before = numbers(watches);
-    let lent = watches.len();
-    call_quoting::quote(
-        head, quote, columns, positions, lower_ends, upper_ends, before, lent, out,
-    )
+    let records = watches.len();
+    call_quoting::quote(head, quote, tables, before, records, out)
 }
 
 // Takes a quote as `quote` does and, on the book after it, writes the positions of the list of n into cells as `look` does: both, or neither
@@ -38,25 +36,21 @@ pub fn both(
     head: Head,
     quote: &[u32],
     n: u32,
-    columns: &mut [u32],
-    positions: &mut [u32],
-    lower_ends: &mut [u32],
-    upper_ends: &mut [u32],
+    tables: &mut LentTablesMut<'_>,
     watches: &[Watch],
     out: &mut [u8],
     cells: &mut [u32],
 ) -> BothReply
-    ensures { QuotedLooked head quote.now n
-        (tables columns.old positions.old lower_ends.old upper_ends.old)
+    ensures same_loan { SameLoan tables.old tables.new }
+    ensures made { QuotedLooked head quote.now n
+        (lent_mut tables.old)
         (watched watches.now) out.old cells.old result
-        (tables columns.new positions.new lower_ends.new upper_ends.new)
+        (lent_mut tables.new)
         out.new cells.new }
 {
     let before = numbers(watches);
-    let lent = watches.len();
-    call_quote_looking::both(
-        head, quote, n, columns, positions, lower_ends, upper_ends, before, lent, out, cells,
-    )
+    let records = watches.len();
+    call_quote_looking::both(head, quote, n, tables, before, records, out, cells)
 }
 
 // Previews a quote: writes the changes that it would bring and hands back its answer, how many bytes, and the counts of live and held rows
@@ -64,23 +58,18 @@ pub fn both(
 pub fn preview(
     head: Head,
     quote: &[u32],
-    columns: &[u32],
-    positions: &[u32],
-    lower_ends: &[u32],
-    upper_ends: &[u32],
+    tables: &LentTables<'_>,
     watches: &[Watch],
     out: &mut [u8],
 ) -> Effect
     ensures { Previewed head quote.now
-        (tables columns.now positions.now lower_ends.now upper_ends.now)
+        (lent tables.now)
         (watched watches.now)
         out.old result out.new }
 {
     let before = numbers(watches);
-    let lent = watches.len();
-    call_previewing::preview(
-        head, quote, columns, positions, lower_ends, upper_ends, before, lent, out,
-    )
+    let records = watches.len();
+    call_previewing::preview(head, quote, tables, before, records, out)
 }
 
 // Sets the watch of the pair n1 and n2 and writes a join for each position of its past list; hands back the head with the pair and how many bytes.
@@ -88,41 +77,27 @@ pub fn pair(
     head: Head,
     n1: u32,
     n2: u32,
-    columns: &[u32],
-    positions: &[u32],
-    lower_ends: &[u32],
-    upper_ends: &[u32],
+    tables: &LentTables<'_>,
     watches: &[Watch],
     out: &mut [u8],
 ) -> Reply
     ensures { Paired head n1 n2
-        (tables columns.now positions.now lower_ends.now upper_ends.now)
+        (lent tables.now)
         (watched watches.now)
         out.old result out.new }
 {
     let before = numbers(watches);
-    let lent = watches.len();
-    call_watching::pair(
-        head, n1, n2, columns, positions, lower_ends, upper_ends, before, lent, out,
-    )
+    let records = watches.len();
+    call_watching::pair(head, n1, n2, tables, before, records, out)
 }
 
 // Ends the watch of the pair.
-pub fn unpair(
-    head: Head,
-    columns: &[u32],
-    positions: &[u32],
-    lower_ends: &[u32],
-    upper_ends: &[u32],
-    watches: &[Watch],
-) -> Reply
+pub fn unpair(head: Head, tables: &LentTables<'_>, watches: &[Watch]) -> Reply
     ensures { Unpaired head
-        (tables columns.now positions.now lower_ends.now upper_ends.now)
+        (lent tables.now)
         (watched watches.now) result }
 {
     let before = numbers(watches);
-    let lent = watches.len();
-    call_watching::unpair(
-        head, columns, positions, lower_ends, upper_ends, before, lent,
-    )
+    let records = watches.len();
+    call_watching::unpair(head, tables, before, records)
 }

@@ -6,6 +6,7 @@ ghost use Rattle.host_cells.specs.Cells.{head_in, records_in, Answered, Hands, C
 
 use host_cells::{head_of, number_of, records_of, store_head};
 use host_loans::short_answer;
+use lent_tables::LentTablesMut;
 
 // Takes a quote and, on the book after it, writes the positions of the list of n into cells: both, or neither where either is refused. Hands
 // back the next head, how many bytes were written, and how many positions.
@@ -37,23 +38,23 @@ pub extern "C" fn bqb_quote_look(
         *listed = 0;
         return short_answer(before);
     }
-    let made = book_by_value::both(
-        before,
-        quote,
-        n,
+    let mut tables = LentTablesMut {
         columns,
         positions,
         lower_ends,
         upper_ends,
+    };
+    let made = book_by_value::both(
+        before,
+        quote,
+        n,
+        &mut tables,
         records_of(watches),
         out,
         cells,
     );
-    let reply = made.reply;
-    let next = reply.head;
-    let answer = reply.answer;
-    store_head(next, head);
-    *count = reply.count;
+    store_head(made.reply.head, head);
+    *count = made.reply.count;
     *listed = made.listed;
-    number_of(answer)
+    number_of(made.reply.answer)
 }

@@ -1,68 +1,81 @@
--- Eight records stored in sixteen cells: what the cells hold then.
-use mathlib.Core.Path.{◌≡◌, sym, ◌∙◌, ap}
-use Prim.Native.Nat.{ℕ, ◌≤◌}
-use native.Mathlib.Omega.{arith}
-use mathlib.Core.List.{List, [], ◌∷◌, map}
-use lib.ListN.{length, get_or, drop, set}
+-- Turns of the loops that read eight records from sixteen cells and store them there, and what they come to.
+use Rattle.std.proofs.Common.{◌≡◌, ℕ, ◌+◌, ◌*◌, ◌<◌, ◌≤◌, ◌≢◌, List, map, length, get_or, set, drop, sym, ap, ◌∙◌, arith, below_more, get_or-set_other, get_or-set_same}
+use Rattle.std.proofs.lemmas.List.{drop-set-lt}
+use mathlib.Core.Path.{ap₂}
+use lib.ListN.{length-set}
 use lib.Seq.{take_all}
-use Rattle.lists.specs.Lists.{run, laid}
-use Rattle.lists.proofs.Laying.{front_none, front_store}
+use Rattle.lists.specs.Lists.{run}
+use Rattle.lists.proofs.Cells.{map_run}
+use Rattle.lists.proofs.Filters.{map_map}
 use Rattle.lists.proofs.Places.{map_places}
 use Rattle.head.specs.declared.Watch.{Watch}
+use Rattle.head.specs.Desks.{record_of}
 use Rattle.watch_records.specs.Records.{record_number, watched}
-use Rattle.host_cells.specs.Cells.{eight_records}
+use Rattle.host_cells.specs.Cells.{record_at, eight_records}
 
--- eight records are those at the places 0 to 7
-pub eight_are : (z : Watch) (l : List Watch) → length l ≡ 8
-    → l ≡ get_or l 0 z ∷ get_or l 1 z ∷ get_or l 2 z ∷ get_or l 3 z ∷ get_or l 4 z ∷ get_or l 5 z ∷ get_or l 6 z ∷ get_or l 7 z ∷ []
-unfolding run
-eight_are z l e = sym (map_places z 8 l (omega arith) ∙ take_all 8 l (omega arith))
+-- the record that is empty
+abbrev pub empty : Watch
+empty = record { n = 0; desk = 0 }
 
--- the cells with eight records stored in them
-abbrev pub filled_with : List ℕ → Watch → Watch → Watch → Watch → Watch → Watch → Watch → Watch → List ℕ
-filled_with xs a b c d e f g h =
-    set (set (set (set (set (set (set (set
-    (set (set (set (set (set (set (set (set xs 0 a.n) 1 a.desk) 2 b.n) 3 b.desk) 4 c.n) 5 c.desk) 6 d.n) 7 d.desk)
-    8 e.n) 9 e.desk) 10 f.n) 11 f.desk) 12 g.n) 13 g.desk) 14 h.n) 15 h.desk
+-- the first i records are those in the cells
+pub record Same (records : List Watch) (cells : List ℕ) (i : ℕ) : Type 0 where
+  pub eight : length records ≡ 8
+  pub same : (k : ℕ) → k < i → record_number (get_or records k empty) ≡ record_at cells k
 
-module _ (xs : List ℕ) (a b c d e f g h : Watch) (enough : 16 ≤ length xs) where
-  filled_front : filled_with xs a b c d e f g h ≡ laid
-      (a.n ∷ a.desk ∷ b.n ∷ b.desk ∷ c.n ∷ c.desk ∷ d.n ∷ d.desk ∷ e.n ∷ e.desk ∷ f.n ∷ f.desk ∷ g.n ∷ g.desk ∷ h.n ∷ h.desk ∷ []) xs
-  filled_front =
-      let s0 = front_store (front_none xs) a.n (omega arith) in
-      let s1 = front_store s0 a.desk (omega arith) in
-      let s2 = front_store s1 b.n (omega arith) in
-      let s3 = front_store s2 b.desk (omega arith) in
-      let s4 = front_store s3 c.n (omega arith) in
-      let s5 = front_store s4 c.desk (omega arith) in
-      let s6 = front_store s5 d.n (omega arith) in
-      let s7 = front_store s6 d.desk (omega arith) in
-      let s8 = front_store s7 e.n (omega arith) in
-      let s9 = front_store s8 e.desk (omega arith) in
-      let s10 = front_store s9 f.n (omega arith) in
-      let s11 = front_store s10 f.desk (omega arith) in
-      let s12 = front_store s11 g.n (omega arith) in
-      let s13 = front_store s12 g.desk (omega arith) in
-      let s14 = front_store s13 h.n (omega arith) in
-      let s15 = front_store s14 h.desk (omega arith) in
-      s15.cells
+-- all eight of them
+pub all_same : {records : List Watch} {cells : List ℕ} {i : ℕ} → 8 ≤ i → Same records cells i → watched records ≡ eight_records cells
+unfolding watched eight_records
+all_same {records} {cells} {i} h v =
+    let e = v.eight in
+    ap (map record_number) (sym (map_places empty 8 records (omega arith) ∙ take_all 8 records (omega arith)))
+    ∙ map_map record_number (λ k. get_or records k empty) (run 0 8)
+    ∙ map_run (λ k. record_number (get_or records k empty)) (record_at cells) 0 8 (λ k _ l. v.same k (omega arith))
 
-  pub holds_eight : eight_records (filled_with xs a b c d e f g h) ≡ map record_number (a ∷ b ∷ c ∷ d ∷ e ∷ f ∷ g ∷ h ∷ [])
-  unfolding eight_records run laid
-  holds_eight = ap eight_records filled_front
+-- one record more is read
+pub read_more : {records : List Watch} {cells : List ℕ} {i : ℕ} → Same records cells i → i < 8
+    → Same (set records i (record { n = get_or cells (2 * i) 0; desk = get_or cells (2 * i + 1) 0 })) cells (i + 1)
+read_more {records} {cells} {i} v h = record {
+  eight = simp length-set v.eight;
+  same =
+      below_more _ _
+      (λ k l. let ne : k ≢ i = omega arith in rw get_or-set_other (v.same k l))
+      (let lt : i < length records = omega (arith, v.eight) in ap record_number (get_or-set_same records i _ empty lt));
+}
 
-  pub beyond_eight : drop 16 (filled_with xs a b c d e f g h) ≡ drop 16 xs
-  unfolding laid
-  beyond_eight = ap (drop 16) filled_front
+-- the cells once a record is stored
+abbrev pub stored : List ℕ → ℕ → Watch → List ℕ
+stored cells i w = set (set cells (2 * i) w.n) (2 * i + 1) w.desk
 
--- the same of an array of eight
-module _ (xs : List ℕ) (z : Watch) (l : List Watch) (eight : length l ≡ 8) (enough : 16 ≤ length xs) where
-  abbrev filled_by : List ℕ
-  filled_by = filled_with xs (get_or l 0 z) (get_or l 1 z) (get_or l 2 z) (get_or l 3 z) (get_or l 4 z) (get_or l 5 z) (get_or l 6 z) (get_or l 7 z)
+-- a record before it stays
+apart : (cells : List ℕ) (i k : ℕ) (w : Watch) → k < i → record_at (stored cells i w) k ≡ record_at cells k
+apart cells i k w h =
+    let a : 2 * k + 1 ≢ 2 * i + 1 = omega arith in
+    let b : 2 * k + 1 ≢ 2 * i = omega arith in
+    let c : 2 * k ≢ 2 * i + 1 = omega arith in
+    let d : 2 * k ≢ 2 * i = omega arith in
+    ap₂ record_of
+    (get_or-set_other _ _ _ _ 0 a ∙ get_or-set_other _ _ _ _ 0 b)
+    (get_or-set_other _ _ _ _ 0 c ∙ get_or-set_other _ _ _ _ 0 d)
 
-  pub holds_all : eight_records filled_by ≡ watched l
-  unfolding watched
-  holds_all = holds_eight xs _ _ _ _ _ _ _ _ enough ∙ ap (map record_number) (sym (eight_are z l eight))
+-- it is the one in its cells
+here : (cells : List ℕ) (i : ℕ) (w : Watch) → 2 * i + 1 < length cells → record_at (stored cells i w) i ≡ record_number w
+here cells i w h =
+    let c : 2 * i ≢ 2 * i + 1 = omega arith in
+    ap₂ record_of
+    (get_or-set_same (set cells (2 * i) w.n) (2 * i + 1) w.desk 0 (simp length-set h))
+    (get_or-set_other _ _ _ _ 0 c ∙ get_or-set_same cells (2 * i) w.n 0 (omega arith))
 
-  pub beyond_all : drop 16 filled_by ≡ drop 16 xs
-  beyond_all = beyond_eight xs _ _ _ _ _ _ _ _ enough
+-- one record more is stored
+pub store_more : {records : List Watch} {cells : List ℕ} {i : ℕ} → Same records cells i → i < 8 → 16 ≤ length cells
+    → Same records (stored cells i (get_or records i empty)) (i + 1)
+store_more {records} {cells} {i} v h enough = record {
+  eight = v.eight;
+  same =
+      below_more _ _
+      (λ k l. v.same k l ∙ sym (apart cells i k (get_or records i empty) l))
+      (sym (here cells i (get_or records i empty) (omega arith)));
+}
+
+-- the cells past the sixteenth stay
+pub beyond_stored : (cells : List ℕ) (i : ℕ) (w : Watch) → i < 8 → drop 16 (stored cells i w) ≡ drop 16 cells
+beyond_stored cells i w h = drop-set-lt 16 _ (2 * i + 1) w.desk (omega arith) ∙ drop-set-lt 16 cells (2 * i) w.n (omega arith)

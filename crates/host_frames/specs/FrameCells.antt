@@ -1,9 +1,8 @@
 -- A frame in seven cells, its kind and six values: what the reader leaves there, and the message that is written from them.
-use Rattle.std.specs.Prelude.{◌≡◌, ℕ, Bool, ◌||◌, cond, List, [], ◌∷◌, ltb, length, get_or}
+use Rattle.std.specs.Prelude.{◌≡◌, ℕ, ◌||◌, cond, List, [], ◌∷◌, ltb, length, get_or}
 use Rattle.lists.specs.Lists.{laid}
 use Rattle.refusals.specs.Refusals.{number, granted}
 use Rattle.frame_kinds.specs.declared.Shape.{Shape}
-use Rattle.frame_kinds.specs.declared.Shape.TheVariants as Shape
 use Rattle.frame_kinds.specs.Kinds.{shape_of, open_kind}
 use Rattle.frames.specs.declared.Message.{Message}
 use Rattle.frames.specs.declared.Message.TheVariants.{Quote, Sized, Change, Pair, Bare, Position, Open, EndOfTape, Refused}

@@ -15,7 +15,7 @@ use Rattle.head.specs.declared.Watch.{Watch}
 use Rattle.head.specs.Heads.{fresh_head, settings_hold}
 use Rattle.refusals.specs.declared.Refusal.{Refusal}
 use Rattle.refusals.specs.declared.Refusal.TheVariants.{Settings, ShortLoan}
-use Rattle.refusals.specs.declared.Answer.TheVariants.{Refused}
+use Rattle.std.specs.Prelude.{Err}
 use Rattle.refusals.specs.Refusals.{number, number_of, first_of, granted}
 use Rattle.refusals.proofs.Numbers.{granted_refused, refused_granted, accepted_granted}
 use Rattle.head.specs.declared.replies.Reply.{Reply}
@@ -55,7 +55,7 @@ short_refusal h = cond (settings_hold h.dimensions h.capacity h.directions) Shor
 
 -- the reply that it comes in, with this head
 abbrev short_reply : Head → Head → Reply
-short_reply h back = record { answer = Refused (short_refusal h); head = back; count = 0 }
+short_reply h back = record { answer = Err (short_refusal h); head = back; count = 0 }
 
 short_number : (h : Head) → number (short_refusal h) ≡ short_loan_answer h
 unfolding short_refusal short_loan_answer first_of
@@ -70,7 +70,7 @@ unchanged : {A : Type 0} (h : Head) {k : ℕ} (x y : A) → number (short_refusa
 unchanged h x y e = sym (ap (λ (n : ℕ). granted n x y) (sym e) ∙ refused_granted (short_refusal h) x y)
 
 replied : (h back next : Head) (count : ℕ) {k : ℕ} → number (short_refusal h) ≡ k → outcome (short_reply h back) ≡ reply_of k back next count
-replied h back next count e = refused_reply {a = Refused (short_refusal h)} e refl back next count
+replied h back next count e = refused_reply {a = Err (short_refusal h)} e refl back next count
 
 -- the number of the answer is the one that the host is given
 short_answered : (h at : Head) {n : ℕ} → h ≡ at → n ≡ short_loan_answer h → n ≡ number (short_refusal at)
@@ -105,7 +105,7 @@ module _ (cells : List ℕ) (lacking : length cells < 16) where
 
   pair_lacking : (h : Head) (n1 n2 : ℕ) (t : Tables) (before : List ℕ) → Paired h n1 n2 t ws before (short_reply h h) before
   unfolding pair_answer
-  pair_lacking h n1 n2 t before = pair_refused h n1 n2 t ws before (short_answers h t _) refl
+  pair_lacking h n1 n2 t before = pair_refused h n1 n2 t ws before {a = Err (short_refusal h)} (short_answers h t _) refl refl
 
   unpair_lacking : (h : Head) (t : Tables) → Unpaired h t ws (short_reply h h)
   unfolding unpair_reply unpair_answer
@@ -113,11 +113,11 @@ module _ (cells : List ℕ) (lacking : length cells < 16) where
 
   watch_lacking : (h : Head) (desk : Desk) (n : ℕ) (t : Tables) (before : List ℕ) → Watched h desk n t ws before (short_reply h h) ws before
   unfolding watch_answer
-  watch_lacking h desk n t before = watching.watch_left (watching.watch_refused h desk n t ws before {a = Refused (short_refusal h)} (short_answers h t _) refl) refl
+  watch_lacking h desk n t before = watching.watch_left (watching.watch_refused h desk n t ws before {a = Err (short_refusal h)} (short_answers h t _) refl refl) refl
 
   end_lacking : (h : Head) (desk : Desk) (n : ℕ) (t : Tables) → Ended h desk n t ws (short_reply h h) ws
   unfolding end_answer
-  end_lacking h desk n t = watching.end_left (watching.end_refused h desk n t ws {a = Refused (short_refusal h)} (short_answers h t _) refl) refl
+  end_lacking h desk n t = watching.end_left (watching.end_refused h desk n t ws {a = Err (short_refusal h)} (short_answers h t _) refl refl) refl
 
   open_lacking : (d N directions : ℕ) (t : Tables) → Opened d N directions t ws (short_reply (fresh_head d N directions) (fresh_head 0 0 0)) t ws
   unfolding open_reply open_tables open_watches

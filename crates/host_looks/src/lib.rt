@@ -10,8 +10,9 @@ ghost use Rattle.host_looks.specs.Verdicts.{finding_number, finding_verdict};
 
 use book_audit::audit;
 use call_looking::{due, look, past};
-use head::Verdict;
 use host_cells::{head_of, number_of};
+use lent_tables::LentTables;
+use refusals::Refusal;
 
 // Writes the positions of the list of n into lent cells, and hands back how many.
 #[unsafe(no_mangle)]
@@ -29,11 +30,15 @@ pub extern "C" fn bqb_look(
         (tables columns.now positions.now lower_ends.now upper_ends.now)
         cells.old reply cells.new × Counts reply count.new) }
 {
-    let held = head_of(head);
-    let listed = look(held, n, columns, positions, lower_ends, upper_ends, cells);
+    let tables = LentTables {
+        columns,
+        positions,
+        lower_ends,
+        upper_ends,
+    };
+    let listed = look(head_of(head), n, &tables, cells);
     *count = listed.count;
-    let answer = listed.answer;
-    number_of(answer)
+    number_of(listed.answer)
 }
 
 // Writes the positions of the past list of n1 and n2 into lent cells, and hands back how many.
@@ -53,19 +58,15 @@ pub extern "C" fn bqb_past(
         (tables columns.now positions.now lower_ends.now upper_ends.now)
         cells.old reply cells.new × Counts reply count.new) }
 {
-    let past_list = past(
-        head_of(head),
-        n1,
-        n2,
+    let tables = LentTables {
         columns,
         positions,
         lower_ends,
         upper_ends,
-        cells,
-    );
+    };
+    let past_list = past(head_of(head), n1, n2, &tables, cells);
     *count = past_list.count;
-    let answer = past_list.answer;
-    number_of(answer)
+    number_of(past_list.answer)
 }
 
 // Writes of each row that is due its position and after how many more quotes it joins, two cells a row, and hands back how many rows.
@@ -83,11 +84,15 @@ pub extern "C" fn bqb_due(
         (tables columns.now positions.now lower_ends.now upper_ends.now)
         cells.old reply cells.new × Counts reply count.new) }
 {
-    let held = head_of(head);
-    let rows = due(held, columns, positions, lower_ends, upper_ends, cells);
+    let tables = LentTables {
+        columns,
+        positions,
+        lower_ends,
+        upper_ends,
+    };
+    let rows = due(head_of(head), &tables, cells);
     *count = rows.count;
-    let answer = rows.answer;
-    number_of(answer)
+    number_of(rows.answer)
 }
 
 // The audit of a saved book: the verdict is 1 exactly if some tape leaves it, and 0 where it is refused.
@@ -107,29 +112,33 @@ pub extern "C" fn bqb_audit(
         (tables columns.now positions.now lower_ends.now
         upper_ends.now)) }
 {
-    let verdict = audit(head_of(head), columns, positions, lower_ends, upper_ends);
+    let tables = LentTables {
+        columns,
+        positions,
+        lower_ends,
+        upper_ends,
+    };
+    let verdict = audit(head_of(head), &tables);
     *passes = verdict_of(verdict);
     refusal_of(verdict)
 }
 
 // 1 for yes; 0 for no, and where the audit is refused.
-fn verdict_of(verdict: Verdict) -> u32
+fn verdict_of(verdict: Result<bool, Refusal>) -> u32
     ensures { result ≡ finding_verdict (finding verdict) }
 {
     match verdict {
-        Verdict::Yes => 1,
-        Verdict::No => 0,
-        Verdict::Refused(_) => 0,
+        Ok(true) => 1,
+        Ok(false) | Err(_) => 0,
     }
 }
 
 // 0 for a verdict, else the number of the refusal.
-fn refusal_of(verdict: Verdict) -> u32
+fn refusal_of(verdict: Result<bool, Refusal>) -> u32
     ensures { result ≡ finding_number (finding verdict) }
 {
     match verdict {
-        Verdict::Yes => 0,
-        Verdict::No => 0,
-        Verdict::Refused(refusal) => refusal.number(),
+        Ok(_) => 0,
+        Err(refusal) => refusal.number(),
     }
 }

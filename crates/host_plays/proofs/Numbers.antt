@@ -2,7 +2,10 @@
 use mathlib.Core.Path.{◌≡◌, refl, sym, subst, ◌∙◌, ap}
 use Prim.Native.Nat.{ℕ, ◌/◌, ◌%◌}
 use native.Mathlib.Omega.{arith}
+use mathlib.Core.Bool.{Bool, true, false}
+use mir.Val.{bool_byte}
 use mathlib.Core.List.{List, [], ◌∷◌, map}
+use Rattle.host_plays.specs.Plays.{flag_of}
 use lib.ListN.{length, get_or}
 use lib.Seq.{take_all}
 use Rattle.lists.specs.Lists.{run}
@@ -69,3 +72,9 @@ pub step_at : (tape : List ℕ) (place : ℕ) (t : Tables) (bytes : List ℕ) {h
 step_at tape place t bytes {h} {at} {t'} {numbers} {ws} {text} {bytes'} {text'} {r} e f p =
     subst (λ (g : Head). Stepped tape place (player g t ws bytes) text r t' bytes' text') e
     (subst (λ (l : List ℕ). Stepped tape place (player h t l bytes) text r t' bytes' text') f p)
+
+-- what a test counts for is its flag
+pub flag_counts : (b : Bool) → bool_byte b ≡ flag_of b
+unfolding flag_of
+flag_counts true = refl
+flag_counts false = refl

@@ -16,8 +16,8 @@ flag_of so = cond so 1 0
 pub record CellsPlayed (tape turn head : List ℕ) (t : Tables) (watches bytes text : List ℕ) (number : ℕ) (turn' head' : List ℕ) (t' : Tables)
     (watches' bytes' text' : List ℕ) : Type 0 where
   pub step : Step
-  pub answer : number ≡ number_of step.answer
-  pub turned : turn' ≡ step.next ∷ step.count ∷ flag_of step.over ∷ []
-  pub hands : head_in head' ≡ step.head
-  pub records : eight_records watches' ≡ step.watches
+  pub answer : number ≡ number_of step.turn.answer
+  pub turned : turn' ≡ step.next ∷ step.turn.count ∷ flag_of step.over ∷ []
+  pub hands : head_in head' ≡ step.turn.head
+  pub records : eight_records watches' ≡ step.turn.watches
   pub stepped : Stepped tape (get_or turn 0 0) (player (head_in head) t (eight_records watches) bytes) text step t' bytes' text'

@@ -8,6 +8,7 @@ ghost use Rattle.host_cells.specs.Cells.{eight_records};
 ghost use Rattle.host_plays.specs.Plays.{flag_of, CellsPlayed};
 
 use host_cells::{head_of, number_of, store_head};
+use lent_tables::LentTablesMut;
 use tape::{CHANGE_BYTES, TEXT_BYTES, play};
 use watch_numbers::{DESK_UNIT, desk_of, size_of};
 
@@ -58,16 +59,6 @@ fn store_numbers(watches: [u64; 8], cells: &mut [u32; 16])
     ];
 }
 
-// 1 if it is so, else 0.
-fn flag_of(so: bool) -> usize
-    ensures { result ≡ flag_of so }
-{
-    if so {
-        return 1;
-    }
-    0
-}
-
 // Plays the frame at a place of a tape on any book. The turn holds the place, then how many bytes of text the last frame printed, and
 // whether the tape is over.
 #[unsafe(no_mangle)]
@@ -89,23 +80,23 @@ pub extern "C" fn bqb_play(
         (tables columns.new positions.new lower_ends.new upper_ends.new)
         watches.new bytes.new text.new }
 {
-    let step = play(
-        tape,
-        turn[0],
-        head_of(head),
+    let mut tables = LentTablesMut {
         columns,
         positions,
         lower_ends,
         upper_ends,
+    };
+    let step = play(
+        tape,
+        turn[0],
+        head_of(head),
+        &mut tables,
         numbers_of(watches),
         bytes,
         text,
     );
-    let next = step.head;
-    let records = step.watches;
-    let answer = step.answer;
-    store_head(next, head);
-    store_numbers(records, watches);
-    *turn = [step.next, step.count, flag_of(step.over)];
-    number_of(answer)
+    store_head(step.turn.head, head);
+    store_numbers(step.turn.watches, watches);
+    *turn = [step.next, step.turn.count, usize::from(step.over)];
+    number_of(step.turn.answer)
 }

@@ -9,6 +9,7 @@ ghost use Rattle.host_cells.specs.Cells.{head_in, records_in, Answered, Hands, C
 use head::Head;
 use host_cells::{head_of, number_of, records_of, store_head, store_records};
 use host_loans::short_answer;
+use lent_tables::{LentTables, LentTablesMut};
 
 // Begins a new book. A refused opening leaves the head, so that the book before it goes on.
 #[unsafe(no_mangle)]
@@ -34,26 +35,25 @@ pub extern "C" fn bqb_open(
     if watches.len() < 16 {
         return short_answer(Head::fresh(dimensions, capacity, directions));
     }
-    let made = book_by_value::open(
-        dimensions,
-        capacity,
-        directions,
+    let mut tables = LentTablesMut {
         columns,
         positions,
         lower_ends,
         upper_ends,
+    };
+    let made = book_by_value::open(
+        dimensions,
+        capacity,
+        directions,
+        &mut tables,
         records_of(watches),
     );
-    let reply = made.reply;
-    let answer = reply.answer;
-    let number = number_of(answer);
+    let number = number_of(made.reply.answer);
     if 0 < number {
         return number;
     }
-    let fresh = reply.head;
-    let records = made.records;
-    store_head(fresh, head);
-    store_records(records, watches);
+    store_head(made.reply.head, head);
+    store_records(made.records, watches);
     number
 }
 
@@ -82,21 +82,16 @@ pub extern "C" fn bqb_quote(
         *count = 0;
         return short_answer(before);
     }
-    let taken = book_by_value::quote(
-        before,
-        quote,
+    let mut tables = LentTablesMut {
         columns,
         positions,
         lower_ends,
         upper_ends,
-        records_of(watches),
-        out,
-    );
-    let next = taken.head;
-    let answer = taken.answer;
-    store_head(next, head);
+    };
+    let taken = book_by_value::quote(before, quote, &mut tables, records_of(watches), out);
+    store_head(taken.head, head);
     *count = taken.count;
-    number_of(answer)
+    number_of(taken.answer)
 }
 
 // Previews a quote: writes the changes that it would bring, and hands back how many bytes, and the live and held rows that it would leave.
@@ -127,20 +122,15 @@ pub extern "C" fn bqb_preview(
         *held = before.held;
         return short_answer(before);
     }
-    let effect = book_by_value::preview(
-        before,
-        quote,
+    let tables = LentTables {
         columns,
         positions,
         lower_ends,
         upper_ends,
-        records_of(watches),
-        out,
-    );
-    let reply = effect.reply;
-    let answer = reply.answer;
-    *count = reply.count;
+    };
+    let effect = book_by_value::preview(before, quote, &tables, records_of(watches), out);
+    *count = effect.reply.count;
     *live = effect.live;
     *held = effect.held;
-    number_of(answer)
+    number_of(effect.reply.answer)
 }

@@ -7,6 +7,7 @@ ghost use Rattle.host_cells.specs.Cells.{head_in, desk_of, records_in, Answered,
 
 use host_cells::{desk_of, head_of, number_of, records_of, store_head, store_records};
 use host_loans::short_answer;
+use lent_tables::LentTables;
 
 // Sets a desk's watch of n and writes a join for each position of its list; hands back how many bytes.
 #[unsafe(no_mangle)]
@@ -33,27 +34,19 @@ pub extern "C" fn bqb_set_watch(
         *count = 0;
         return short_answer(before);
     }
-    let whose = desk_of(desk);
-    let made = book_by_value::watch(
-        before,
-        whose,
-        n,
+    let tables = LentTables {
         columns,
         positions,
         lower_ends,
         upper_ends,
-        records_of(watches),
-        out,
-    );
-    let joined = made.reply;
-    let answer = joined.answer;
-    *count = joined.count;
-    let number = number_of(answer);
+    };
+    let made = book_by_value::watch(before, desk_of(desk), n, &tables, records_of(watches), out);
+    *count = made.reply.count;
+    let number = number_of(made.reply.answer);
     if 0 < number {
         return number;
     }
-    let records = made.records;
-    store_records(records, watches);
+    store_records(made.records, watches);
     number
 }
 
@@ -78,25 +71,18 @@ pub extern "C" fn bqb_end_watch(
     if watches.len() < 16 {
         return short_answer(before);
     }
-    let owner = desk_of(desk);
-    let made = book_by_value::end(
-        before,
-        owner,
-        n,
+    let tables = LentTables {
         columns,
         positions,
         lower_ends,
         upper_ends,
-        records_of(watches),
-    );
-    let reply = made.reply;
-    let answer = reply.answer;
-    let refusal = number_of(answer);
+    };
+    let made = book_by_value::end(before, desk_of(desk), n, &tables, records_of(watches));
+    let refusal = number_of(made.reply.answer);
     if 0 < refusal {
         return refusal;
     }
-    let records = made.records;
-    store_records(records, watches);
+    store_records(made.records, watches);
     refusal
 }
 
@@ -124,22 +110,16 @@ pub extern "C" fn bqb_set_pair(
         *count = 0;
         return short_answer(before);
     }
-    let reply = book_by_value::pair(
-        before,
-        n1,
-        n2,
+    let tables = LentTables {
         columns,
         positions,
         lower_ends,
         upper_ends,
-        records_of(watches),
-        out,
-    );
-    let paired = reply.head;
-    let answer = reply.answer;
-    store_head(paired, head);
+    };
+    let reply = book_by_value::pair(before, n1, n2, &tables, records_of(watches), out);
+    store_head(reply.head, head);
     *count = reply.count;
-    number_of(answer)
+    number_of(reply.answer)
 }
 
 // Ends the watch of the pair.
@@ -160,10 +140,13 @@ pub extern "C" fn bqb_end_pair(
     if watches.len() < 16 {
         return short_answer(before);
     }
-    let records = records_of(watches);
-    let left = book_by_value::unpair(before, columns, positions, lower_ends, upper_ends, records);
-    let unpaired = left.head;
-    let answer = left.answer;
-    store_head(unpaired, head);
-    number_of(answer)
+    let tables = LentTables {
+        columns,
+        positions,
+        lower_ends,
+        upper_ends,
+    };
+    let left = book_by_value::unpair(before, &tables, records_of(watches));
+    store_head(left.head, head);
+    number_of(left.answer)
 }

@@ -4,5 +4,7 @@ use Rattle.book.proofs.open.Goals as goal
 
 pub returns : goal.returns
 returns c =
-    open_stored _ c.numbers-before.ensures c.args.dimensions c.args.capacity c.args.directions _ c.open-made.result.watches c.open-made.ensures.watches_len c.store.ensures
-    c.open-made.ensures.opened
+    record {
+      same_loan = c.open-made.ensures.same_loan;
+      made = open_stored _ c.numbers-before.ensures c.args.dimensions c.args.capacity c.args.directions _ c.open-made.result.watches c.open-made.ensures.watches_len c.store.ensures c.open-made.ensures.opened;
+    }

@@ -1,21 +1,19 @@
--- `audit` meets its contract: each return is one case of what the audit finds, and the cells of the columns have 32 bits, as their type says.
+-- `audit` meets its contract: each return is one case of what the audit finds.
 use mathlib.Core.Path.{sym, ◌∙◌}
-use native.Mathlib.Omega.{arith}
 use Rattle.head.proofs.Settings.{settings_within}
-use Rattle.model_audit.specs.Audit.{finding_of}
 use Rattle.model_audit.proofs.Audit.{audited}
 use Rattle.call_judging.proofs.Answering.{long_enough}
-use Rattle.book_audit.proofs.Verdicts.{wrong_settings, too_short_lem, by_rules}
+use Rattle.book_audit.proofs.Verdicts.{wrong_settings, too_short_lem, by_verdict}
 use Rattle.book_audit.proofs.audit.Goals as goal
 
 pub returns-then-not-settings_hold : goal.returns-then-not-settings_hold
 returns-then-not-settings_hold c =
-    audited _ _ (λ i. omega (arith, c.shared_slice_known-1.given i)) _
+    audited _ _ c.know_small.ensures _
     (sym (wrong_settings _ _ (sym c.settings_hold.ensures ∙ c.if-not-settings_hold.true)))
 
 pub returns-then-short_tables : goal.returns-then-short_tables
 returns-then-short_tables c =
-    audited _ _ (λ i. omega (arith, c.shared_slice_known-1.given i)) _
+    audited _ _ c.know_small.ensures _
     (sym (too_short_lem _ _ (sym c.settings_hold.ensures ∙ c.if-not-settings_hold.false)
     (sym c.short_tables.ensures ∙ c.if-short_tables.true)))
 
@@ -31,16 +29,8 @@ meets_rules-requires c =
       capacity_in_bounds_3 = room.upper_ends;
     }
 
-pub returns-then-meets_rules : goal.returns-then-meets_rules
-unfolding finding_of
-returns-then-meets_rules c =
-    audited _ _ (λ i. omega (arith, c.shared_slice_known-1.given i)) _
-    (sym (by_rules _ _ (sym c.settings_hold.ensures ∙ c.if-not-settings_hold.false)
-    (sym c.short_tables.ensures ∙ c.if-short_tables.false) _ (sym c.meets_rules.ensures ∙ c.if-meets_rules.true)))
-
 pub returns : goal.returns
-unfolding finding_of
 returns c =
-    audited _ _ (λ i. omega (arith, c.shared_slice_known-1.given i)) _
-    (sym (by_rules _ _ (sym c.settings_hold.ensures ∙ c.if-not-settings_hold.false)
-    (sym c.short_tables.ensures ∙ c.if-short_tables.false) _ (sym c.meets_rules.ensures ∙ c.if-meets_rules.false)))
+    audited _ _ c.know_small.ensures _
+    (by_verdict _ _ (sym c.settings_hold.ensures ∙ c.if-not-settings_hold.false)
+    (sym c.short_tables.ensures ∙ c.if-short_tables.false) c.meets_rules.ensures)

@@ -9,4 +9,10 @@ returns-then-watches-lt16 c = both_short_told c.head_of-before.ensures c.args.wa
 pub returns : goal.returns
 returns c =
     let lent = lent_eight c.records_of.result c.args.watches.now c.records_of.ensures c.if-watches-lt16.false in
-    both_told c.head_of-before.ensures lent c.both-made.ensures c.number_of.ensures c.store_head.ensures refl
+    let made = c.both-made.ensures in
+    let columns = c.columns-1.given.1.1 made.same_loan.0 in
+    let positions = c.positions-1.given.1.1 made.same_loan.1 in
+    let lower_ends = c.lower_ends-1.given.1.1 made.same_loan.2 in
+    let upper_ends = c.upper_ends-1.given.1.1 made.same_loan.3 in
+    rw (columns, positions, lower_ends, upper_ends)
+    (both_told c.head_of-before.ensures lent made.made c.number_of.ensures c.store_head.ensures refl)

@@ -5,8 +5,8 @@ use Rattle.host_loans.proofs.short_answer.Goals as goal
 
 pub returns-then-settings_hold : goal.returns-then-settings_hold
 unfolding short_loan_answer first_of
-returns-then-settings_hold c = rw (← c.settings_hold.ensures, c.if-settings_hold.true)
+returns-then-settings_hold c = rw (← c.settings_hold.ensures, c.if-settings_hold.true) c.number.ensures
 
 pub returns : goal.returns
 unfolding short_loan_answer first_of
-returns c = rw (← c.settings_hold.ensures, c.if-settings_hold.false)
+returns c = rw (← c.settings_hold.ensures, c.if-settings_hold.false) c.number-2.ensures

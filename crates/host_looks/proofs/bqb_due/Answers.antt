@@ -4,4 +4,4 @@ use Rattle.host_looks.proofs.Told.{due_told}
 use Rattle.host_looks.proofs.bqb_due.Goals as goal
 
 pub returns : goal.returns
-returns c = due_told c.head_of-held.ensures c.due-rows.ensures c.number_of.ensures refl
+returns c = due_told c.head_of.ensures c.due-rows.ensures c.number_of.ensures refl

@@ -4,4 +4,4 @@ use Rattle.host_looks.proofs.Told.{look_told_lem}
 use Rattle.host_looks.proofs.bqb_look.Goals as goal
 
 pub returns : goal.returns
-returns c = look_told_lem c.head_of-held.ensures c.look-listed.ensures c.number_of.ensures refl
+returns c = look_told_lem c.head_of.ensures c.look-listed.ensures c.number_of.ensures refl

@@ -7,5 +7,5 @@ returns-then-watches-lt16 c = unpair_short_told c.head_of-before.ensures c.args.
 
 pub returns : goal.returns
 returns c =
-    let lent = lent_eight c.records_of-records.result c.args.watches.now c.records_of-records.ensures c.if-watches-lt16.false in
+    let lent = lent_eight c.records_of.result c.args.watches.now c.records_of.ensures c.if-watches-lt16.false in
     unpair_told c.head_of-before.ensures lent c.unpair-left.ensures c.number_of.ensures c.store_head.ensures

@@ -14,7 +14,7 @@ returns-then-watches-lt16 c =
 pub returns-then-refusal-gt0 : goal.returns-then-refusal-gt0
 returns-then-refusal-gt0 c =
     let lent = lent_eight c.records_of.result c.args.watches.now c.records_of.ensures c.if-watches-lt16.false in
-    let made = end_desk c.desk_of-owner.ensures c.end-made.ensures in
+    let made = end_desk c.desk_of.ensures c.end-made.ensures in
     record {
       answered = end_refused c.head_of-before.ensures lent made c.number_of-refusal.ensures c.if-refusal-gt0.true;
       only_eight = untouched;
@@ -24,7 +24,7 @@ pub returns : goal.returns
 returns c =
     let lent = lent_eight c.records_of.result c.args.watches.now c.records_of.ensures c.if-watches-lt16.false in
     let kept = lent_eight _ c.store_records.new.cells (sym c.store_records.ensures.cells_after) (omega (arith, c.store_records.auto.cells, c.if-watches-lt16.false)) in
-    let made = end_desk c.desk_of-owner.ensures c.end-made.ensures in
+    let made = end_desk c.desk_of.ensures c.end-made.ensures in
     record {
       answered = end_told c.head_of-before.ensures lent made c.number_of-refusal.ensures kept;
       only_eight = changed (omega (arith, c.if-refusal-gt0.false)) c.store_records.ensures.cells_unchanged;

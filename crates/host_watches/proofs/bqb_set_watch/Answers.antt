@@ -14,7 +14,7 @@ returns-then-watches-lt16 c =
 pub returns-then-number-gt0 : goal.returns-then-number-gt0
 returns-then-number-gt0 c =
     let lent = lent_eight c.records_of.result c.args.watches.now c.records_of.ensures c.if-watches-lt16.false in
-    let made = watch_desk c.desk_of-whose.ensures c.watch-made.ensures in
+    let made = watch_desk c.desk_of.ensures c.watch-made.ensures in
     record {
       answered = watch_refused c.head_of-before.ensures lent made c.number_of-number.ensures c.if-number-gt0.true refl;
       only_eight = untouched;
@@ -24,7 +24,7 @@ pub returns : goal.returns
 returns c =
     let lent = lent_eight c.records_of.result c.args.watches.now c.records_of.ensures c.if-watches-lt16.false in
     let kept = lent_eight _ c.store_records.new.cells (sym c.store_records.ensures.cells_after) (omega (arith, c.store_records.auto.cells, c.if-watches-lt16.false)) in
-    let made = watch_desk c.desk_of-whose.ensures c.watch-made.ensures in
+    let made = watch_desk c.desk_of.ensures c.watch-made.ensures in
     record {
       answered = watch_told c.head_of-before.ensures lent made c.number_of-number.ensures refl kept;
       only_eight = changed (omega (arith, c.if-number-gt0.false)) c.store_records.ensures.cells_unchanged;

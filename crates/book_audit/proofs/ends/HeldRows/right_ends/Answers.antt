@@ -1,7 +1,6 @@
 -- `right_ends` meets its contract: each turn judges one row.
-use Prim.Native.Nat.{◌-◌}
 use Rattle.book_audit.proofs.Judging.{start, more, finish}
-use Rattle.book_audit.proofs.right_ends.Goals as goal
+use Rattle.book_audit.proofs.ends.HeldRows.right_ends.Goals as goal
 
 pub loop-i-init : goal.loop-i-init
 loop-i-init c = start
