@@ -1,19 +1,18 @@
 -- How a file is cut: bytes of fields are part of their line, CR LF ends it.
-use mathlib.Core.Path.{◌≡◌, refl, sym, ap, ◌∙◌}
+use mathlib.Core.Path.{◌≡◌, refl, ap, ◌∙◌}
 use mathlib.Core.Logic.{◌⊎◌, inl, inr}
-use Prim.Native.Nat.{ℕ, zero, suc, ◌+◌, ◌-◌, ◌≤◌, ◌<◌}
+use Prim.Native.Nat.{ℕ}
 use native.Mathlib.Omega.{arith}
-use mathlib.Core.Bool.{Bool, true, false, ◌&&◌, ◌||◌, not, cond}
+use mathlib.Core.Bool.{Bool, true, false, ◌&&◌, cond}
 use mathlib.Core.List.{List, [], ◌∷◌, ◌++◌, append-nil}
 use lib.Dec.{eqb, leb}
-use lib.ListN.{length}
 use borrow.Author.Tests.{ne_eqb, eqb-true, leb-true}
-use Rattle.lists.proofs.Booleans.{either, clash, refute, and_left, and_right, and_false, both, or_cases}
+use Rattle.lists.proofs.Booleans.{either, clash, and_left, and_right, or_cases}
 use Rattle.line_fields.specs.declared.Fields.{Fields}
 use Rattle.line_fields.specs.Fields.{no_field, one_field, scan_of, fields_by, begun, step, after, fields_from, in_fields, field_bytes}
 use Rattle.line_fields.proofs.Invalid.{broken, broken_invalid, after_foreign, invalid_stays}
 use Rattle.line_fields.proofs.Spelled.{fields_append}
-use Rattle.csv_frames.specs.Lines.{ahead, lines, line_fields, fits, uncut}
+use Rattle.csv_frames.specs.Lines.{ahead, lines, line_fields, fits}
 
 -- ---- bytes of fields
 

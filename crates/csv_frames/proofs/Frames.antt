@@ -1,28 +1,28 @@
 -- The frames of lines: how long they are, and laying them one behind the other.
 use mathlib.Core.Path.{◌≡◌, refl, sym, ap, ◌∙◌}
-use Prim.Native.Nat.{ℕ, zero, suc, ◌+◌, ◌-◌, ◌*◌, ◌≤◌, ◌<◌}
+use Prim.Native.Nat.{ℕ, ◌+◌, ◌-◌, ◌*◌, ◌≤◌}
 use native.Mathlib.Omega.{arith}
 use native.Mathlib.Nat.{suc-mul, zero-mul}
-use mathlib.Core.Bool.{Bool, true, false, ◌&&◌, not, cond}
+use mathlib.Core.Bool.{true}
 use mathlib.Core.List.{List, [], ◌∷◌, ◌++◌, map, append_assoc, append-nil}
-use lib.Dec.{leb, ltb, eqb}
-use lib.ListN.{length, drop, set, length-append, length-set, drop_of_length-le}
-use borrow.Author.Tests.{le-leb, le-ltb, not-false}
+use lib.ListN.{length, drop, length-append, length-set, drop_of_length-le}
+use borrow.Author.Tests.{le-ltb}
 use borrow.Rule.Slice.PartMut.{mid_of, put_mid}
 use Rattle.lists.specs.Lists.{flat, laid}
-use Rattle.lists.proofs.Booleans.{and_left, and_right}
+use Rattle.lists.proofs.Booleans.{clash, and_left, and_right}
 use Rattle.lists.proofs.Laying.{Front, front_none, front_rest, front_room, front_more}
 use Rattle.refusals.specs.Refusals.{first_of, granted}
-use Rattle.frame_kinds.specs.declared.Shape.TheVariants as Shape
-use Rattle.frame_kinds.specs.Kinds.{within, has_shape, body_length}
+use Rattle.frame_kinds.specs.Kinds.{has_shape}
 use Rattle.frame_kinds.proofs.Shapes.{quote_shape, quote_body}
 use Rattle.frames.specs.declared.Message.TheVariants.{Quote}
 use Rattle.frames.specs.Frames.{framed, frame}
 use Rattle.frames.proofs.FrameSizes.{frame_size}
-use Rattle.frame_writer.specs.declared.Written.{Written}
-use Rattle.frame_writer.specs.Writing.{write_answer, Wrote}
+use Rattle.refusals.specs.declared.Refusal.{Refusal}
+use Rattle.std.specs.Prelude.{Result, Ok, Err, Some, None}
+use Rattle.std.specs.Result.{result_unwrap_or}
+use Rattle.frame_writer.specs.Writing.{write_answer, count_of, Wrote}
 use Rattle.line_fields.specs.declared.Fields.{Fields}
-use Rattle.line_fields.specs.Fields.{no_field, scan_of, fields_by, step, after, fields_from}
+use Rattle.line_fields.specs.Fields.{no_field, fields_by, after, fields_from}
 use Rattle.csv_frames.specs.Lines.{lines, line_fields, fits, all_fit}
 use Rattle.csv_frames.specs.declared.Line.{Line}
 use Rattle.csv_frames.specs.Imports.{line_frame, frames_of}
@@ -78,22 +78,20 @@ pub record Writing (d : ℕ) (file entry out : List ℕ) (at used : ℕ) : Type 
 pub writing_start : (d : ℕ) (file entry : List ℕ) → Ready d file entry → Writing d file entry entry 0 0
 writing_start d file entry v = record { ready = v; inside = omega arith; done = []; whole = refl; fit = v.fit; front = front_none entry }
 
+-- how many bytes were written, none where the writer refused
+counted : (r : Result ℕ Refusal) → result_unwrap_or r 0 ≡ count_of r
+counted (Ok count) = refl
+counted (Err k) = refl
+
 -- the frame that the writer lays where there is room
-wrote_frame : (d : ℕ) → framed (Quote d) ≡ true → {columns before after : List ℕ} {r : Written} → length (frame (Quote d) columns) ≤ length before
-    → Wrote (Quote d) columns before r after → (r.count ≡ length (frame (Quote d) columns)) × (after ≡ laid (frame (Quote d) columns) before)
+wrote_frame : (d : ℕ) → framed (Quote d) ≡ true → {columns before after : List ℕ} {r : Result ℕ Refusal} → length (frame (Quote d) columns) ≤ length before
+    → Wrote (Quote d) columns before r after → (count_of r ≡ length (frame (Quote d) columns)) × (after ≡ laid (frame (Quote d) columns) before)
 unfolding write_answer first_of granted
 wrote_frame d f {columns} {before} h w =
     let fine = le-ltb (length before) (length (frame (Quote d) columns)) h in
     (w.count ∙ rw (f, fine), w.bytes ∙ rw (f, fine))
 
-module _ {d : ℕ} {file entry out : List ℕ} {at used : ℕ} (v : Writing d file entry out at used) {r : Line} (a : LineAt d file at r) where
-  line_fits : fits d a.line ≡ true
-  unfolding all_fit
-  line_fits = and_left (fits d a.line) (all_fit d a.others) (ap (all_fit d) (sym a.cut) ∙ v.fit)
-
-  read_fits : r.fits ≡ true
-  read_fits = a.fitting ∙ line_fits
-
+module _ {d : ℕ} {file entry out : List ℕ} {at used : ℕ} (v : Writing d file entry out at used) {r : Line} (a : LineAt d file at (Some r)) where
   -- the frame of the line
   abbrev piece : List ℕ
   piece = frame (Quote d) r.numbers
@@ -102,7 +100,7 @@ module _ {d : ℕ} {file entry out : List ℕ} {at used : ℕ} (v : Writing d fi
   unfolding frames_of line_frame flat
   piece_next =
       v.whole ∙ ap (λ (ls : List (List ℕ)). v.done ++ frames_of d ls) a.cut
-      ∙ ap (λ (l : List ℕ). v.done ++ (frame (Quote d) l ++ frames_of d a.others)) (sym (a.numbers read_fits))
+      ∙ ap (λ (l : List ℕ). v.done ++ (frame (Quote d) l ++ frames_of d a.others)) (sym a.read.numbers)
       ∙ sym (append_assoc v.done piece (frames_of d a.others))
 
   piece_room : length (v.done ++ piece) ≤ length entry
@@ -115,28 +113,33 @@ module _ {d : ℕ} {file entry out : List ℕ} {at used : ℕ} (v : Writing d fi
   pub used_inside : used ≤ length out
   used_inside = omega (arith, front_room v.front piece piece_room)
 
-  module _ {last : List ℕ} {written : Written} (w : Wrote (Quote d) r.numbers (mid_of used (length out - used) out) written last) where
-    wrote : (written.count ≡ length piece) × (last ≡ laid piece (mid_of used (length out - used) out))
-    wrote = wrote_frame d (quote_framed d v.ready.least v.ready.most) (front_rest v.front piece piece_room) w
+  module _ {last : List ℕ} {written : Result ℕ Refusal} (w : Wrote (Quote d) r.numbers (mid_of used (length out - used) out) written last) {count : ℕ} (n : count ≡ result_unwrap_or written 0) where
+    wrote : (count ≡ length piece) × (last ≡ laid piece (mid_of used (length out - used) out))
+    wrote =
+        let held = wrote_frame d (quote_framed d v.ready.least v.ready.most) (front_rest v.front piece piece_room) w in
+        (n ∙ counted written ∙ held.0, held.1)
 
-    pub written_room : used + written.count ≤ length out
+    pub written_room : used + count ≤ length out
     written_room = omega (arith, front_room v.front piece piece_room, wrote.0)
 
     -- one more frame
-    pub writing_more : Writing d file entry (put_mid used (length out - used) out last) r.next (used + written.count)
+    pub writing_more : Writing d file entry (put_mid used (length out - used) out last) r.next (used + count)
     unfolding all_fit
     writing_more =
         record {
           ready = v.ready;
-          inside = a.inside;
+          inside = a.read.inside;
           done = v.done ++ piece;
-          whole = piece_next ∙ ap (λ (ls : List (List ℕ)). (v.done ++ piece) ++ frames_of d ls) (sym (a.next read_fits));
-          fit = ap (all_fit d) (a.next read_fits) ∙ and_right (fits d a.line) (all_fit d a.others) (ap (all_fit d) (sym a.cut) ∙ v.fit);
+          whole = piece_next ∙ ap (λ (ls : List (List ℕ)). (v.done ++ piece) ++ frames_of d ls) (sym a.read.next);
+          fit = ap (all_fit d) a.read.next ∙ and_right (fits d a.line) (all_fit d a.others) (ap (all_fit d) (sym a.cut) ∙ v.fit);
           front = front_more v.front piece piece_room wrote.0 wrote.1;
         }
 
-  pub writing_onward : at < r.next
-  writing_onward = a.onward read_fits
+-- every line is read
+pub writing_none : {d : ℕ} {file entry out : List ℕ} {at used : ℕ} → Writing d file entry out at used → LineAt d file at None → ⊥
+unfolding all_fit
+writing_none {d} v a =
+    clash (fits d a.line) (and_left (fits d a.line) (all_fit d a.others) (ap (all_fit d) (sym a.cut) ∙ v.fit)) (sym a.fitting)
 
 -- all frames are laid
 pub writing_end : {d : ℕ} {file entry out : List ℕ} {at used : ℕ} → Writing d file entry out at used → length file ≤ at

@@ -1,23 +1,22 @@
 -- A line fits exactly if it is what is printed of some d numbers, and a file whose lines all fit spells their quotes.
 use mathlib.Core.Path.{◌≡◌, refl, sym, ap, ap₂, ◌∙◌}
-use mathlib.Core.Logic.{◌⊎◌, inl, inr}
-use Prim.Native.Nat.{ℕ, zero, suc, ◌+◌, ◌-◌, ◌≤◌, ◌<◌}
+use Prim.Native.Nat.{ℕ, ◌+◌, ◌-◌, ◌≤◌}
 use native.Mathlib.Omega.{arith}
-use mathlib.Core.Bool.{Bool, true, false, ◌&&◌, ◌||◌, not, cond}
+use mathlib.Core.Bool.{true, ◌&&◌, not}
 use mathlib.Core.List.{List, [], ◌∷◌, ◌++◌, map, append-nil}
 use lib.Dec.{eqb}
 use lib.ListN.{length, drop, replicate, replicate-append-replicate}
 use borrow.Author.Tests.{eqb-true, eq-eqb, not-true}
 use Rattle.lists.specs.Lists.{flat}
-use Rattle.lists.proofs.Booleans.{either, clash, both, not_of, and_left, and_right, or_right}
+use Rattle.lists.proofs.Booleans.{clash, both, and_left, and_right, or_right}
 use Rattle.text.specs.Text.{digits}
 use Rattle.line_fields.specs.declared.Fields.{Fields}
-use Rattle.line_fields.specs.Fields.{field_by, small, no_field, one_field, fields_from, in_fields, field_bytes}
+use Rattle.line_fields.specs.Fields.{field_by, small, no_field, fields_from, in_fields, field_bytes}
 use Rattle.line_fields.proofs.Spelled.{fields_of, all_read}
-use Rattle.line_fields.proofs.Unspelled.{Unspelled, unspelled}
-use Rattle.csv_frames.specs.Lines.{joined, lines, line_fields, fits, all_fit, uncut, all_uncut, full, last_full, Cut}
+use Rattle.line_fields.proofs.Unspelled.{unspelled}
+use Rattle.csv_frames.specs.Lines.{joined, lines, line_fields, fits, all_fit, uncut, all_uncut, full, last_full}
 use Rattle.csv_frames.specs.Spelling.{row, quotes_of, Spells}
-use Rattle.csv_frames.proofs.Cutting.{plain, Stop, end, foreign, Fronted, fronted, front_plain, line_fields_lem, foreign_misfit, no_return, none_misfit}
+use Rattle.csv_frames.proofs.Cutting.{plain, Stop, end, foreign, fronted, front_plain, foreign_misfit, no_return, none_misfit}
 use Rattle.csv_frames.proofs.Unique.{cut_lines, lines_joined}
 
 -- ---- rows

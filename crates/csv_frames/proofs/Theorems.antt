@@ -4,29 +4,27 @@ use mathlib.Core.Path.{◌≡◌, refl, sym, ap, ap₂, ◌∙◌}
 use mathlib.Core.Logic.{◌⊎◌, inl, inr, ◌↔◌}
 use Prim.Native.Nat.{ℕ, zero, suc, ◌+◌, ◌-◌, ◌*◌, ◌≤◌, ◌<◌}
 use native.Mathlib.Omega.{arith}
-use native.Mathlib.Nat.{add-zero, suc-add}
 use mathlib.Core.Bool.{Bool, true, false, ◌&&◌, not, cond}
 use mathlib.Core.List.{List, [], ◌∷◌, ◌++◌, map}
-use lib.Dec.{leb, ltb, eqb}
+use lib.Dec.{ltb, eqb}
 use lib.ListN.{length, get_or, take, replicate}
 use lib.Seq.{take_at, take_all}
-use borrow.Author.Tests.{ltb-true, ltb-false, lt-ltb, le-ltb, eqb-true, eqb-false, eq-eqb, ne_eqb}
+use borrow.Author.Tests.{ltb-true, lt-ltb, le-ltb, eqb-true, eq-eqb, ne_eqb}
 use Rattle.lists.specs.Lists.{flat}
-use Rattle.lists.proofs.Booleans.{either, clash, both, and_left, and_right}
+use Rattle.lists.proofs.Booleans.{either, both, and_left, and_right}
 use Rattle.lists.proofs.Filters.{flat_append, map-append}
 use Rattle.refusals.specs.Refusals.{first_of}
 use Rattle.octets.specs.Bytes.{bytes4}
 use Rattle.frame_kinds.specs.Kinds.{within}
 use Rattle.frame_kinds.proofs.Shapes.{within_bounds}
 use Rattle.frames.specs.declared.Message.TheVariants.{Quote}
-use Rattle.frames.specs.Frames.{frame, Saying, told, Reading, read_at}
-use Rattle.frames.specs.Messages.{Writable}
+use Rattle.frames.specs.Frames.{frame, told, read_at}
 use Rattle.frames.proofs.RoundTrips.{read_after_write}
 use Rattle.line_fields.specs.Fields.{small}
 use Rattle.line_fields.specs.declared.Fields.{Fields}
 use Rattle.line_fields.proofs.Spelled.{fields_of}
 use Rattle.csv_frames.specs.Lines.{lines, line_fields, fits, all_fit}
-use Rattle.csv_frames.specs.Spelling.{row, quotes_of, Spells}
+use Rattle.csv_frames.specs.Spelling.{row, quotes_of}
 use Rattle.csv_frames.proofs.Rows.{row_fields, spelled_lines, quotes_of_lem, lines_spelled}
 use Rattle.csv_frames.specs.Imports.{misfit_from, misfit, line_frame, frames_of, import_answer, import_line, SpelledAs, FirstMisfit}
 use Rattle.csv_frames.proofs.Frames.{quote_framed, quote_long, frames_long}

@@ -1,15 +1,15 @@
 -- What the import of a file hands back and leaves: its answer by 02's numbers, the first line that does not fit, and the frames.
-use Rattle.std.specs.Prelude.{ℕ, suc, ◌+◌, ◌*◌, ◌<◌, ◌≡◌, Bool, true, false, not, cond, List, [], ◌∷◌, ◌++◌, map, ltb, eqb, length, get_or, take}
+use Rattle.std.specs.Prelude.{ℕ, suc, ◌<◌, ◌≡◌, true, false, not, cond, List, [], ◌∷◌, map, ltb, eqb, length, get_or, take, Result, Ok, Err}
 use Rattle.lists.specs.Lists.{flat, laid}
+use Rattle.refusals.specs.declared.Refusal.{Refusal}
 use Rattle.refusals.specs.declared.Refusal.TheVariants.{Settings, MalformedLine, ShortOutput}
-use Rattle.refusals.specs.Refusals.{number, number_of, first_of, granted}
+use Rattle.refusals.specs.Refusals.{number, first_of, granted}
 use Rattle.frame_kinds.specs.Kinds.{within}
 use Rattle.frames.specs.declared.Message.TheVariants.{Quote}
 use Rattle.frames.specs.Frames.{frame}
-use Rattle.line_fields.specs.declared.Fields.{Fields}
 use Rattle.csv_frames.specs.Lines.{lines, line_fields, fits, all_fit}
 use Rattle.csv_frames.specs.Spelling.{Spells}
-use Rattle.csv_frames.specs.declared.Imported.{Imported}
+use Rattle.csv_frames.specs.declared.NotImported.{NotImported}
 
 -- the number of the first of these lines that does not fit, where they are counted from this number on; 0 where all fit
 unfoldable pub misfit_from : ℕ → ℕ → List (List ℕ) → ℕ
@@ -42,11 +42,32 @@ import_answer d file room =
 unfoldable pub import_line : ℕ → List ℕ → ℕ → ℕ
 import_line d file room = cond (eqb (import_answer d file room) (number MalformedLine)) (misfit d file) 0
 
+-- the refusal of a file that is not imported
+abbrev pub refusal_of : NotImported → Refusal
+refusal_of NotImported.Settings = Settings
+refusal_of (NotImported.MalformedLine line) = MalformedLine
+refusal_of NotImported.ShortOutput = ShortOutput
+
+-- the number of an answer: 0 for a file that is imported
+abbrev pub answer_of : Result ℕ NotImported → ℕ
+answer_of (Ok count) = 0
+answer_of (Err reason) = number (refusal_of reason)
+
+-- how many bytes were imported
+abbrev pub count_of : Result ℕ NotImported → ℕ
+count_of (Ok count) = count
+count_of (Err reason) = 0
+
+-- the number of the line that is named, 0 where none is
+abbrev pub line_of : Result ℕ NotImported → ℕ
+line_of (Err (NotImported.MalformedLine line)) = line
+line_of r = 0
+
 -- what the import promises of its answer, count and line, and of what it leaves in the output
-pub record Imports (d : ℕ) (file before : List ℕ) (r : Imported) (after : List ℕ) : Type 0 where
-  pub answer : number_of r.answer ≡ import_answer d file (length before)
-  pub count : r.count ≡ granted (import_answer d file (length before)) (length (frames_of d (lines file))) 0
-  pub line : r.line ≡ import_line d file (length before)
+pub record Imports (d : ℕ) (file before : List ℕ) (r : Result ℕ NotImported) (after : List ℕ) : Type 0 where
+  pub answer : answer_of r ≡ import_answer d file (length before)
+  pub count : count_of r ≡ granted (import_answer d file (length before)) (length (frames_of d (lines file))) 0
+  pub line : line_of r ≡ import_line d file (length before)
   pub bytes : after ≡ granted (import_answer d file (length before)) (laid (frames_of d (lines file)) before) before
 
 -- ---- what the theorems speak of

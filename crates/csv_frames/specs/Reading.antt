@@ -1,9 +1,9 @@
 -- What the parts of the import promise each other: the line at a place, and the judgement of a file.
-use Rattle.std.specs.Prelude.{ℕ, ◌+◌, ◌-◌, ◌≤◌, ◌<◌, ◌≡◌, Bool, true, false, ◌&&◌, cond, List, [], ◌∷◌, ltb, eqb, length, drop}
-use Rattle.refusals.specs.Refusals.{granted}
+use Rattle.std.specs.Prelude.{ℕ, ◌+◌, ◌-◌, ◌≤◌, ◌<◌, ◌≡◌, Bool, true, false, ◌&&◌, cond, List, [], ◌∷◌, ltb, eqb, length, drop, Option, is_some, IfSome, Result, Ok, Err}
 use Rattle.csv_frames.specs.Lines.{lines, line_fields, fits, all_fit}
 use Rattle.csv_frames.specs.declared.Line.{Line}
-use Rattle.csv_frames.specs.declared.Judged.{Judged}
+use Rattle.csv_frames.specs.declared.NotImported.{NotImported}
+use Rattle.csv_frames.specs.declared.NotImported.TheVariants.{MalformedLine}
 use Rattle.csv_frames.specs.Imports.{misfit, frames_of}
 
 -- a line ends here: nothing is left, or CR LF stands at the front
@@ -16,20 +16,24 @@ line_ends (byte ∷ next ∷ bytes) = eqb byte 13 && eqb next 10
 unfoldable pub behind_end : List ℕ → ℕ → ℕ
 behind_end file end = cond (ltb (length file - end) 2) (length file) (end + 2)
 
--- the first line from a place on: whether it fits, and if so, its numbers and where the others begin
-pub record LineAt (d : ℕ) (file : List ℕ) (place : ℕ) (r : Line) : Type 0 where
+-- a line that was read at a place: its numbers, and where the others begin
+pub record LineRead (file : List ℕ) (place : ℕ) (line : List ℕ) (others : List (List ℕ)) (l : Line) : Type 0 where
+  pub numbers : l.numbers ≡ (line_fields line).numbers
+  pub next : lines (drop l.next file) ≡ others
+  pub onward : place < l.next
+  pub inside : l.next ≤ length file
+
+-- the first line from a place on: it is read exactly if it fits
+pub record LineAt (d : ℕ) (file : List ℕ) (place : ℕ) (r : Option Line) : Type 0 where
   pub line : List ℕ
   pub others : List (List ℕ)
   pub cut : lines (drop place file) ≡ line ∷ others
-  pub fitting : r.fits ≡ fits d line
-  pub numbers : r.fits ≡ true → r.numbers ≡ (line_fields line).numbers
-  pub next : r.fits ≡ true → lines (drop r.next file) ≡ others
-  pub onward : r.fits ≡ true → place < r.next
-  pub inside : r.next ≤ length file
+  pub fitting : is_some r ≡ fits d line
+  pub read : IfSome r (LineRead file place line others)
 
--- the judgement of a file: its first misfit, and if there is none, how many lines it has
-unfoldable pub judgement : ℕ → List ℕ → Judged
-judgement d file = record { misfit = misfit d file; lines = granted (misfit d file) (length (lines file)) 0 }
+-- the judgement of a file: how many lines it has, or if any does not fit, the number of the first
+unfoldable pub judgement : ℕ → List ℕ → Result ℕ NotImported
+judgement d file = cond (eqb (misfit d file) 0) (Ok (length (lines file))) (Err (MalformedLine (misfit d file)))
 
 -- a file that can be written: d columns, every line fits, and there is room
 pub record Ready (d : ℕ) (file out : List ℕ) : Type 0 where

@@ -4,92 +4,89 @@
 ghost use Rattle.std.specs.Prelude.{◌≡◌, ◌+◌, ◌*◌, ◌≤◌, ◌<◌, length, drop};
 ghost use Rattle.lists.specs.Lists.{laid};
 ghost use Rattle.csv_frames.specs.Lines.{lines};
-ghost use Rattle.csv_frames.specs.Imports.{frames_of, Imports};
+ghost use Rattle.csv_frames.specs.Imports.{frames_of, refusal_of, Imports};
 ghost use Rattle.csv_frames.specs.Reading.{line_ends, behind_end, LineAt, judgement, Ready};
 
 use frames::Message;
-use line_fields::read_fields;
-use refusals::{Answer, Refusal};
+use line_fields::{Scanned, read_fields};
+use refusals::Refusal;
 
-// What was imported: the answer, how many bytes, and the number of the line that does not fit, 0 where none is named.
+// Why a file was not imported; a line that does not fit is named by its number from 1.
 #[derive(Clone, Copy)]
-pub struct Imported {
-    pub answer: Answer,
-    pub count: usize,
-    pub line: usize,
+pub enum NotImported {
+    Settings,
+    MalformedLine(usize),
+    ShortOutput,
 }
 
-// A line of a file: whether it fits, its numbers, and where the next begins.
+impl From<NotImported> for Refusal {
+    ghost from_gives = { λ reason refusal. refusal ≡ refusal_of reason };
+
+    // The refusal that the reason is.
+    fn from(reason: NotImported) -> Refusal {
+        match reason {
+            NotImported::Settings => Refusal::Settings,
+            NotImported::MalformedLine(_) => Refusal::MalformedLine,
+            NotImported::ShortOutput => Refusal::ShortOutput,
+        }
+    }
+}
+
+// A line of a file: its numbers, and where the next begins.
 #[derive(Clone, Copy)]
 struct Line {
-    fits: bool,
     numbers: [u32; 6],
     next: usize,
 }
 
-// The judgement of a file: the number of the first line that does not fit, 0 where all fit, and then how many lines it has.
-#[derive(Clone, Copy)]
-struct Judged {
-    misfit: usize,
-    lines: usize,
-}
-
-// Whether a line ends at a place: at the end of the file, or where CR LF stands.
-fn ends_at(file: &[u8], place: usize) -> bool
-    requires { place ≤ length file.now }
-    ensures { result ≡ line_ends (drop place file.now) }
+// Whether a line ends in front of these bytes: there are none, or CR LF stands at their front.
+#[tactic(auto, using(crate::proofs::LineLaws::ends_by))]
+fn line_ends(rest: &[u8]) -> bool
+    ensures { result ≡ line_ends rest.now }
 {
-    if file.len() - place < 2 {
-        return place == file.len();
-    }
-    (file[place] == 13) & (file[place + 1] == 10)
+    matches!(rest, [] | [b'\r', b'\n', ..])
 }
 
 // The place behind CR LF, or the end of the file.
+#[tactic(auto, unfolding(crate::specs::Reading::behind_end))]
 fn behind(file: &[u8], end: usize) -> usize
     requires { end ≤ length file.now }
     ensures { result ≡ behind_end file.now end }
 {
-    if file.len() - end < 2 {
-        return file.len();
-    }
-    end + 2
+    file.len().min(end + 2)
 }
 
-// Reads the line that begins at a place.
-fn line_at(d: u32, file: &[u8], place: usize) -> Line
+// Reads the line that begins at a place, if it fits.
+fn line_at(d: u32, file: &[u8], place: usize) -> Option<Line>
     requires { place < length file.now }
     ensures { LineAt d file.now place result }
 {
-    let scanned = read_fields(file, place, 44, true);
-    let fields = scanned.fields;
-    let numbers = fields.numbers;
-    let end = scanned.end;
-    Line {
-        fits: fields.valid & !fields.empty & (fields.count == d as usize) & ends_at(file, end),
+    let Scanned { fields, end } = read_fields(file, place, b',', true);
+    let numbers = fields.numbers_if(d as usize)?;
+    if !line_ends(&file[end..]) {
+        return None;
+    }
+    Some(Line {
         numbers,
         next: behind(file, end),
-    }
+    })
 }
 
-// Judges every line of a file, up to the first that does not fit.
-fn judge(d: u32, file: &[u8]) -> Judged
+// How many lines a file has, or the first that does not fit.
+fn judge(d: u32, file: &[u8]) -> Result<usize, NotImported>
     ensures { result ≡ judgement d file.now }
 {
+    // No `for`: the next line begins where this one was read to end.
     let mut place: usize = 0;
     let mut lines: usize = 0;
     while place < file.len() {
-        let line = line_at(d, file, place);
         lines += 1;
-        if !line.fits {
-            return Judged {
-                misfit: lines,
-                lines: 0,
-            };
-        }
+        let Some(line) = line_at(d, file, place) else {
+            return Err(NotImported::MalformedLine(lines));
+        };
         place = line.next;
     }
-    Judged { misfit: 0, lines }
+    Ok(lines)
 }
 
 // Lays the frames of a file's lines, and tells how many bytes they have.
@@ -98,50 +95,31 @@ fn write_frames(d: u32, file: &[u8], out: &mut [u8]) -> usize
     ensures { (result ≡ length (frames_of d (lines file.now)))
         × (out.new ≡ laid (frames_of d (lines file.now)) out.old) }
 {
+    // No `for` here either, for the same reason.
     let mut at: usize = 0;
     let mut used: usize = 0;
     while at < file.len() {
-        let line = line_at(d, file, at);
-        let numbers = line.numbers;
-        let written = frame_writer::write(Message::Quote(d as u8), numbers, &mut out[used..]);
-        used += written.count;
+        let Some(line) = line_at(d, file, at) else {
+            return used;
+        };
+        let written = frame_writer::write(Message::Quote(d as u8), line.numbers, &mut out[used..]);
+        used += written.unwrap_or(0);
         at = line.next;
     }
     used
 }
 
-// A refused import; the line is named with 18 alone.
-fn refused(refusal: Refusal, line: usize) -> Imported
-    ensures { result ≡ record { answer = Answer.Refused refusal; count = 0; line = line } }
-{
-    Imported {
-        answer: Answer::Refused(refusal),
-        count: 0,
-        line,
-    }
-}
-
-// Imports a file of quotes of d columns into the front of the output: 3, then 18 with the first line that does not fit, then 13.
-pub fn import(d: u32, file: &[u8], out: &mut [u8]) -> Imported
+// Imports a file of quotes of d columns into the front of the output, and tells how many bytes: 3, then 18 with the first line that does not
+// fit, then 13.
+pub fn import(d: u32, file: &[u8], out: &mut [u8]) -> Result<usize, NotImported>
     ensures { Imports d file.now out.old result out.new }
 {
-    if d < 1 {
-        return refused(Refusal::Settings, 0);
+    if d < 1 || 6 < d {
+        return Err(NotImported::Settings);
     }
-    if 6 < d {
-        return refused(Refusal::Settings, 0);
+    let lines = judge(d, file)?;
+    if out.len() / (1 + 4 * d as usize) < lines {
+        return Err(NotImported::ShortOutput);
     }
-    let judged = judge(d, file);
-    if judged.misfit != 0 {
-        return refused(Refusal::MalformedLine, judged.misfit);
-    }
-    if out.len() / (1 + 4 * d as usize) < judged.lines {
-        return refused(Refusal::ShortOutput, 0);
-    }
-    let count = write_frames(d, file, out);
-    Imported {
-        answer: Answer::Accepted,
-        count,
-        line: 0,
-    }
+    Ok(write_frames(d, file, out))
 }

@@ -8,9 +8,8 @@ use lib.ListN.{length, take, replicate}
 use Rattle.lists.specs.Lists.{flat}
 use Rattle.head.specs.declared.Head.{Head}
 use Rattle.head.specs.declared.Desk.{Desk}
-use Rattle.head.specs.declared.Desk.TheVariants.{One, Two}
-use Rattle.refusals.specs.declared.Answer.{Answer}
-use Rattle.refusals.specs.declared.Answer.TheVariants.{Accepted, Refused}
+use Rattle.head.specs.declared.Desk.TheVariants.{One}
+use Rattle.std.specs.Prelude.{Result, Ok, Err}
 use Rattle.head.specs.declared.replies.Reply.{Reply}
 use Rattle.refusals.specs.declared.Refusal.{Refusal}
 use Rattle.refusals.specs.Refusals.{number, number_of, granted}
@@ -19,14 +18,14 @@ use Rattle.head.specs.Heads.{with_pair}
 use Rattle.refusals.proofs.Numbers.{refused_granted}
 use Rattle.frames.specs.Frames.{messages_from}
 use Rattle.model.specs.Rows.{Tables}
-use Rattle.model.specs.Book.{reply_of, quote_bytes, quote_head, quote_answer, quote_reply, look_answer, look_reply, past_answer, past_reply, watch_bytes, watch_answer, watch_reply, pair_bytes, pair_answer, pair_reply}
+use Rattle.model.specs.Book.{reply_of, quote_bytes, quote_head, quote_answer, quote_reply, look_reply, past_reply, watch_bytes, watch_answer, watch_reply, pair_bytes, pair_answer, pair_reply}
 use Rattle.model.specs.Calls.{Call, book_seen, head_after, world_after, book_step}
 use Rattle.model.specs.Promises.{Opened, Quoted, Looked, PastLooked, Watched, Ended, Paired, Unpaired}
-use Rattle.text.specs.Text.{line, line2, Laid}
+use Rattle.text.specs.Text.{line, Laid}
 use Rattle.line_changes.specs.Printed.{change_lines, changes_text}
 use Rattle.tape_model.specs.Print.{desk_line, lines_of, refusal_line, text_of}
 use Rattle.tape_model.specs.Play.{Player, book_make}
-use Rattle.line_answers.specs.Turns.{player, answer_line, made, refused_with, Turned}
+use Rattle.line_answers.specs.Turns.{player, answer_line, turn_of, made, refused_with, Turned}
 
 -- ---- lines
 
@@ -39,28 +38,13 @@ changed_lines zero accepted count bytes = refl
 changed_lines (suc k) accepted count bytes = append-nil (refusal_line (suc k))
 
 -- the line of an accepted call, and of a refused one
-pub accepted_line : {a : Answer} (accepted : List ℕ) → a ≡ Accepted → answer_line (number_of a) accepted ≡ accepted
+pub accepted_line : {a : Result (Unit {0}) Refusal} (accepted : List ℕ) → a ≡ Ok tt → answer_line (number_of a) accepted ≡ accepted
 unfolding answer_line granted
 accepted_line accepted e = rw e
 
-pub refused_line : {a : Answer} {n : ℕ} (k : Refusal) (accepted : List ℕ) → a ≡ Refused k → n ≡ number k → answer_line (number_of a) accepted ≡ line 82 (n ∷ [])
+pub refused_line : {a : Result (Unit {0}) Refusal} {n : ℕ} (k : Refusal) (accepted : List ℕ) → a ≡ Err k → n ≡ number k → answer_line (number_of a) accepted ≡ line 82 (n ∷ [])
 unfolding answer_line refusal_line
 refused_line k accepted e f = rw (e, f, refused_granted k accepted (line 82 (number k ∷ [])))
-
--- the line of desk one, and of desk two
-pub one_line : {desk : Desk} (letter : ℕ) (numbers : List ℕ) → desk ≡ One → desk_line desk letter numbers ≡ line letter numbers
-unfolding desk_line
-one_line letter numbers e = rw e
-
-pub two_line : {desk : Desk} (letter : ℕ) (numbers : List ℕ) → desk ≡ Two → desk_line desk letter numbers ≡ line2 letter 50 numbers
-unfolding desk_line
-two_line letter numbers e = rw e
-
--- a head that stays either way
-same_head : (number : ℕ) (h : Head) → h ≡ granted number h h
-unfolding granted
-same_head zero h = refl
-same_head (suc k) h = refl
 
 -- the same lines laid
 pub laid_as : {lines lines' before after : List ℕ} {count : ℕ} → lines ≡ lines' → Laid lines before count after → Laid lines' before count after
@@ -114,7 +98,7 @@ module _ (h : Head) (t : Tables) (ws bytes : List ℕ) where
     -- a quote
     pub quote_turned : (x : List ℕ) {r : Reply} {t' : Tables} {bytes' : List ℕ} → Quoted h x t ws bytes r t' bytes'
         → Laid (answer_line (number_of r.answer) (desk_line One 81 (r.head.newest ∷ r.head.live ∷ [])) ++ changes_text (take r.count bytes')) before count after
-        → Turned (made (Call.Quote x) k) before (record { answer = r.answer; count = count; head = r.head; watches = ws }) t' bytes' after
+        → Turned (made (Call.Quote x) k) before (turn_of r ws count) t' bytes' after
     unfolding made book_make book_step book_seen world_after head_after text_of lines_of desk_line quote_reply reply_of
     quote_turned x q l =
         let all = changes_said (λ a. desk_line One 81 (a.head.newest ∷ a.head.live ∷ [])) (quote_answer h x t ws (length bytes)) h (quote_head h x t ws) (length (quote_bytes h x t ws))
@@ -124,7 +108,7 @@ module _ (h : Head) (t : Tables) (ws bytes : List ℕ) where
     -- a watch
     pub watch_turned : (desk : Desk) (n : ℕ) {r : Reply} {ws' bytes' : List ℕ} → Watched h desk n t ws bytes r ws' bytes'
         → Laid (answer_line (number_of r.answer) (desk_line desk 87 (n ∷ [])) ++ changes_text (take r.count bytes')) before count after
-        → Turned (made (Call.Watch desk n) k) before (record { answer = r.answer; count = count; head = r.head; watches = ws' }) t bytes' after
+        → Turned (made (Call.Watch desk n) k) before (turn_of r ws' count) t bytes' after
     unfolding made book_make book_step book_seen world_after head_after text_of lines_of watch_reply reply_of
     watch_turned desk n w l =
         let all = changes_said (λ _. desk_line desk 87 (n ∷ [])) (watch_answer h desk n t ws (length bytes)) h h (length (watch_bytes h desk n t ws)) w.reply w.out l in
@@ -133,7 +117,7 @@ module _ (h : Head) (t : Tables) (ws bytes : List ℕ) where
     -- a pair
     pub pair_turned : (n1 n2 : ℕ) {r : Reply} {bytes' : List ℕ} → Paired h n1 n2 t ws bytes r bytes'
         → Laid (answer_line (number_of r.answer) (desk_line One 66 (n1 ∷ n2 ∷ [])) ++ changes_text (take r.count bytes')) before count after
-        → Turned (made (Call.Pair n1 n2) k) before (record { answer = r.answer; count = count; head = r.head; watches = ws }) t bytes' after
+        → Turned (made (Call.Pair n1 n2) k) before (turn_of r ws count) t bytes' after
     unfolding made book_make book_step book_seen world_after head_after text_of lines_of desk_line pair_reply reply_of
     pair_turned n1 n2 p l =
         let all = changes_said (λ _. desk_line One 66 (n1 ∷ n2 ∷ [])) (pair_answer h n1 n2 t ws (length bytes)) h (with_pair h n1 n2) (length (pair_bytes h n1 n2 t ws)) p.reply p.out l in
@@ -141,7 +125,7 @@ module _ (h : Head) (t : Tables) (ws bytes : List ℕ) where
 
     -- the end of a watch
     pub end_turned : (desk : Desk) (n : ℕ) {r : Reply} {ws' : List ℕ} → Ended h desk n t ws r ws' → Laid (answer_line (number_of r.answer) (desk_line desk 85 (n ∷ []))) before count after
-        → Turned (made (Call.End desk n) k) before (record { answer = r.answer; count = count; head = r.head; watches = ws' }) t bytes after
+        → Turned (made (Call.End desk n) k) before (turn_of r ws' count) t bytes after
     unfolding made book_make book_step book_seen world_after head_after text_of lines_of answer_line
     end_turned desk n e l =
         let all = laid_as (ap (λ (a : Outcome). answer_line a.number (desk_line desk 85 (n ∷ []))) e.reply) l in
@@ -149,7 +133,7 @@ module _ (h : Head) (t : Tables) (ws bytes : List ℕ) where
 
     -- the end of the pair
     pub unpair_turned : {r : Reply} → Unpaired h t ws r → Laid (answer_line (number_of r.answer) (desk_line One 69 [])) before count after
-        → Turned (made Call.Unpair k) before (record { answer = r.answer; count = count; head = r.head; watches = ws }) t bytes after
+        → Turned (made Call.Unpair k) before (turn_of r ws count) t bytes after
     unfolding made book_make book_step book_seen world_after head_after text_of lines_of desk_line answer_line
     unpair_turned e l =
         let all = laid_as (ap (λ (a : Outcome). answer_line a.number (desk_line One 69 [])) e.reply) l in
@@ -158,7 +142,7 @@ module _ (h : Head) (t : Tables) (ws bytes : List ℕ) where
     -- a look, whose positions stand in cells behind n, leaves the player as it was
     pub look_turned : (n : ℕ) {r : Reply} {cells : List ℕ} → Looked h n t (replicate 1024 0) r cells
         → Laid (answer_line (number_of r.answer) (desk_line One 76 (take (r.count + 1) (n ∷ (cells ++ []))))) before count after
-        → Turned (made (Call.Look n) k) before (record { answer = r.answer; count = count; head = h; watches = ws }) t bytes after
+        → Turned (made (Call.Look n) k) before (turn_of r ws count) t bytes after
     unfolding made book_make book_step book_seen world_after head_after text_of lines_of desk_line answer_line look_reply reply_of
     look_turned n {r} {cells} o l =
         let lines : Outcome → List ℕ → List ℕ = λ a written. answer_line a.number (desk_line One 76 (n ∷ take a.count written)) in
@@ -167,7 +151,7 @@ module _ (h : Head) (t : Tables) (ws bytes : List ℕ) where
         record {
           answer = answered o.reply;
           count = all.counted;
-          head = same_head (look_answer h n t 1024) h;
+          head = handed o.reply;
           watches = refl;
           lent = refl;
           bytes = refl;
@@ -177,7 +161,7 @@ module _ (h : Head) (t : Tables) (ws bytes : List ℕ) where
     -- a past look, whose positions stand in cells behind n1 and n2, leaves the player as it was
     pub past_turned : (n1 n2 : ℕ) {r : Reply} {cells : List ℕ} → PastLooked h n1 n2 t (replicate 1024 0) r cells
         → Laid (answer_line (number_of r.answer) (desk_line One 80 (take (r.count + 2) (n1 ∷ n2 ∷ (cells ++ []))))) before count after
-        → Turned (made (Call.Past n1 n2) k) before (record { answer = r.answer; count = count; head = h; watches = ws }) t bytes after
+        → Turned (made (Call.Past n1 n2) k) before (turn_of r ws count) t bytes after
     unfolding made book_make book_step book_seen world_after head_after text_of lines_of desk_line answer_line past_reply reply_of
     past_turned n1 n2 {r} {cells} o l =
         let lines : Outcome → List ℕ → List ℕ = λ a written. answer_line a.number (desk_line One 80 (n1 ∷ n2 ∷ take a.count written)) in
@@ -187,7 +171,7 @@ module _ (h : Head) (t : Tables) (ws bytes : List ℕ) where
         record {
           answer = answered o.reply;
           count = all.counted;
-          head = same_head (past_answer h n1 n2 t 1024) h;
+          head = handed o.reply;
           watches = refl;
           lent = refl;
           bytes = refl;
@@ -196,7 +180,7 @@ module _ (h : Head) (t : Tables) (ws bytes : List ℕ) where
 
     -- what is refused before any call
     pub refusal_turned : (refusal : Refusal) {n : ℕ} → n ≡ number refusal → Laid (line 82 (n ∷ [])) before count after
-        → Turned (refused_with (number refusal) k) before (record { answer = Refused refusal; count = count; head = h; watches = ws }) t bytes after
+        → Turned (refused_with (number refusal) k) before (record { answer = Err refusal; count = count; head = h; watches = ws }) t bytes after
     unfolding refused_with refusal_line
     refusal_turned refusal e l =
         let all = laid_as (ap (λ (n : ℕ). line 82 (n ∷ [])) e) l in

@@ -4,6 +4,7 @@ use Rattle.lists.specs.Lists.{laid}
 use Rattle.head.specs.declared.Head.{Head}
 use Rattle.head.specs.Heads.{max_capacity}
 use Rattle.refusals.specs.Refusals.{number_of, granted}
+use Rattle.head.specs.declared.replies.Reply.{Reply}
 use Rattle.head.specs.declared.replies.BothReply.{BothReply}
 use Rattle.model.specs.Rows.{Tables}
 use Rattle.model.specs.Changes.{change_length, change_room}
@@ -11,8 +12,9 @@ use Rattle.model.specs.Calls.{Call}
 use Rattle.model.specs.Promises.{world}
 use Rattle.text.specs.Text.{line}
 use Rattle.line_changes.specs.Printed.{changes_text}
-use Rattle.tape_model.specs.Print.{refusal_line, text_of}
+use Rattle.tape_model.specs.Print.{desk_line, refusal_line, text_of}
 use Rattle.tape_model.specs.Play.{Player, book_make}
+use Rattle.line_answers.specs.declared.DeskLine.{DeskLine}
 use Rattle.line_answers.specs.declared.Turn.{Turn}
 
 -- ---- lengths
@@ -32,6 +34,10 @@ abbrev pub player : Head → Tables → List ℕ → List ℕ → Player
 player h t ws bytes = record { world = world h t ws; outputs = record { bytes = bytes; cells = replicate max_capacity 0 } }
 
 -- ---- lines
+
+-- the line of an accepted call
+abbrev pub line_of : DeskLine → List ℕ
+line_of l = desk_line l.desk l.letter l.numbers.now
 
 -- the line of an accepted call, or that of a refusal with this number
 unfoldable pub answer_line : ℕ → List ℕ → List ℕ
@@ -62,6 +68,10 @@ made_two x n k =
 -- what is refused with this number before any call
 unfoldable pub refused_with : ℕ → Player → Effect
 refused_with number k = record { number = number; text = refusal_line number; state = k }
+
+-- what a call with this reply leaves, whose lines have so many bytes
+abbrev pub turn_of : Reply → List ℕ → ℕ → Turn
+turn_of r ws count = record { answer = r.answer; count = count; head = r.head; watches = ws }
 
 -- what is handed back after this, and left of tables, bytes and text
 pub record Turned (one : Effect) (before : List ℕ) (r : Turn) (t' : Tables) (bytes' after : List ℕ) : Type 0 where

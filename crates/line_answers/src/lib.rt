@@ -10,76 +10,119 @@ ghost use Rattle.model.specs.Calls.{Call};
 ghost use Rattle.model.specs.Promises.{Opened, Quoted};
 ghost use Rattle.text.specs.Text.{Laid};
 ghost use Rattle.line_changes.specs.Printed.{changes_text};
-ghost use Rattle.tape_model.specs.Print.{desk_line};
-ghost use Rattle.line_answers.specs.Turns.{line_bytes, text_bytes, player, answer_line, made, refused_with, Turned};
+ghost use Rattle.line_answers.specs.Turns.{line_bytes, text_bytes, player, line_of, answer_line, turn_of, made, refused_with, Turned};
 
 use head::{Desk, Head, Reply};
-use refusals::{Answer, Refusal};
+use refusals::Refusal;
 use watch_numbers::WatchReply;
+
+// The line of an accepted call: whose it is, its letter and its numbers.
+#[derive(Clone, Copy)]
+pub struct DeskLine<'a> {
+    pub desk: Desk,
+    pub letter: u8,
+    pub numbers: &'a [u32],
+}
+
+impl DeskLine<'_> {
+    // Lays the line, and returns how many bytes: desk two's has a 2 behind its letter.
+    #[tactic(auto, unfolding(tape_model::specs::Print::desk_line))]
+    fn put(&self, text: &mut [u8]) -> usize
+        requires { line_bytes (length self.now.numbers.now) ≤ length text.old }
+        ensures { Laid (line_of self.now) text.old result text.new }
+    {
+        match self.desk {
+            Desk::One => text::put_line(self.letter, self.numbers, text),
+            Desk::Two => text::put_line2(self.letter, b'2', self.numbers, text),
+        }
+    }
+}
 
 // What a call of a tape leaves: its answer, how many bytes of text, and the head and the watches for the next one.
 #[derive(Clone, Copy)]
 pub struct Turn {
-    pub answer: Answer,
+    pub answer: Result<(), Refusal>,
     pub count: usize,
     pub head: Head,
     pub watches: [u64; 8],
 }
 
-// Lays the line of a desk, and returns how many bytes: desk two's has a 2 behind its letter. The line of what is no desk's is as desk one's.
-fn put_desk_line(desk: Desk, letter: u8, numbers: &[u32], text: &mut [u8]) -> usize
-    requires { line_bytes (length numbers.now) ≤ length text.old }
-    ensures { Laid (desk_line desk letter numbers.now) text.old result text.new }
+// The turn of a call with this reply, whose lines have so many bytes.
+fn turn_of(reply: Reply, watches: [u64; 8], count: usize) -> Turn
+    ensures { result ≡ turn_of reply watches count }
 {
-    match desk {
-        Desk::One => text::put_line(letter, numbers, text),
-        Desk::Two => text::put_line2(letter, b'2', numbers, text),
+    Turn {
+        answer: reply.answer,
+        count,
+        head: reply.head,
+        watches,
     }
 }
 
 // Lays the line of an accepted call, or that of its refusal, and returns how many bytes.
-pub fn put_answer(answer: Answer, desk: Desk, letter: u8, numbers: &[u32], text: &mut [u8]) -> usize
-    requires { (line_bytes 1 ≤ length text.old) × (line_bytes (length numbers.now) ≤ length text.old) }
-    ensures { Laid (answer_line (number_of answer) (desk_line desk letter numbers.now))
-        text.old result text.new }
+#[tactic(auto, using(crate::proofs::Turning::accepted_line, crate::proofs::Turning::refused_line))]
+pub fn put_answer(answer: Result<(), Refusal>, line: &DeskLine<'_>, text: &mut [u8]) -> usize
+    requires { (line_bytes 1 ≤ length text.old) × (line_bytes (length line.now.numbers.now) ≤ length text.old) }
+    ensures { Laid (answer_line (number_of answer) (line_of line.now)) text.old result text.new }
 {
     match answer {
-        Answer::Accepted => put_desk_line(desk, letter, numbers, text),
-        Answer::Refused(refusal) => {
-            let number = [refusal.number()];
-            text::put_line(b'R', &number, text)
-        }
+        Ok(()) => line.put(text),
+        Err(refusal) => text::put_line(b'R', &[refusal.number()], text),
     }
 }
 
 // Lays the line of a call's answer, then the lines of the changes in the first count bytes, and returns how many bytes.
 pub fn put_changed(
-    answer: Answer,
-    desk: Desk,
-    letter: u8,
-    numbers: &[u32],
+    answer: Result<(), Refusal>,
+    line: &DeskLine<'_>,
     bytes: &[u8],
     count: usize,
     text: &mut [u8],
 ) -> usize
-    requires numbers_len_bound { (length numbers.now ≤ 2) × (count ≤ length bytes.now) }
+    requires numbers_len_bound { (length line.now.numbers.now ≤ 2) × (count ≤ length bytes.now) }
     requires bytes_len_bound { (length bytes.now ≤ change_room) × (text_bytes ≤ length text.old) }
-    ensures { Laid (answer_line (number_of answer) (desk_line desk letter numbers.now) ++ changes_text
-        (take count bytes.now)) text.old result text.new }
+    ensures { Laid (answer_line (number_of answer) (line_of line.now) ++ changes_text (take count bytes.now))
+        text.old result text.new }
 {
-    let line = put_answer(answer, desk, letter, numbers, text);
-    let lines = line_changes::put_changes(bytes, count, &mut text[line..]);
-    line + lines
+    let at = put_answer(answer, line, text);
+    let lines = line_changes::put_changes(bytes, count, &mut text[at..]);
+    at + lines
+}
+
+// Lays the line of a call with this reply: the turn that this makes.
+pub fn put_reply(reply: Reply, watches: [u64; 8], line: &DeskLine<'_>, text: &mut [u8]) -> Turn
+    requires { (line_bytes 1 ≤ length text.old) × (line_bytes (length line.now.numbers.now) ≤ length text.old) }
+    ensures turn { result ≡ turn_of reply watches result.count }
+    ensures laid { Laid (answer_line (number_of reply.answer) (line_of line.now)) text.old result.count text.new }
+{
+    let count = put_answer(reply.answer, line, text);
+    turn_of(reply, watches, count)
+}
+
+// Lays the line of a call with this reply, and those of the changes that it wrote: the turn that this makes.
+pub fn put_reply_changes(
+    reply: Reply,
+    watches: [u64; 8],
+    line: &DeskLine<'_>,
+    bytes: &[u8],
+    text: &mut [u8],
+) -> Turn
+    requires numbers_len_bound { (length line.now.numbers.now ≤ 2) × (reply.count ≤ length bytes.now) }
+    requires bytes_len_bound { (length bytes.now ≤ change_room) × (text_bytes ≤ length text.old) }
+    ensures turn { result ≡ turn_of reply watches result.count }
+    ensures laid { Laid (answer_line (number_of reply.answer) (line_of line.now) ++ changes_text
+        (take reply.count bytes.now)) text.old result.count text.new }
+{
+    let count = put_changed(reply.answer, line, bytes, reply.count, text);
+    turn_of(reply, watches, count)
 }
 
 // The head after an opening: the fresh one if it was accepted.
-fn opened_head(answer: Answer, fresh: Head, head: Head) -> Head
+#[tactic(auto, unfolding(refusals::specs::Refusals::granted), using(refusals::proofs::Numbers::refused_granted))]
+fn opened_head(answer: Result<(), Refusal>, fresh: Head, head: Head) -> Head
     ensures { result ≡ granted (number_of answer) fresh head }
 {
-    match answer {
-        Answer::Accepted => fresh,
-        Answer::Refused(_) => head,
-    }
+    if answer.is_ok() { fresh } else { head }
 }
 
 // Lays the line of an opening that was made.
@@ -96,17 +139,17 @@ pub fn put_opening(
         t' replied.watches → Turned (made (Call.Open dimensions capacity directions) (player head t ws bytes))
         text.old result t' bytes text.new }
 {
-    let reply = replied.reply;
-    let answer = reply.answer;
-    let fresh = reply.head;
-    let kept = replied.watches;
-    let numbers = [dimensions, capacity, directions];
-    Turn {
-        answer,
-        count: put_answer(answer, Desk::One, b'O', &numbers, text),
-        head: opened_head(answer, fresh, head),
-        watches: kept,
-    }
+    let opened = replied.reply;
+    let reply = Reply {
+        head: opened_head(opened.answer, opened.head, head),
+        ..opened
+    };
+    let line = DeskLine {
+        desk: Desk::One,
+        letter: b'O',
+        numbers: &[dimensions, capacity, directions],
+    };
+    put_reply(reply, replied.watches, &line, text)
 }
 
 // Lays the line of a quote that was made, and those of its changes.
@@ -117,15 +160,12 @@ pub fn put_quote(reply: Reply, watches: [u64; 8], bytes: &[u8], text: &mut [u8])
         bytes.now → Turned (made (Call.Quote x) (player h t watches before)) text.old result t'
         bytes.now text.new }
 {
-    let answer = reply.answer;
-    let head = reply.head;
-    let numbers = [head.newest, head.live];
-    Turn {
-        answer,
-        count: put_changed(answer, Desk::One, b'Q', &numbers, bytes, reply.count, text),
-        head,
-        watches,
-    }
+    let line = DeskLine {
+        desk: Desk::One,
+        letter: b'Q',
+        numbers: &[reply.head.newest, reply.head.live],
+    };
+    put_reply_changes(reply, watches, &line, bytes, text)
 }
 
 // Lays the line of what was refused before any call.
@@ -135,48 +175,30 @@ pub fn put_refusal(refusal: Refusal, head: Head, watches: [u64; 8], text: &mut [
         (refused_with (number refusal) (player head t watches bytes)) text.old result t bytes
         text.new }
 {
-    let number = [refusal.number()];
     Turn {
-        answer: Answer::Refused(refusal),
-        count: text::put_line(b'R', &number, text),
+        answer: Err(refusal),
+        count: text::put_line(b'R', &[refusal.number()], text),
         head,
         watches,
     }
 }
 
-// What playing a frame hands back: the frame's answer, as its line says it (Accepted at the end of the tape), whether the
-// tape is over, the place behind the frame, how many bytes of text, and the head and the watches for the next one.
+// What playing a frame hands back: the turn that it made, whose answer is as its line says it (Ok at the end of the tape), whether the tape is over,
+// and the place behind the frame.
 #[derive(Clone, Copy)]
 pub struct Step {
-    pub answer: Answer,
+    pub turn: Turn,
     pub over: bool,
     pub next: usize,
-    pub count: usize,
-    pub head: Head,
-    pub watches: [u64; 8],
 }
 
 // The step that a turn makes: the tape is over where nothing could be read, and the place stayed.
 pub fn step_of(place: usize, next: usize, turn: Turn) -> Step
-    ensures { result ≡ record {
-      answer = turn.answer;
-      over = eqb next place;
-      next = next;
-      count = turn.count;
-      head =
-          turn.head;
-      watches = turn.watches;
-    } }
+    ensures { result ≡ record { turn = turn; over = eqb next place; next = next } }
 {
-    let answer = turn.answer;
-    let head = turn.head;
-    let watches = turn.watches;
     Step {
-        answer,
+        turn,
         over: next == place,
         next,
-        count: turn.count,
-        head,
-        watches,
     }
 }

@@ -4,15 +4,13 @@ use mathlib.Core.Logic.{◌⊎◌, inl, inr}
 use Prim.Native.Nat.{ℕ, ◌+◌, ◌-◌, ◌*◌, ◌≤◌, ◌<◌}
 use native.Mathlib.Nat.{add_assoc}
 use native.Mathlib.Omega.{arith}
-use mathlib.Core.Bool.{Bool, true, false, ◌&&◌, ◌||◌, cond}
+use mathlib.Core.Bool.{Bool, true, false, ◌||◌, cond}
 use mathlib.Core.List.{List, [], ◌∷◌}
-use lib.Dec.{leb, eqb}
-use lib.ListN.{length, get_or, set}
-use borrow.Author.Tests.{leb-true, eqb-true}
-use borrow.Rule.Slice.PartMut.{mid_of, put_mid}
+use lib.Dec.{eqb}
+use lib.ListN.{length, get_or}
+use borrow.Author.Tests.{eq-eqb, ne_eqb}
 use Rattle.lists.specs.Lists.{run, laid}
-use Rattle.lists.proofs.Booleans.{and_left, and_right, or_cases}
-use Rattle.lists.proofs.Laying.{Front}
+use Rattle.lists.proofs.Booleans.{or_right}
 use Rattle.lists.proofs.Runs.{order}
 use Rattle.octets.specs.Bytes.{number2, number4}
 use Rattle.frame_kinds.specs.declared.Shape.{Shape}
@@ -25,7 +23,7 @@ use Rattle.frames.proofs.ReadCases as cases
 use Rattle.frames.proofs.ReadCases.{whole_next}
 use Rattle.frames.proofs.Reading.{told_at}
 use Rattle.text.specs.Text.{line, line2, Laid}
-use Rattle.text.proofs.Lines.{behind_first, line_short, line2_short}
+use Rattle.text.proofs.Lines.{line_short, line2_short}
 use Rattle.line_changes.specs.Printed.{letter_of, change_line}
 
 -- ---- where a frame ends
@@ -59,33 +57,16 @@ module _ (bytes : List ℕ) (place : ℕ) where
     end_found known e h = e ∙ end_whole known (omega arith)
 
 -- the frame of a desk's change has seven bytes
-pub end_changed : (bytes : List ℕ) (place : ℕ) → place < length bytes
-    → leb leave_kind (get_or bytes place 0) && leb (get_or bytes place 0) join_two_kind && leb 7 (length bytes - place) ≡ true
-    → place + 7 ≡ (read_at bytes place).next
+pub end_changed : (bytes : List ℕ) (place : ℕ) → place < length bytes → leave_kind ≤ get_or bytes place 0 → get_or bytes place 0 ≤ join_two_kind
+    → 7 ≤ length bytes - place → place + 7 ≡ (read_at bytes place).next
 unfolding shape_of shape_in kinds run
-end_changed bytes place inside t =
-    let k = get_or bytes place 0 in
-    let within = and_left (leb leave_kind k && leb k join_two_kind) (leb 7 (length bytes - place)) t in
-    let low = leb-true leave_kind k (and_left (leb leave_kind k) (leb k join_two_kind) within) in
-    let high = leb-true k join_two_kind (and_right (leb leave_kind k) (leb k join_two_kind) within) in
-    let room = leb-true 7 (length bytes - place) (and_right (leb leave_kind k && leb k join_two_kind) (leb 7 (length bytes - place)) t) in
-    let six = change_body k (sym (in_row SizePosition 32 4 refl k low (omega arith))) in
+end_changed bytes place inside low high room =
+    let six = change_body (get_or bytes place 0) (sym (in_row SizePosition 32 4 refl (get_or bytes place 0) low (omega arith))) in
     end_found bytes place inside (λ e. omega (arith, six)) (omega (arith, six)) (omega arith)
 
 -- where a frame ends behind its place, the place is within the bytes
 pub place_inside : (bytes : List ℕ) (place : ℕ) → place < (read_at bytes place).next → place < length bytes
 place_inside bytes place h = let t = told_at bytes place h in omega (arith, t.next, t.inside)
-
--- a line of two numbers that was laid has at most 24 bytes
-pub laid_two : (letter a b : ℕ) {before after : List ℕ} {used : ℕ} → Laid (line letter (a ∷ b ∷ [])) before used after → used ≤ 24
-laid_two letter a b l = omega (arith, l.counted, line_short letter (a ∷ b ∷ []))
-
--- such a line with a 2 for its letter, laid behind a letter
-pub two_in : (letter a b : ℕ) (before : List ℕ) {last : List ℕ} {used : ℕ} → 25 ≤ length before
-    → Laid (line 50 (a ∷ b ∷ [])) (mid_of 1 (length (set before 0 letter) - 1) (set before 0 letter)) used last
-    → Front (line2 letter 50 (a ∷ b ∷ [])) before (put_mid 1 (length (set before 0 letter) - 1) (set before 0 letter) last) (used + 1)
-unfolding line2
-two_in letter a b before h l = behind_first letter (line 50 (a ∷ b ∷ [])) (omega (arith, line_short 50 (a ∷ b ∷ []))) l
 
 -- ---- its line
 
@@ -127,70 +108,79 @@ module _ (bytes : List ℕ) (place : ℕ) where
       go Settings e = omega arith
       go Unknown e = omega arith
 
-  -- the shape of each kind of change
-  same_shape : (a b : ℕ) (shape : Shape) → shape_of a ≡ shape → shape_of b ≡ shape → eqb kind a || eqb kind b ≡ true → shape_of kind ≡ shape
-  same_shape a b shape u v e = go (or_cases (eqb kind a) (eqb kind b) e)
+  -- a kind that is one of two, or neither
+  one_of : (a b : ℕ) → (kind ≡ a) ⊎ (kind ≡ b) → eqb kind a || eqb kind b ≡ true
+  one_of a b (inl e) = rw (eq-eqb kind a e)
+  one_of a b (inr e) = rw (eq-eqb kind b e) (or_right (eqb kind a) true refl)
+
+  neither_of : (a b : ℕ) → (kind ≡ a → ⊥) → (kind ≡ b → ⊥) → eqb kind a || eqb kind b ≡ false
+  neither_of a b e f = rw (ne_eqb kind a e, ne_eqb kind b f)
+
+  -- a kind that is not below a is a or the next, where it is not above that one
+  next_of : (a b : ℕ) → b ≡ a + 1 → a ≤ kind → kind ≤ b → eqb kind a || eqb kind b ≡ true
+  next_of a b e low high = one_of a b (go (order kind b))
     where
-      go : (eqb kind a ≡ true) ⊎ (eqb kind b ≡ true) → shape_of kind ≡ shape
-      go (inl t) = ap shape_of (eqb-true kind a t) ∙ u
-      go (inr t) = ap shape_of (eqb-true kind b t) ∙ v
+      go : (kind < b) ⊎ ((kind ≡ b) ⊎ (b < kind)) → (kind ≡ a) ⊎ (kind ≡ b)
+      go (inl l) = inl (omega arith)
+      go (inr (inl f)) = inr f
+      go (inr (inr g)) = absurd (omega arith)
 
-  one_shape : eqb kind leave_kind || eqb kind join_kind ≡ true → shape_of kind ≡ SizePosition
-  unfolding shape_of shape_in kinds
-  one_shape = same_shape leave_kind join_kind SizePosition refl refl
+  -- the shapes of the kinds of changes
+  desk_shape : leave_kind ≤ kind → kind ≤ join_two_kind → shape_of kind ≡ SizePosition
+  unfolding shape_of shape_in kinds run
+  desk_shape low high = sym (in_row SizePosition 32 4 refl kind low (omega arith))
 
-  two_shape : eqb kind leave_two_kind || eqb kind join_two_kind ≡ true → shape_of kind ≡ SizePosition
-  unfolding shape_of shape_in kinds
-  two_shape = same_shape leave_two_kind join_two_kind SizePosition refl refl
-
-  pair_shape : eqb kind pair_leave_kind || eqb kind pair_join_kind ≡ true → shape_of kind ≡ Position
-  unfolding shape_of shape_in kinds
-  pair_shape = same_shape pair_leave_kind pair_join_kind Position refl refl
+  pair_shape : pair_leave_kind ≤ kind → kind ≤ pair_join_kind → shape_of kind ≡ Position
+  unfolding shape_of shape_in kinds run
+  pair_shape low high = sym (in_row Position 36 2 refl kind low (omega arith))
 
   -- the frame stands within the bytes, so its numbers and its line have room
   module _ (room : ℕ) (h : place < (read_at bytes place).next) (long : 25 * ((read_at bytes place).next - place) ≤ 7 * room) where
-    change_asks : shape_of kind ≡ SizePosition → (place + 7 ≤ length bytes) × (25 ≤ room)
-    change_asks e = let t = told_at bytes place h in (omega (arith, t.next, t.inside, change_body kind e), omega (arith, t.next, change_body kind e))
-
-    pub one_asks : eqb kind leave_kind || eqb kind join_kind ≡ true → (place + 7 ≤ length bytes) × (24 ≤ room)
-    one_asks e = let a = change_asks (one_shape e) in (a.0, omega (arith, a.1))
-
-    pub two_asks : eqb kind leave_two_kind || eqb kind join_two_kind ≡ true → (place + 7 ≤ length bytes) × (25 ≤ room)
-    two_asks e = change_asks (two_shape e)
-
-    pub pair_asks_lem : eqb kind pair_leave_kind || eqb kind pair_join_kind ≡ true → (place + 5 ≤ length bytes) × (14 ≤ room)
-    pair_asks_lem e =
+    pub desk_asks : leave_kind ≤ kind → kind ≤ join_two_kind → (place + 7 ≤ length bytes) × (25 ≤ room)
+    desk_asks low high =
         let t = told_at bytes place h in
-        let body = position_body kind (pair_shape e) in
+        let body = change_body kind (desk_shape low high) in
+        (omega (arith, t.next, t.inside, body), omega (arith, t.next, body))
+
+    pub pair_asks_lem : pair_leave_kind ≤ kind → kind ≤ pair_join_kind → (place + 5 ≤ length bytes) × (14 ≤ room)
+    pair_asks_lem low high =
+        let t = told_at bytes place h in
+        let body = position_body kind (pair_shape low high) in
         (omega (arith, t.next, t.inside, body), omega (arith, t.next, body))
 
   -- the line of each kind of change
-  pub one_line : {letter : ℕ} → letter ≡ letter_of kind → eqb kind leave_kind || eqb kind join_kind ≡ true
+  pub one_line : {letter : ℕ} → letter ≡ letter_of kind → leave_kind ≤ kind → kind ≤ join_kind
       → change_line message ≡ line letter (number2 bytes (place + 1) ∷ number4 bytes (place + 3) ∷ [])
   unfolding change_line message_at message_by
-  one_line l e = rw (one_shape e, e, l, add_assoc place 1 2)
+  one_line l low high = rw (desk_shape low (omega arith), next_of leave_kind join_kind refl low high, l, add_assoc place 1 2)
 
-  pub two_line : {letter : ℕ} → letter ≡ letter_of kind → eqb kind leave_two_kind || eqb kind join_two_kind ≡ true
+  pub two_line : {letter : ℕ} → letter ≡ letter_of kind → leave_two_kind ≤ kind → kind ≤ join_two_kind
       → change_line message ≡ line2 letter 50 (number2 bytes (place + 1) ∷ number4 bytes (place + 3) ∷ [])
   unfolding change_line message_at message_by
-  two_line l e = rw (two_shape e, not_one (or_cases (eqb kind leave_two_kind) (eqb kind join_two_kind) e), e, l, add_assoc place 1 2)
-    where
-      not_one : (eqb kind leave_two_kind ≡ true) ⊎ (eqb kind join_two_kind ≡ true) → eqb kind leave_kind || eqb kind join_kind ≡ false
-      not_one (inl t) = rw (eqb-true kind leave_two_kind t)
-      not_one (inr t) = rw (eqb-true kind join_two_kind t)
+  two_line l low high =
+      rw
+      (desk_shape (omega arith) high, neither_of leave_kind join_kind (λ e. omega arith) (λ e. omega arith), next_of leave_two_kind join_two_kind refl low high, l, add_assoc place 1 2)
 
-  pub pair_line : {letter : ℕ} → letter ≡ letter_of kind → eqb kind pair_leave_kind || eqb kind pair_join_kind ≡ true
+  pub pair_line : {letter : ℕ} → letter ≡ letter_of kind → pair_leave_kind ≤ kind → kind ≤ pair_join_kind
       → change_line message ≡ line2 letter letter (number4 bytes (place + 1) ∷ [])
   unfolding change_line message_at message_by
-  pair_line l e = rw (pair_shape e, e, l)
+  pair_line l low high = rw (pair_shape low high, next_of pair_leave_kind pair_join_kind refl low high, l)
 
   -- a frame that is no change has no line
-  module _ (one : eqb kind leave_kind || eqb kind join_kind ≡ false) (two : eqb kind leave_two_kind || eqb kind join_two_kind ≡ false)
-      (pair : eqb kind pair_leave_kind || eqb kind pair_join_kind ≡ false) where
+  module _ (other : leave_kind ≤ kind → kind ≤ pair_join_kind → ⊥) where
     no_line : change_line message ≡ []
     unfolding change_line message_at message_by
     no_line = go (shape_of kind)
       where
+        one : eqb kind leave_kind || eqb kind join_kind ≡ false
+        one = neither_of leave_kind join_kind (λ e. other (omega arith) (omega arith)) (λ e. other (omega arith) (omega arith))
+
+        two : eqb kind leave_two_kind || eqb kind join_two_kind ≡ false
+        two = neither_of leave_two_kind join_two_kind (λ e. other (omega arith) (omega arith)) (λ e. other (omega arith) (omega arith))
+
+        pair : eqb kind pair_leave_kind || eqb kind pair_join_kind ≡ false
+        pair = neither_of pair_leave_kind pair_join_kind (λ e. other (omega arith) (omega arith)) (λ e. other (omega arith) (omega arith))
+
         go : (shape : Shape) → change_line (message_by shape bytes (place + 1) kind) ≡ []
         go Columns = refl
         go Size = refl

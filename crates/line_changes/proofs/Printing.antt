@@ -23,11 +23,10 @@ lines_more m ms = refl
 
 -- ---- the loop
 
--- some frames are read, the next one ends at next: their lines stand at the front, at most 25 bytes for each 7 of theirs, and the lines of
+-- some frames are read: their lines stand at the front, at most 25 bytes for each 7 of theirs, and the lines of
 -- the frames to come are all that is missing
-pub record Printing (bytes before text : List ℕ) (at place next : ℕ) : Type 0 where
+pub record Printing (bytes before text : List ℕ) (at place : ℕ) : Type 0 where
   pub enough : 25 * length bytes ≤ 7 * length before
-  pub ahead : next ≡ (read_at bytes place).next
   pub most : ℕ
   pub fuel : length bytes ≤ place + most
   pub lines : List ℕ
@@ -35,12 +34,11 @@ pub record Printing (bytes before text : List ℕ) (at place next : ℕ) : Type 
   pub front : Front lines before text at
   pub rest : changes_text bytes ≡ lines ++ change_lines (messages_from most bytes place)
 
-pub printing_start : (bytes before : List ℕ) (next : ℕ) → 25 * length bytes ≤ 7 * length before → next ≡ (read_at bytes 0).next → Printing bytes before before 0 0 next
+pub printing_start : (bytes before : List ℕ) → 25 * length bytes ≤ 7 * length before → Printing bytes before before 0 0
 unfolding changes_text
-printing_start bytes before next h e =
+printing_start bytes before h =
     record {
       enough = h;
-      ahead = e;
       most = length bytes;
       fuel = omega arith;
       lines = [];
@@ -49,23 +47,23 @@ printing_start bytes before next h e =
       rest = refl;
     }
 
-module _ (bytes : List ℕ) {before text : List ℕ} {at place next : ℕ} (v : Printing bytes before text at place next) where
+module _ (bytes : List ℕ) {before text : List ℕ} {at place : ℕ} (v : Printing bytes before text at place) where
   -- all lines stand at the front of the text
-  pub printing_finish : next ≤ place → Laid (changes_text bytes) before at text
+  pub printing_finish : place ≡ (read_at bytes place).next → Laid (changes_text bytes) before at text
   unfolding change_lines flat
   printing_finish h =
-      let none = messages_none bytes place v.most (omega (arith, v.ahead)) in
+      let none = messages_none bytes place v.most (omega arith) in
       let all : changes_text bytes ≡ v.lines = v.rest ∙ rw (none, append-nil) in
       rw all (record { counted = v.front.place; text = v.front.cells })
 
-  module _ (h : place < next) where
+  module _ {next : ℕ} (h : place < next) (ahead : next ≡ (read_at bytes place).next) where
     -- the frame at the place
     frame_there : Told bytes place
-    frame_there = told_at bytes place (omega (arith, v.ahead))
+    frame_there = told_at bytes place (omega (arith, ahead))
 
     -- it ends within the bytes
     pub next_inside : next ≤ length bytes
-    next_inside = omega (arith, v.ahead, frame_there.inside)
+    next_inside = omega (arith, ahead, frame_there.inside)
 
     -- the lines laid so far are within the text
     pub printing_at : at ≤ length text
@@ -73,7 +71,7 @@ module _ (bytes : List ℕ) {before text : List ℕ} {at place next : ℕ} (v : 
 
     -- there is room for its line
     pub printing_room : 25 * ((read_at bytes place).next - place) ≤ 7 * (length text - at)
-    printing_room = let f = v.front in omega (arith, f.place, f.long, v.short, v.enough, v.ahead, next_inside)
+    printing_room = let f = v.front in omega (arith, f.place, f.long, v.short, v.enough, ahead, next_inside)
 
     abbrev message : Message
     message = message_at bytes (place + 1) (get_or bytes place 0)
@@ -85,19 +83,18 @@ module _ (bytes : List ℕ) {before text : List ℕ} {at place next : ℕ} (v : 
         ap (λ (k : ℕ). change_lines (messages_from k bytes place)) more
         ∙ ap change_lines (messages_on bytes place (v.most - 1) frame_there)
         ∙ lines_more message (messages_from (v.most - 1) bytes (read_at bytes place).next)
-        ∙ ap (λ (n : ℕ). change_line message ++ change_lines (messages_from (v.most - 1) bytes n)) (sym v.ahead)
+        ∙ ap (λ (n : ℕ). change_line message ++ change_lines (messages_from (v.most - 1) bytes n)) (sym ahead)
 
     -- its line is laid into the rest of the text
-    module _ {last : List ℕ} {used next' : ℕ} (l : Laid (change_line message) (mid_of at (length text - at) text) used last) (e : next' ≡ (read_at bytes next).next) where
+    module _ {last : List ℕ} {used : ℕ} (l : Laid (change_line message) (mid_of at (length text - at) text) used last) where
       -- the lines up to there are short
       more_short : 7 * length (v.lines ++ change_line message) ≤ 25 * next
-      more_short = rw length-append (omega (arith, v.short, v.ahead, frame_there.next, line_fits bytes place))
+      more_short = rw length-append (omega (arith, v.short, ahead, frame_there.next, line_fits bytes place))
 
-      pub printing_more : Printing bytes before (put_mid at (length text - at) text last) (at + used) next next'
+      pub printing_more : Printing bytes before (put_mid at (length text - at) text last) (at + used) next
       printing_more =
           record {
             enough = v.enough;
-            ahead = e;
             most = v.most - 1;
             fuel = omega (arith, v.fuel);
             lines = v.lines ++ change_line message;

@@ -1,92 +1,63 @@
 // Changes in print: the frames of changes turned into lines of text.
 #![tactic(auto)]
 
-ghost use Rattle.std.specs.Prelude.{◌≡◌, [], ◌∷◌, ◌+◌, ◌-◌, ◌*◌, ◌≤◌, ◌<◌, length, get_or, take};
+ghost use Rattle.std.specs.Prelude.{◌≡◌, [], ◌∷◌, ◌+◌, ◌-◌, ◌*◌, ◌≤◌, ◌<◌, MatchOption, length, get_or, take};
 ghost use Rattle.octets.specs.Bytes.{number2, number4};
 ghost use Rattle.frames.specs.Frames.{message_at, read_at};
-ghost use Rattle.text.specs.Text.{line, line2, Laid};
+ghost use Rattle.text.specs.Text.{Laid};
 ghost use Rattle.line_changes.specs.Printed.{letter_of, change_line, changes_text};
 
-use frames::{JOIN, JOIN_TWO, LEAVE, LEAVE_TWO, PAIR_JOIN, PAIR_LEAVE, body_length};
+use frames::{JOIN, JOIN_TWO, LEAVE, LEAVE_TWO, PAIR_JOIN, PAIR_LEAVE, known_length};
 use octets::{four_at, two_at};
-use text::{put_line2, put_two};
+use text::{put_line, put_line2};
 
-// The place behind the frame at a place; the place itself where none is read.
-fn frame_end(bytes: &[u8], place: usize) -> usize
-    ensures { result ≡ (read_at bytes.now place).next }
+// The place behind the frame at a place, where one is read there.
+#[tactic(auto, using(crate::proofs::Decoding::end_outside, crate::proofs::Decoding::end_unknown, crate::proofs::Decoding::end_cut, crate::proofs::Decoding::end_found))]
+fn frame_end(bytes: &[u8], place: usize) -> Option<usize>
+    ensures { MatchOption result (place ≡ (read_at bytes.now place).next) (λ next. (place < next) × (next ≡ (read_at bytes.now place).next)) }
 {
-    if bytes.len() <= place {
-        return place;
+    let &kind = bytes.get(place)?;
+    let next = place + 1 + usize::from(known_length(kind)?);
+    if next <= bytes.len() {
+        Some(next)
+    } else {
+        None
     }
-    let length = body_length(bytes[place]);
-    if length == 255 {
-        return place;
-    }
-    let next = place + 1 + length as usize;
-    if bytes.len() < next {
-        return place;
-    }
-    next
 }
 
 // The same, by one decision where a change of a desk's watch stands.
-fn change_end(bytes: &[u8], place: usize) -> usize
-    ensures { result ≡ (read_at bytes.now place).next }
+#[tactic(auto, using(crate::proofs::Decoding::end_changed))]
+fn change_end(bytes: &[u8], place: usize) -> Option<usize>
+    ensures { MatchOption result (place ≡ (read_at bytes.now place).next) (λ next. (place < next) × (next ≡ (read_at bytes.now place).next)) }
 {
     if place < bytes.len() {
         let kind = bytes[place];
-        if (LEAVE <= kind) & (kind <= JOIN_TWO) & (7 <= bytes.len() - place) {
-            return place + 7;
+        if LEAVE <= kind && kind <= JOIN_TWO && 7 <= bytes.len() - place {
+            return Some(place + 7);
         }
     }
     frame_end(bytes, place)
 }
 
-// Lays the line of n and a position, which stand in the frame at a place, behind a letter. Returns how many bytes.
-fn put_numbers(letter: u8, bytes: &[u8], place: usize, text: &mut [u8]) -> usize
-    requires place_in_bounds { place + 7 ≤ length bytes.now }
-    requires in_bounds { 24 ≤ length text.old }
-    ensures { Laid (line letter (number2 bytes.now (place + 1) ∷ number4 bytes.now
-        (place + 3) ∷ [])) text.old result text.new }
+// The n and the position of a change of a desk's watch, whose frame stands at a place.
+fn numbers_at(bytes: &[u8], place: usize) -> [u32; 2]
+    requires { place + 7 ≤ length bytes.now }
+    ensures { result ≡ number2 bytes.now (place + 1) ∷ number4 bytes.now (place + 3) ∷ [] }
 {
-    let n = two_at(bytes, place + 1) as u32;
-    let position = four_at(bytes, place + 3);
-    put_two(letter, n, position, text)
-}
-
-// Lays the same line with a 2 behind the letter. Returns how many bytes.
-fn put_numbers_two(letter: u8, bytes: &[u8], place: usize, text: &mut [u8]) -> usize
-    requires place_in_bounds { place + 7 ≤ length bytes.now }
-    requires in_bounds { 25 ≤ length text.old }
-    ensures { Laid (line2 letter 50 (number2 bytes.now (place + 1) ∷ number4 bytes.now
-        (place + 3) ∷ [])) text.old result text.new }
-{
-    let n = two_at(bytes, place + 1) as u32;
-    let position = four_at(bytes, place + 3);
-    text[0] = letter;
-    let used = put_two(50, n, position, &mut text[1..]);
-    used + 1
-}
-
-// Lays the line of a position, which stands in the frame at a place, behind a letter that stands twice. Returns how many bytes.
-fn put_position(letter: u8, bytes: &[u8], place: usize, text: &mut [u8]) -> usize
-    requires place_in_bounds { place + 5 ≤ length bytes.now }
-    requires in_bounds { 14 ≤ length text.old }
-    ensures { Laid (line2 letter letter (number4 bytes.now (place + 1) ∷ [])) text.old result
-        text.new }
-{
-    let position = four_at(bytes, place + 1);
-    put_line2(letter, letter, &[position], text)
+    [
+        u32::from(two_at(bytes, place + 1)),
+        four_at(bytes, place + 3),
+    ]
 }
 
 // The letter of a change's line, by its kind: - for a leave, + for a join.
+#[tactic(auto, unfolding(crate::specs::Printed::letter_of))]
 fn letter_of(kind: u8) -> u8
     ensures { result ≡ letter_of kind }
 {
-    if (kind == LEAVE) | (kind == LEAVE_TWO) | (kind == PAIR_LEAVE) {
-        45
-    } else {
-        43
+    match kind {
+        LEAVE | LEAVE_TWO | PAIR_LEAVE => b'-',
+        _ => b'+',
     }
 }
 
@@ -100,16 +71,12 @@ fn put_change(bytes: &[u8], place: usize, text: &mut [u8]) -> usize
 {
     let kind = bytes[place];
     let letter = letter_of(kind);
-    if (kind == LEAVE) | (kind == JOIN) {
-        return put_numbers(letter, bytes, place, text);
+    match kind {
+        LEAVE | JOIN => put_line(letter, &numbers_at(bytes, place), text),
+        LEAVE_TWO | JOIN_TWO => put_line2(letter, b'2', &numbers_at(bytes, place), text),
+        PAIR_LEAVE | PAIR_JOIN => put_line2(letter, letter, &[four_at(bytes, place + 1)], text),
+        _ => 0,
     }
-    if (kind == LEAVE_TWO) | (kind == JOIN_TWO) {
-        return put_numbers_two(letter, bytes, place, text);
-    }
-    if (kind == PAIR_LEAVE) | (kind == PAIR_JOIN) {
-        return put_position(letter, bytes, place, text);
-    }
-    0
 }
 
 // Lays the lines of the changes whose frames stand in the bytes, and returns how many bytes of text.
@@ -119,12 +86,9 @@ fn put_frames(bytes: &[u8], text: &mut [u8]) -> usize
 {
     let mut at = 0;
     let mut place = 0;
-    let mut next = change_end(bytes, 0);
-    while place < next {
-        let used = put_change(bytes, place, &mut text[at..]);
-        at += used;
+    while let Some(next) = change_end(bytes, place) {
+        at += put_change(bytes, place, &mut text[at..]);
         place = next;
-        next = change_end(bytes, place);
     }
     at
 }

@@ -4,3 +4,4 @@ pub mod Scanning
 pub mod Invalid
 pub mod Spelled
 pub mod Unspelled
+pub mod Counted

@@ -6,9 +6,14 @@ use native.Mathlib.Numerals.{add-one}
 use mathlib.Core.Bool.{Bool, true, false, not, cond}
 use mathlib.Core.List.{List, [], ◌∷◌}
 use lib.Dec.{eqb}
+use Rattle.std.specs.Prelude.{◌==◌, position}
+use Rattle.std.specs.Option.{unwrap_or}
+use Rattle.std.proofs.lemmas.Grind.{common_steps}
+use Rattle.std.specs.List.{position_or_len}
+use Rattle.std.proofs.lemmas.List.Sums.{prefix_len-le-length}
+use Rattle.std.proofs.lemmas.List.Recursion.{is_position_or_len}
 use lib.ListN.{length, get_or, set, drop, length-set, length-drop, drop_of_length-le}
 use lib.Seq.{drop-cons, get_or-set_same}
-use borrow.Author.Tests.{not-true, not-false}
 use Rattle.line_fields.specs.declared.Fields.{Fields}
 use Rattle.line_fields.specs.declared.Scan.{Scan}
 use Rattle.line_fields.specs.declared.Scanned.{Scanned}
@@ -79,30 +84,25 @@ module _ {separator : ℕ} {whole : Scanned} {text : List ℕ} {scan : Scan} {nu
 
 -- ---- the end of a line
 
-module _ (line : List ℕ) where
-  -- one more byte is no newline
-  pub end_more : {end at : ℕ} → at < length line → not (eqb (get_or line at 0) 10) ≡ true → end ≡ at + line_length (drop at line) → end ≡ (at + 1) + line_length (drop (at + 1) line)
-  unfolding line_length
-  end_more {at = at} h n e =
-      let one : line_length (drop at line) ≡ suc (line_length (drop (suc at) line)) = ap line_length (drop-cons line at 0 h) ∙ rw (not-true (eqb (get_or line at 0) 10) n) in
-      rw (add-one at) (omega (arith, e, one))
+-- a line ends at its first newline
+line_position : (line : List ℕ) → line_length line ≡ position_or_len (λ (byte : ℕ). byte == 10) line
+unfolding line_length
+line_position line = is_position_or_len line_length (λ (byte : ℕ). byte == 10) refl one line
+  where
+    one : (byte : ℕ) (bytes : List ℕ) → line_length (byte ∷ bytes) ≡ cond (byte == 10) 0 (1 + line_length bytes)
+    one byte bytes = ap (cond (byte == 10) 0) (let e : suc (line_length bytes) ≡ 1 + line_length bytes = omega arith in e)
 
-  -- a newline
-  pub end_newline : {end at : ℕ} → at < length line → not (eqb (get_or line at 0) 10) ≡ false → end ≡ at + line_length (drop at line) → at ≡ end
-  unfolding line_length
-  end_newline {at = at} h n e =
-      let none : line_length (drop at line) ≡ 0 = ap line_length (drop-cons line at 0 h) ∙ rw (not-false (eqb (get_or line at 0) 10) n) in
-      omega (arith, e, none)
+-- the place of its first newline, or its length
+pub line_found : (line : List ℕ) → line_length line ≡ unwrap_or (position (λ (byte : ℕ). byte == 10) line) (length line)
+line_found line = line_position line ∙ grind (arith, common_steps, prefix_len-le-length (λ (byte : ℕ). not (byte == 10)) line)
 
-  -- the end of the text
-  pub end_last : {end at : ℕ} → length line ≤ at → end ≡ at + line_length (drop at line) → at ≡ end
-  unfolding line_length
-  end_last {at = at} h e =
-      let none : line_length (drop at line) ≡ 0 = ap line_length (drop_of_length-le line h) in
-      omega (arith, e, none)
+-- no line begins behind the text
+pub line_none : (text : List ℕ) (place : ℕ) → length text ≤ place → line_length (drop place text) ≡ 0
+unfolding line_length
+line_none text place h = ap line_length (drop_of_length-le text h)
 
 -- a line ends within the text
-line_inside : (text : List ℕ) → line_length text ≤ length text
+pub line_inside : (text : List ℕ) → line_length text ≤ length text
 unfolding line_length
 line_inside [] = omega arith
 line_inside (byte ∷ bytes) = go (eqb byte 10) (line_inside bytes)

@@ -1,6 +1,6 @@
 -- The length of a line; and decimal fields with a separator before each, read byte by byte: what they are before the first, and after one
 -- more byte.
-use Rattle.std.specs.Prelude.{ℕ, suc, ◌+◌, ◌-◌, ◌*◌, Bool, true, false, ◌&&◌, ◌||◌, not, cond, List, [], ◌∷◌, ltb, leb, eqb, length, get_or, set, drop}
+use Rattle.std.specs.Prelude.{ℕ, suc, ◌+◌, ◌-◌, ◌*◌, Bool, true, false, ◌&&◌, ◌||◌, not, cond, List, [], ◌∷◌, ltb, leb, eqb, Option, Some, None, length, get_or, set, drop}
 use Rattle.text.specs.Text.{digits}
 use Rattle.line_fields.specs.declared.Fields.{Fields}
 use Rattle.line_fields.specs.declared.Scan.{Scan}
@@ -69,6 +69,10 @@ after separator f byte =
 unfoldable pub fields_from : ℕ → Fields → List ℕ → Fields
 fields_from separator f [] = f
 fields_from separator f (byte ∷ bytes) = fields_from separator (after separator f byte) bytes
+
+-- the numbers of fields, with zeros behind them, where these are so many
+abbrev pub numbers_if : Fields → ℕ → Option (List ℕ)
+numbers_if f count = cond ((f.valid && not f.empty) && eqb f.count count) (Some f.numbers) None
 
 -- a byte of fields: a separator or a digit
 unfoldable pub in_fields : ℕ → ℕ → Bool

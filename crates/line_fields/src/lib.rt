@@ -1,10 +1,12 @@
 // The lines of a text: where one ends, and its fields, a separator and a decimal number each, read byte by byte.
 #![tactic(auto)]
 
-ghost use Rattle.std.specs.Prelude.{◌≡◌, cond, ◌+◌, ◌-◌, ◌*◌, drop};
-ghost use Rattle.line_fields.specs.Fields.{no_field, one_field, scan_of, invalid, begun, grown, step, fields_from, in_fields, fields_at, line_length};
+ghost use Rattle.std.specs.Prelude.{◌≡◌, cond, ◌+◌, ◌==◌, drop, position};
+ghost use Rattle.std.specs.Option.{unwrap_or};
+ghost use Rattle.line_fields.specs.Fields.{no_field, one_field, scan_of, invalid, begun, grown, step, fields_by, fields_from, in_fields, fields_at, line_length, numbers_if};
 
-// The fields read so far: whether they are valid, whether the last has no digit yet, how many are begun, and their numbers.
+// The fields read so far: whether they are valid, whether the last has no digit yet, how many are begun, and their numbers. Flags, and not an
+// enum: `fields_from` and the theorems `all_read` and `unspelled` speak of them, and of how far a line was read that is not valid.
 #[derive(Clone, Copy)]
 pub struct Fields {
     pub valid: bool,
@@ -29,124 +31,105 @@ struct Scan {
     number: u32,
 }
 
-// A number with one more digit behind it.
-fn extended(number: u32, digit: u32) -> u64
-    ensures { result ≡ number * 10 + digit }
-{
-    number as u64 * 10 + digit as u64
+impl Fields {
+    // The numbers, with zeros behind them, where the fields are so many of them.
+    pub fn numbers_if(self, count: usize) -> Option<[u32; 6]>
+        ensures { result ≡ numbers_if self count }
+    {
+        (self.valid & !self.empty & (self.count == count)).then_some(self.numbers)
+    }
 }
 
 // Whether a byte is one of fields: a separator or a digit.
+#[tactic(auto, unfolding(crate::specs::Fields::in_fields))]
 fn in_fields(separator: u8, byte: u8) -> bool
     ensures { result ≡ in_fields separator byte }
 {
-    if byte == separator {
-        return true;
-    }
-    (48 <= byte) & (byte <= 57)
+    (byte == separator) | byte.is_ascii_digit()
 }
 
 impl Scan {
     // Before the first field, or with the first begun.
+    #[tactic(auto, unfolding(crate::specs::Fields::scan_of, crate::specs::Fields::no_field, crate::specs::Fields::one_field))]
     fn start(first: bool) -> Scan
         ensures { result ≡ scan_of (cond first one_field no_field) }
     {
-        if first {
-            return Scan {
-                valid: true,
-                empty: true,
-                count: 1,
-                number: 0,
-            };
-        }
         Scan {
             valid: true,
-            empty: false,
-            count: 0,
+            empty: first,
+            count: usize::from(first),
             number: 0,
         }
     }
 
-    // The same place, no longer valid.
-    fn invalid(self) -> Scan
-        ensures { result ≡ invalid self }
+    // After a separator one more field is begun; none where the last has no digit or six are begun.
+    #[tactic(auto, unfolding(crate::specs::Fields::begun, crate::specs::Fields::invalid))]
+    fn begun(self) -> Option<Scan>
+        ensures { unwrap_or result (invalid self) ≡ begun self }
     {
-        Scan {
-            valid: false,
-            empty: self.empty,
-            count: self.count,
-            number: self.number,
+        if self.empty || 6 <= self.count {
+            return None;
         }
-    }
-
-    // After a separator: one more field is begun, unless the last has no digit or six are begun.
-    fn begun(self) -> Scan
-        ensures { result ≡ begun self }
-    {
-        let count = self.count;
-        if self.empty {
-            return self.invalid();
-        }
-        if 6 <= count {
-            return self.invalid();
-        }
-        Scan {
+        Some(Scan {
             valid: true,
             empty: true,
-            count: count + 1,
+            count: self.count + 1,
             number: 0,
-        }
+        })
     }
 
-    // After a digit: the last number goes on, unless no field is begun, the number is a zero, or it grows too large.
-    fn grown(self, digit: u32) -> Scan
-        ensures { result ≡ grown self digit }
+    // After a digit the last number goes on; none where no field is begun, the number is a zero, or it grows too large.
+    #[tactic(auto, unfolding(crate::specs::Fields::grown, crate::specs::Fields::invalid))]
+    fn grown(self, digit: u32) -> Option<Scan>
+        ensures { unwrap_or result (invalid self) ≡ grown self digit }
     {
-        let count = self.count;
-        let empty = self.empty;
-        let number = self.number;
-        if count < 1 {
-            return self.invalid();
+        if self.count < 1 || (!self.empty && self.number == 0) {
+            return None;
         }
-        if !empty & (number == 0) {
-            return self.invalid();
-        }
-        let value = extended(number, digit);
-        if 4294967295 < value {
-            return self.invalid();
-        }
-        Scan {
+        let number = self.number.checked_mul(10)?.checked_add(digit)?;
+        Some(Scan {
             valid: true,
             empty: false,
-            count,
-            number: value as u32,
+            number,
+            ..self
+        })
+    }
+
+    // After one more byte, where it goes on.
+    #[tactic(auto, unfolding(crate::specs::Fields::step, crate::specs::Fields::invalid))]
+    fn next(self, separator: u8, byte: u8) -> Option<Scan>
+        ensures { unwrap_or result (invalid self) ≡ step separator self byte }
+    {
+        match byte {
+            _ if !self.valid => None,
+            _ if byte == separator => self.begun(),
+            b'0'..=b'9' => self.grown(u32::from(byte - b'0')),
+            _ => None,
         }
     }
 
-    // After one more byte.
+    // After one more byte; what does not go on is no longer valid.
+    #[tactic(auto, unfolding(crate::specs::Fields::invalid))]
     fn after(self, separator: u8, byte: u8) -> Scan
         ensures { result ≡ step separator self byte }
     {
-        if !self.valid {
-            return self.invalid();
-        }
-        if byte == separator {
-            return self.begun();
-        }
-        if byte < 48 {
-            return self.invalid();
-        }
-        if 57 < byte {
-            return self.invalid();
-        }
-        self.grown((byte - 48) as u32)
+        self.next(separator, byte).unwrap_or(Scan {
+            valid: false,
+            ..self
+        })
     }
 
-    // The place of the last number; the first where no field is begun.
-    fn last(self) -> usize
-        ensures { result ≡ self.count - 1 }
+    // The fields read at this place, with these numbers.
+    #[tactic(auto, unfolding(crate::specs::Fields::fields_by))]
+    fn fields(self, numbers: [u32; 6]) -> Fields
+        ensures { result ≡ fields_by self numbers }
     {
-        if self.count < 1 { 0 } else { self.count - 1 }
+        Fields {
+            valid: self.valid,
+            empty: self.empty,
+            count: self.count,
+            numbers,
+        }
     }
 }
 
@@ -156,21 +139,19 @@ pub fn read_fields(text: &[u8], place: usize, separator: u8, first: bool) -> Sca
 {
     let mut scan = Scan::start(first);
     let mut numbers = [0u32; 6];
-    let mut at = place;
-    while at < text.len() && in_fields(separator, text[at]) {
+    for at in place..text.len() {
+        if !in_fields(separator, text[at]) {
+            return Scanned {
+                fields: scan.fields(numbers),
+                end: at,
+            };
+        }
         scan = scan.after(separator, text[at]);
-        let last = scan.last();
-        numbers[last] = scan.number;
-        at += 1;
+        numbers[scan.count.saturating_sub(1)] = scan.number;
     }
     Scanned {
-        fields: Fields {
-            valid: scan.valid,
-            empty: scan.empty,
-            count: scan.count,
-            numbers,
-        },
-        end: at,
+        fields: scan.fields(numbers),
+        end: place.max(text.len()),
     }
 }
 
@@ -178,24 +159,27 @@ pub fn read_fields(text: &[u8], place: usize, separator: u8, first: bool) -> Sca
 pub fn fields_from(line: &[u8], place: usize, separator: u8) -> Fields
     ensures { result ≡ fields_from separator no_field (drop place line.now) }
 {
-    let scanned = read_fields(line, place, separator, false);
-    let fields = scanned.fields;
-    let numbers = fields.numbers;
+    let Scanned { fields, end } = read_fields(line, place, separator, false);
     Fields {
-        valid: fields.valid & (line.len() <= scanned.end),
-        empty: fields.empty,
-        count: fields.count,
-        numbers,
+        valid: fields.valid & (line.len() <= end),
+        ..fields
     }
 }
 
+// Where the newline of a line stands, if it has one.
+fn newline(line: &[u8]) -> Option<usize>
+    ensures { result ≡ position (λ byte. byte == 10) line.now }
+{
+    line.iter().position(|byte| *byte == b'\n')
+}
+
 // The end of the line that begins at a place: where its newline stands, or the end of the text. A place beyond the end is its own.
+#[tactic(auto, using(crate::proofs::Scanning::line_inside, crate::proofs::Scanning::line_none))]
 pub fn line_end(text: &[u8], place: usize) -> usize
     ensures { result ≡ place + line_length (drop place text.now) }
 {
-    let mut end = place;
-    while end < text.len() && text[end] != 10 {
-        end += 1;
+    match text.get(place..) {
+        Some(line) => place + newline(line).unwrap_or(line.len()),
+        None => place,
     }
-    end
 }

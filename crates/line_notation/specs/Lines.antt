@@ -1,5 +1,5 @@
 -- What a line says, without its newline: a message, or none, and its numbers.
-use Rattle.std.specs.Prelude.{ℕ, suc, ◌+◌, Bool, ◌&&◌, ◌||◌, not, cond, List, [], ◌∷◌, ltb, eqb, get_or, drop}
+use Rattle.std.specs.Prelude.{ℕ, ◌+◌, Bool, ◌&&◌, ◌||◌, not, cond, List, [], ◌∷◌, ltb, eqb, get_or, drop}
 use Rattle.refusals.specs.declared.Refusal.TheVariants.{UnknownKind}
 use Rattle.frames.specs.declared.Message.{Message}
 use Rattle.frames.specs.declared.Message.TheVariants.{Quote, Sized, Pair, Bare, Position, Open, Refused}
@@ -11,6 +11,10 @@ use Rattle.line_fields.specs.Fields.{no_field, fields_from}
 -- no message
 unfoldable pub nothing : Message
 nothing = Refused UnknownKind
+
+-- the message of fields that are valid, none of them empty; no message otherwise
+abbrev pub whole : Fields → Message → Message
+whole f message = cond (not f.valid || f.empty) nothing message
 
 -- three numbers that fit the frame of an opening
 unfoldable pub opens : Fields → Bool
@@ -61,6 +65,10 @@ of_number sign n =
     (cond (eqb sign 85) (Sized unwatch_kind n)
     (cond (eqb sign 343) (Sized watch_two_kind n)
     (cond (eqb sign 341) (Sized unwatch_two_kind n) nothing))))
+
+-- the message of this kind with such a number
+unfoldable pub number_by : ℕ → Fields → Message
+number_by kind f = cond (fits f) (Sized kind (get_or f.numbers 0 0)) nothing
 
 -- the message of a sign and its fields, if they are such a number
 unfoldable pub sized_of : ℕ → Fields → Message

@@ -1,5 +1,6 @@
 -- A line that is laid: its frame fits any output of 25 bytes, so that it is laid exactly if the line says a message.
-use Rattle.std.proofs.Common.{◌≡◌, ℕ, suc, ◌+◌, ◌-◌, ◌%◌, ◌^◌, ◌<◌, ◌≤◌, Bool, true, false, cond, not, eqb, ltb, List, [], ◌∷◌, ◌++◌, length, take, drop, sym, refl, ap, ◌∙◌, append_assoc, append-nil, arith, length-append, length-drop, length-set, drop_of_length-le, length-take-le, take_all, drop-drop, take_at, ltb-true, le-ltb, lt-ltb, ne_eqb}
+use Rattle.std.proofs.Common.{◌≡◌, ℕ, suc, min, ◌+◌, ◌-◌, ◌%◌, ◌^◌, ◌<◌, ◌≤◌, Bool, true, false, cond, not, eqb, ltb, List, [], ◌∷◌, ◌++◌, length, take, drop, sym, refl, ap, ◌∙◌, append_assoc, append-nil, arith, length-append, length-drop, length-set, drop_of_length-le, length-take-le, take_all, drop-drop, take_at, ltb-true, le-ltb, lt-ltb, ne_eqb}
+use Rattle.std.proofs.lemmas.Bool.Decides.{nat_tests}
 use borrow.Rule.Slice.PartMut.{mid_of, put_mid}
 use Rattle.lists.specs.Lists.{laid}
 use Rattle.lists.proofs.Booleans.{clash, and_right}
@@ -10,8 +11,10 @@ use Rattle.frames.specs.Frames.{framed, kind_of, frame}
 use Rattle.frames.proofs.FrameSizes.{column_range, frame_size, sized}
 use Rattle.frames.specs.declared.Message.{Message}
 use Rattle.frames.specs.declared.Message.TheVariants.{Quote, Sized, Change, Pair, Bare, Position, Open, EndOfTape, Refused}
-use Rattle.frame_writer.specs.declared.Written.{Written}
-use Rattle.frame_writer.specs.Writing.{write_answer, Wrote}
+use Rattle.refusals.specs.declared.Refusal.{Refusal}
+use Rattle.std.specs.Prelude.{Result, Ok, Err}
+use Rattle.std.specs.Result.{result_unwrap_or}
+use Rattle.frame_writer.specs.Writing.{write_answer, count_of, Wrote}
 use Rattle.line_fields.specs.declared.Fields.{Fields}
 use Rattle.line_fields.specs.Fields.{no_field, fields_by, after, fields_from, line_length}
 use Rattle.line_fields.proofs.Scanning.{end_inside}
@@ -32,6 +35,11 @@ said_six [] = refl
 said_six (letter ∷ bytes) = fields_six no_field (cond (marked (letter ∷ bytes)) (drop 1 bytes) bytes) refl
 
 -- ---- its frame
+
+-- how many bytes were written, none where the writer refused
+counted : (r : Result ℕ Refusal) → result_unwrap_or r 0 ≡ count_of r
+counted (Ok count) = refl
+counted (Err k) = refl
 
 -- the frame of a message has at most 24 bytes behind its kind
 body_short : (m : Message) → framed m ≡ true → body_length (kind_of m) ≤ 24
@@ -79,20 +87,20 @@ module _ (line : List ℕ) where
   unfolding says frame_of laid
   too_long before h = record { count = rw (le-ltb (length line) 68 h); bytes = rw (le-ltb (length line) 68 h) }
 
-  module _ {before after : List ℕ} {r : Written} (w : Wrote message (said_by line).numbers before r after) (short : length line < 68) (room : 25 ≤ length before) where
+  module _ {before after : List ℕ} {r : Result ℕ Refusal} (w : Wrote message (said_by line).numbers before r after) (short : length line < 68) (room : 25 ≤ length before) where
     -- it says a message exactly if its frame is written
     by_framed : (f : Bool) → framed message ≡ f → write_answer message (said_by line).numbers (length before) ≡ cond f 0 1
     unfolding write_answer first_of
     by_framed true f = rw (f, le-ltb (length before) (length framed_bytes) (omega (arith, size f, body_short message f)))
     by_framed false f = rw f
 
-    laid_by : (f : Bool) → framed message ≡ f → LineLaid line before r.count after
+    laid_by : (f : Bool) → framed message ≡ f → LineLaid line before (count_of r) after
     unfolding says frame_of laid granted
     laid_by true f = record { count = w.count ∙ rw (by_framed true f, lt-ltb (length line) 68 short, f); bytes = w.bytes ∙ rw (by_framed true f, lt-ltb (length line) 68 short, f) }
     laid_by false f = record { count = w.count ∙ rw (by_framed false f, lt-ltb (length line) 68 short, f); bytes = w.bytes ∙ rw (by_framed false f, lt-ltb (length line) 68 short, f) }
 
-    pub laid_line : LineLaid line before r.count after
-    laid_line = laid_by (framed message) refl
+    pub laid_line : {count : ℕ} → count ≡ result_unwrap_or r 0 → LineLaid line before count after
+    laid_line n = rw (n ∙ counted r) (laid_by (framed message) refl)
 
 -- ---- behind what is gathered
 
@@ -137,6 +145,10 @@ laid_short {line = line} l = omega (arith, l.count, frame_short line)
 pub stop_inside : (text : List ℕ) (place stop : ℕ) → place ≤ length text → stop ≡ stop_at text place → stop ≤ length text
 stop_inside text place stop h e = omega (arith, e, end_inside text place h)
 
+-- the place behind a line that ends there
+behind : (stop end : ℕ) → stop ≤ end → min end (stop + 1) ≡ cond (ltb stop end) (stop + 1) stop
+behind stop end h = grind (arith, nat_tests)
+
 module _ (text before : List ℕ) (s : Writer) {stop : ℕ} (room : s.used + 25 ≤ length before) (e : stop ≡ stop_at text s.place) where
   -- the line of the text that ends there
   line_is : take (stop - s.place) (drop s.place text) ≡ line_at text s.place
@@ -145,17 +157,17 @@ module _ (text before : List ℕ) (s : Writer) {stop : ℕ} (room : s.used + 25 
       ap (λ (k : ℕ). take k (drop s.place text)) n
 
   pub line_taken : {count place lines : ℕ} {last : List ℕ} → LineLaid (take (stop - s.place) (drop s.place text)) (mid_of s.used (length before - s.used) before) count last
-      → lines ≡ (s.lines + 1) % 2 ^ 64 → place ≡ cond (ltb stop (length text)) (stop + 1) stop
+      → lines ≡ (s.lines + 1) % 2 ^ 64 → stop ≤ length text → place ≡ min (length text) (stop + 1)
       → LineTaken text s before
       (record { lines = lines; place = place; end = s.end; used = s.used + count; unsaid = eqb count 0; ended = s.ended; over = s.over })
       (put_mid s.used (length before - s.used) before last)
   unfolding numbered
-  line_taken {count = count} {last = last} l n p =
+  line_taken {count = count} {last = last} l n i p =
       let count_is : count ≡ length (frame_of (line_at text s.place)) = rw line_is at l.count in
       let bytes_are : last ≡ laid (frame_of (line_at text s.place)) (mid_of s.used (length before - s.used) before) = rw line_is at l.bytes in
       record {
         lines = n;
-        place = rw e at p;
+        place = rw e at (p ∙ behind stop (length text) i);
         unsaid = rw count_is (sym (unsaid_none (line_at text s.place)));
         gathered = gathered_behind s.used (s.used + count) (frame_of (line_at text s.place)) before (omega arith) (ap (λ (k : ℕ). s.used + k) count_is) bytes_are;
         same = record { end = refl; ended = refl; over = refl };

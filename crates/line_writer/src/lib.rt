@@ -2,7 +2,7 @@
 // the input is read on behind a line that is begun. What runs of these calls hand on is what is written of the input (specs/Runs.antt).
 #![tactic(auto)]
 
-ghost use Rattle.std.specs.Prelude.{◌≡◌, ◌+◌, ◌-◌, ◌≤◌, true, false, length, take, drop, if◌then◌else◌, nat_lt};
+ghost use Rattle.std.specs.Prelude.{◌≡◌, ◌+◌, ◌≤◌, true, false, length, take, drop};
 ghost use Rattle.std.specs.Io.KnownBytes.{Appends, Consumes};
 ghost use Rattle.line_writer.specs.Written.{LineLaid, LineTaken, Flushed, Refilled, stop_at, comes, kept, pending};
 
@@ -14,7 +14,8 @@ use streams::Outlet;
 const TOO_LONG: usize = 68;
 
 // Where a writer stands: how many lines it has taken, the place of the next one and the end of what has come of the input, how many bytes
-// of the tape are gathered, whether the last line said no message, whether the input has ended, and whether all is over.
+// of the tape are gathered, whether the last line said no message, whether the input has ended, and whether all is over. Each flag says a
+// thing of its own, of which the runs of `writer_writes` speak.
 #[derive(Drop)]
 pub struct Writer {
     pub lines: u64,
@@ -34,19 +35,7 @@ fn lay_line(line: &[u8], out: &mut [u8]) -> usize
     if TOO_LONG <= line.len() {
         return 0;
     }
-    let written = line_notation::write_line(line, out);
-    written.count
-}
-
-// The place behind a line that ends there: behind its newline, if it has one.
-fn behind(stop: usize, end: usize) -> usize
-    requires { stop ≤ end }
-    ensures { result ≡ (if nat_lt stop end then stop + 1 else stop) }
-{
-    if stop < end {
-        return stop + 1;
-    }
-    stop
+    line_notation::write_line(line, out).unwrap_or(0)
 }
 
 // Takes the line at which a writer stands in what has come of the input, which ends there: it has come whole, or is the last.
@@ -55,15 +44,14 @@ pub fn take_line(writer: Writer, stop: usize, text: &[u8], out: &mut [u8]) -> Wr
     requires stop_value { (stop ≡ stop_at text.now writer.place) × (comes text.now writer ≡ true) }
     ensures { LineTaken text.now writer out.old result out.new }
 {
-    let place = writer.place;
-    let used = writer.used;
-    let count = lay_line(&text[place..stop], &mut out[used..]);
-    let mut now = writer;
-    now.lines = now.lines.wrapping_add(1);
-    now.place = behind(stop, text.len());
-    now.used = used + count;
-    now.unsaid = count == 0;
-    now
+    let count = lay_line(&text[writer.place..stop], &mut out[writer.used..]);
+    Writer {
+        lines: writer.lines.wrapping_add(1),
+        place: text.len().min(stop + 1),
+        used: writer.used + count,
+        unsaid: count == 0,
+        ..writer
+    }
 }
 
 // Writes out the gathered bytes; where that fails all is over.
@@ -73,25 +61,12 @@ pub fn flush<W: Write, E: Write>(writer: Writer, out: &[u8], outlet: &mut Outlet
     ensures written { result.over ≡ false → Appends (W.contents outlet.old.output)
         (W.contents outlet.new.output) (take writer.used out.now) }
 {
-    let used = writer.used;
-    let mut now = writer;
-    now.used = 0;
-    if !streams::put_out(outlet, &out[..used], b"tape_writer: standard output") {
-        now.over = true;
+    let is_out = streams::put_out(outlet, &out[..writer.used], b"tape_writer: standard output");
+    Writer {
+        used: 0,
+        over: writer.over | !is_out,
+        ..writer
     }
-    now
-}
-
-// The end of what is kept of a begun line: enough to show that it is too long.
-fn kept_end(place: usize, end: usize) -> usize
-    requires { place ≤ end }
-    ensures value { result ≡ (if nat_lt 68 (end - place) then place + 68 else end) }
-    ensures lower_bound { (place ≤ result) × (result ≤ end) }
-{
-    if TOO_LONG < end - place {
-        return place + TOO_LONG;
-    }
-    end
 }
 
 // Reads on behind a line that is begun, which is moved to the front of what has come of the input; nothing once the input has ended, or
@@ -108,14 +83,13 @@ pub fn refill<R: Read, E: Write>(
     ensures given { Consumes (R.remaining input.old) (R.remaining input.new)
         (drop (length (kept writer text.old)) (pending result text.new)) }
 {
-    let mut now = writer;
-    let end = now.end;
-    let place = now.place;
-    let whole = line_end(&text[..end], place);
-    if now.ended | (whole < end) {
-        return now;
+    let place = writer.place;
+    let end = writer.end;
+    if writer.ended | (line_end(&text[..end], place) < end) {
+        return writer;
     }
-    let stop = kept_end(place, end);
+    // Of a begun line is kept what shows that it is too long.
+    let stop = end.min(place + TOO_LONG);
     streams::to_front(text, place, stop);
     let rest = stop - place;
     let came = streams::read_in(
@@ -124,8 +98,10 @@ pub fn refill<R: Read, E: Write>(
         errors,
         b"tape_writer: standard input",
     );
-    now.place = 0;
-    now.end = rest + came.count;
-    now.ended = !came.more;
-    now
+    Writer {
+        place: 0,
+        end: rest + came,
+        ended: came == 0,
+        ..writer
+    }
 }

@@ -9,10 +9,7 @@ fn is_given<V: Env>(env: &V, number: usize) -> bool {
 
 // How many there are, the program's own name among them.
 pub fn count<V: Env>(env: &V) -> usize {
-    for number in 0..usize::MAX {
-        if !is_given(env, number) {
-            return number;
-        }
-    }
-    usize::MAX
+    (0..usize::MAX)
+        .find(|number| !is_given(env, *number))
+        .unwrap_or(usize::MAX)
 }

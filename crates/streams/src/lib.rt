@@ -5,7 +5,7 @@
 pub mod arguments;
 pub mod files;
 
-ghost use Rattle.std.specs.Prelude.{◌≡◌, ◌-◌, ◌≤◌, ◌<◌, ltb, length, take, drop, true};
+ghost use Rattle.std.specs.Prelude.{◌≡◌, ◌-◌, ◌≤◌, length, take, drop, true};
 ghost use Rattle.std.specs.Io.KnownBytes.{Appends, Consumes};
 ghost use Rattle.lists.specs.Lists.{laid};
 ghost use Rattle.streams.specs.Counts.{IsPrefixLen};
@@ -20,14 +20,8 @@ pub struct Outlet<W, E> {
     pub errors: E,
 }
 
-// What a read gave: how many bytes, and whether the input goes on, which it does where some came.
-#[derive(Drop)]
-pub struct Chunk {
-    pub count: usize,
-    pub more: bool,
-}
-
 // Moves the bytes from a place to an end to the front of the buffer.
+#[tactic(auto, unfolding(lists::specs::Lists::laid))]
 pub fn to_front(buffer: &mut [u8], place: usize, end: usize)
     requires { (place ≤ end) × (end ≤ length buffer.old) }
     ensures { buffer.new ≡ laid (take (end - place) (drop place buffer.old))
@@ -52,7 +46,7 @@ pub fn say_failure<E: Write>(errors: &mut E, what: &[u8], failure: &io::Error) {
     let mut text = [0u8; REASON];
     let mut rest = &mut text[..];
     let _ = write!(rest, "{failure}");
-    let used = REASON - rest.len().min(REASON);
+    let used = REASON.saturating_sub(rest.len());
     let _ = errors.write_all(what);
     let _ = errors.write_all(b": ");
     let _ = errors.write_all(reason(&text[..used]));
@@ -76,28 +70,22 @@ pub fn put_out<W: Write, E: Write>(
     }
 }
 
-// Reads from the input into the buffer. A read that fails is the end of the input, said on the stream of errors.
+// Reads from the input into the buffer: how many bytes came, none at the end of the input. A read that fails is the end of the input, said
+// on the stream of errors.
 pub fn read_in<R: Read, E: Write>(
     input: &mut R,
     buffer: &mut [u8],
     errors: &mut E,
     program: &[u8],
-) -> Chunk
-    ensures prefix_len { IsPrefixLen result.count buffer.new }
-    ensures more_value { 0 < length buffer.new → result.more ≡ ltb 0 result.count }
-    ensures bytes { Consumes (R.remaining input.old) (R.remaining input.new) (take result.count buffer.new) }
+) -> usize
+    ensures prefix_len { IsPrefixLen result buffer.new }
+    ensures bytes { Consumes (R.remaining input.old) (R.remaining input.new) (take result buffer.new) }
 {
     match input.read(buffer) {
-        Ok(count) => Chunk {
-            count,
-            more: 0 < count,
-        },
+        Ok(count) => count,
         Err(failure) => {
             say_failure(errors, program, &failure);
-            Chunk {
-                count: 0,
-                more: false,
-            }
+            0
         }
     }
 }
@@ -107,6 +95,7 @@ pub fn read_full<R: Read>(input: &mut R, buffer: &mut [u8]) -> usize
     ensures prefix_len { IsPrefixLen result buffer.new }
     ensures bytes { Consumes (R.remaining input.old) (R.remaining input.new) (take result buffer.new) }
 {
+    // No `for`: a read gives as many bytes as it likes, and what it gives moves the place.
     let mut done = 0;
     while done < buffer.len() {
         match input.read(&mut buffer[done..]) {
@@ -159,8 +148,7 @@ mod tests {
         let mut errors = Vec::new(rt.alloc());
         let mut buffer = [0u8; 4];
         let came = read_in(&mut Broken, &mut buffer, &mut errors, b"a program");
-        assert_eq!(rt; came.count, 0);
-        assert!(rt; !came.more);
+        assert_eq!(rt; came, 0);
         assert_eq!(rt;
             errors.as_slice(),
             b"a program: Input/output error\n".as_slice()

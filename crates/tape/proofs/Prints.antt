@@ -36,7 +36,7 @@ cells_kept tape place k = let read = read_at tape place in asked_cells (asked (b
 
 -- a step that met its contract played its frames: the text that it laid, and the player that it leaves, are the definition's
 module _ {one : Played Player} {before after bytes' : List ℕ} {r : Step} {t' : Tables} (m : SteppedTo one before r t' bytes' after) where
-  pub its_text : take r.count after ≡ one.text
+  pub its_text : take r.turn.count after ≡ one.text
   unfolding laid
   its_text = rw (m.count, m.text) (take-append_seam one.text (drop (length one.text) before))
 

@@ -29,6 +29,6 @@ module _ (k : Player) (c : Reached k.world) where
 
 -- what playing one frame leaves
 pub step_reached : (tape : List ℕ) (place : ℕ) (h : Head) (t : Tables) (ws bytes : List ℕ) {t' : Tables} {before bytes' after : List ℕ} {r : Step}
-    → Stepped tape place (player h t ws bytes) before r t' bytes' after → Reached (world h t ws) → Reached (world r.head t' r.watches)
+    → Stepped tape place (player h t ws bytes) before r t' bytes' after → Reached (world h t ws) → Reached (world r.turn.head t' r.turn.watches)
 step_reached tape place h t ws bytes s c =
     rw (s.head, s.watches, s.lent) (frame_reached (player h t ws bytes) c tape place)

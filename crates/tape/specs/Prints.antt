@@ -11,7 +11,7 @@ use Rattle.tape.specs.Steps.{Stepped}
 
 -- the player that a step leaves: it keeps its cells for positions
 abbrev pub left : Player → Step → Tables → List ℕ → Player
-left k r t' bytes' = record { world = world r.head t' r.watches; outputs = record { bytes = bytes'; cells = k.outputs.cells } }
+left k r t' bytes' = record { world = world r.turn.head t' r.turn.watches; outputs = record { bytes = bytes'; cells = k.outputs.cells } }
 
 -- what a player prints from a buffer with this piece of a tape, from a place of it on, while the rest is still to come: each frame by a
 -- step that was made and met its contract, on what the step before left; it is ready, or nothing more comes; the bytes
@@ -21,10 +21,10 @@ pub data Prints : List ℕ → ℕ → Player → List ℕ → List ℕ → Type
   goes_on_lem : {piece rest text before after bytes' : List ℕ} {place : ℕ} {k : Player} {r : Step} {t' : Tables} → (ready piece place ≡ true) ⊎ (rest ≡ [])
       → Stepped piece place k before r t' bytes' after → r.over ≡ false
       → Prints piece r.next (left k r t' bytes') rest text
-      → Prints piece place k rest (take r.count after ++ text)
+      → Prints piece place k rest (take r.turn.count after ++ text)
   ends : {piece rest before after bytes' : List ℕ} {place : ℕ} {k : Player} {r : Step} {t' : Tables} → (ready piece place ≡ true) ⊎ (rest ≡ [])
       → Stepped piece place k before r t' bytes' after → r.over ≡ true
-      → Prints piece place k rest (take r.count after)
+      → Prints piece place k rest (take r.turn.count after)
   forgets : (played : List ℕ) {piece rest text : List ℕ} {place : ℕ} {k : Player} → Prints piece place k rest text → Prints (played ++ piece) (length played + place) k rest text
   reads : (more : List ℕ) {piece rest text : List ℕ} {place : ℕ} {k : Player} → Prints (piece ++ more) place k rest text → Prints piece place k (more ++ rest) text
   slides : {piece rest text : List ℕ} {place : ℕ} {k : Player} {u : Tables}

@@ -10,12 +10,12 @@ use Rattle.tape.specs.declared.SlidStep.{SlidStep}
 
 -- what playing frames that come to this hands back, and leaves of tables, bytes and text
 pub record SteppedTo (one : Played Player) (before : List ℕ) (r : Step) (t' : Tables) (bytes' after : List ℕ) : Type 0 where
-  pub answer : number_of r.answer ≡ one.number
+  pub answer : number_of r.turn.answer ≡ one.number
   pub over : r.over ≡ one.over
   pub next : r.next ≡ one.next
-  pub count : r.count ≡ length one.text
-  pub head : r.head ≡ one.state.world.head
-  pub watches : r.watches ≡ one.state.world.lent.watches
+  pub count : r.turn.count ≡ length one.text
+  pub head : r.turn.head ≡ one.state.world.head
+  pub watches : r.turn.watches ≡ one.state.world.lent.watches
   pub lent : t' ≡ one.state.world.lent.tables
   pub bytes : bytes' ≡ one.state.outputs.bytes
   pub text : after ≡ laid one.text before
@@ -32,4 +32,4 @@ tables_left one = one.state.world.lent.tables
 pub record StepMade (reachable : Bool) (one : Played Player) (before : List ℕ) (s : SlidStep) (t' : Tables) (bytes' after : List ℕ) : Type 0 where
   pub stepped : SteppedTo one before s.step (tables_left one) bytes' after
   pub moved : reachable ≡ false → t' ≡ tables_left one
-  pub slides : reachable ≡ true → Slid s.step.head (tables_left one) t' s.by
+  pub slides : reachable ≡ true → Slid s.step.turn.head (tables_left one) t' s.by

@@ -3,6 +3,8 @@
 
 mod playing;
 
+ghost use Rattle.lent_tables.specs.Lent.{lent};
+
 pub use head::CHANGE_BYTES;
 use head::{CHANGE_FRAME, PLACES};
 pub use line_answers::Step;

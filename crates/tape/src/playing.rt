@@ -1,6 +1,6 @@
 // The player: reads the frame at a place, judges its place on the tape, makes its call, and lays its lines.
+ghost use Rattle.lent_tables.specs.Lent.{lent_mut, SameLoan};
 ghost use Rattle.std.specs.Prelude.{◌≡◌, ◌≤◌, length};
-ghost use Rattle.model.specs.Promises.{tables};
 ghost use Rattle.call_quoting.specs.Known.{Known};
 ghost use Rattle.tape_model.specs.Play.{book_play};
 ghost use Rattle.line_answers.specs.Turns.{text_bytes, player};
@@ -8,6 +8,7 @@ ghost use Rattle.tape.specs.Steps.{Stepped, StepMade};
 
 use crate::{CHANGE_BYTES, SlidStep, TEXT_BYTES};
 use head::Head;
+use lent_tables::LentTablesMut;
 use line_answers::{Step, step_of};
 use tape_asking::wish_at;
 use tape_turns::make;
@@ -18,33 +19,33 @@ pub fn play_known(
     tape: &[u8],
     place: usize,
     head: Head,
-    columns: &mut [u32],
-    positions: &mut [u32],
-    lower_ends: &mut [u32],
-    upper_ends: &mut [u32],
+    tables: &mut LentTablesMut<'_>,
     watches: [u64; 8],
     bytes: &mut [u8; CHANGE_BYTES],
     text: &mut [u8],
 ) -> SlidStep
     requires text_bytes_in_bounds { text_bytes ≤ length text.old }
-    requires known { Known reachable head (tables columns.old positions.old lower_ends.old upper_ends.old)
+    requires known { Known reachable head (lent_mut tables.old)
         watches }
-    ensures { StepMade reachable (book_play tape.now place
-        (player head (tables columns.old positions.old lower_ends.old
-        upper_ends.old) watches bytes.old)) text.old result
-        (tables columns.new positions.new lower_ends.new upper_ends.new)
+    ensures same_loan { SameLoan tables.old tables.new }
+    ensures made { StepMade reachable (book_play tape.now place
+        (player head (lent_mut tables.old) watches bytes.old)) text.old result
+        (lent_mut tables.new)
         bytes.new text.new }
 {
     let wish = wish_at(tape, place, head);
-    let next = wish.next;
-    let quote = wish.columns;
-    let wanted = wish.wanted;
     let made = make(
-        reachable, wanted, quote, head, columns, positions, lower_ends, upper_ends, watches, bytes,
+        reachable,
+        wish.wanted,
+        wish.columns,
+        head,
+        tables,
+        watches,
+        bytes,
         text,
     );
     SlidStep {
-        step: step_of(place, next, made.turn),
+        step: step_of(place, wish.next, made.turn),
         by: made.by,
     }
 }
@@ -54,22 +55,17 @@ pub fn play(
     tape: &[u8],
     place: usize,
     head: Head,
-    columns: &mut [u32],
-    positions: &mut [u32],
-    lower_ends: &mut [u32],
-    upper_ends: &mut [u32],
+    tables: &mut LentTablesMut<'_>,
     watches: [u64; 8],
     bytes: &mut [u8; CHANGE_BYTES],
     text: &mut [u8; TEXT_BYTES],
 ) -> Step
-    ensures { Stepped tape.now place
-        (player head (tables columns.old positions.old lower_ends.old
-        upper_ends.old) watches bytes.old) text.old result
-        (tables columns.new positions.new lower_ends.new upper_ends.new)
+    ensures same_loan { SameLoan tables.old tables.new }
+    ensures made { Stepped tape.now place
+        (player head (lent_mut tables.old) watches bytes.old) text.old result
+        (lent_mut tables.new)
         bytes.new text.new }
 {
-    let played = play_known(
-        false, tape, place, head, columns, positions, lower_ends, upper_ends, watches, bytes, text,
-    );
+    let played = play_known(false, tape, place, head, tables, watches, bytes, text);
     played.step
 }

@@ -7,6 +7,8 @@ use mathlib.Core.List.{List}
 use lib.Dec.{eqb}
 use lib.ListN.{length, get_or, take, replicate, length-take, length-replicate}
 use borrow.Author.Tests.{eq-eqb, ne_eqb}
+use Rattle.std.specs.Prelude.{Option, Some, Result, Ok}
+use Rattle.refusals.specs.declared.Refusal.{Refusal}
 use Rattle.head.specs.declared.Desk.TheVariants.{One, Two}
 use Rattle.frame_kinds.specs.declared.Shape.{Shape}
 use Rattle.frame_kinds.specs.declared.Shape.TheVariants.{Columns, Size, SizePosition, SizePair, Bare, Position, Settings, Unknown}
@@ -19,7 +21,7 @@ use Rattle.model.specs.Calls.{Call}
 use Rattle.tape_asking.specs.declared.Wanted.{Wanted}
 use Rattle.tape_asking.specs.declared.Wanted.TheVariants.{Quote}
 use Rattle.tape_asking.specs.Asking.{Asked, finished, unread, misplaced, request, sized_asks, pair_asks, bare_asks, asks, in_place, placed, asked, playable}
-use Rattle.tape_asking.specs.Placing.{wants}
+use Rattle.tape_asking.specs.Placing.{frame_wants, wants}
 
 -- how many columns are asked with
 unfoldable columns_in : Asked → ℕ
@@ -160,15 +162,15 @@ module _ (b : Bool) (tape : List ℕ) (place : ℕ) (columns : List ℕ) where
   pub asked_ends : eqb (read_at tape place).next place ≡ ends (asked b (read_at tape place).says columns)
   asked_ends = (read_placed b tape place columns (found tape place)).last
 
-module _ (tape : List ℕ) (place : ℕ) (b : Bool) (r : Read) (w : Wanted) (e : reading r ≡ read_at tape place) (g : (columns : List ℕ) → wants w columns ≡ asked b (saying r.message) columns) where
+module _ (tape : List ℕ) (place : ℕ) (b : Bool) (r : Read) (w : Result (Option Wanted) Refusal) (e : reading r ≡ read_at tape place) (g : (columns : List ℕ) → wants w columns ≡ asked b (saying r.message) columns) where
   -- what is wanted is what is asked for at the place
   pub wanted_asked : (columns : List ℕ) → wants w columns ≡ asked b (read_at tape place).says columns
   wanted_asked columns = g columns ∙ ap (λ (x : Saying). asked b x columns) (read_says r e)
 
   -- a quote that is in its place has at most six columns
-  pub quote_bounded : {n : ℕ} → w ≡ Quote n → n ≤ 6
-  unfolding wants columns_in
+  pub quote_bounded : {n : ℕ} → w ≡ Ok (Some (Quote n)) → n ≤ 6
+  unfolding wants frame_wants columns_in
   quote_bounded {n} q =
       let columns = replicate {A = ℕ} n 0 in
-      let same : length (take n columns) ≡ columns_in (asked b (read_at tape place).says columns) = ap (λ (v : Wanted). columns_in (wants v columns)) (sym q) ∙ ap columns_in (wanted_asked columns) in
+      let same : length (take n columns) ≡ columns_in (asked b (read_at tape place).says columns) = ap (λ (v : Result (Option Wanted) Refusal). columns_in (wants v columns)) (sym q) ∙ ap columns_in (wanted_asked columns) in
       omega (arith, same, length-take n columns, length-replicate {A = ℕ} n 0, (read_placed b tape place columns (found tape place)).bounded)

@@ -4,6 +4,8 @@ use Prim.Native.Nat.{ℕ}
 use mathlib.Core.Bool.{Bool}
 use mathlib.Core.List.{List}
 use lib.ListN.{length}
+use Rattle.std.specs.Prelude.{Option, Result}
+use Rattle.refusals.specs.declared.Refusal.{Refusal}
 use Rattle.lists.specs.Lists.{run}
 use Rattle.head.specs.declared.Head.{Head}
 use Rattle.head.specs.Heads.{settings_hold}
@@ -26,7 +28,7 @@ read_six tape place cut = refl
 read_six tape place (whole k h) = refl
 
 -- what was read at a place, judged by whether an opening was accepted
-pub wish_there : (tape : List ℕ) (place : ℕ) (h : Head) (r : Read) {held : Bool} (w : Wanted) → reading r ≡ read_at tape place
+pub wish_there : (tape : List ℕ) (place : ℕ) (h : Head) (r : Read) {held : Bool} (w : Result (Option Wanted) Refusal) → reading r ≡ read_at tape place
     → held ≡ settings_hold h.dimensions h.capacity h.directions → ((columns : List ℕ) → wants w columns ≡ asked held (saying r.message) columns)
     → WishAt tape place h w r.columns r.next
 wish_there tape place h r {held} w e f g =

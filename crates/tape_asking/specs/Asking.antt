@@ -3,7 +3,6 @@ use Rattle.std.specs.Prelude.{ℕ, Bool, true, false, not, cond, List, eqb, take
 use Rattle.head.specs.declared.Desk.TheVariants.{One, Two}
 use Rattle.refusals.specs.Refusals.{number}
 use Rattle.frames.specs.declared.Message.{Message}
-use Rattle.frames.specs.declared.Message.TheVariants as Message
 use Rattle.frame_kinds.specs.Kinds.{look_kind, watch_kind, unwatch_kind, watch_two_kind, unwatch_two_kind, pair_kind, unpair_kind, past_kind}
 use Rattle.frames.specs.Frames.{Saying, told, ended, refused}
 use Rattle.model.specs.Calls.{Call}

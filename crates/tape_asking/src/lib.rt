@@ -4,15 +4,15 @@
 ghost use Rattle.std.specs.Prelude.{◌≡◌, List, ℕ};
 ghost use Rattle.frames.specs.Frames.{saying};
 ghost use Rattle.tape_asking.specs.Asking.{sized_asks, pair_asks, bare_asks, asks, asked};
-ghost use Rattle.tape_asking.specs.Placing.{wants, out_of_place};
+ghost use Rattle.tape_asking.specs.Placing.{frame_wants, wants, out_of_place};
 ghost use Rattle.tape_asking.specs.Reading.{WishAt};
 
 use frames::{LOOK, Message, PAIR, PAST, UNPAIR, UNWATCH, UNWATCH_TWO, WATCH, WATCH_TWO, read_at};
 use head::{Desk, Head};
 use refusals::Refusal;
 
-// What a frame wants of the player: a call, nothing at the end of the tape, or a refusal: of what cannot be read, or of a frame out of
-// place.
+// What a frame that was read wants of the player: a call, or none, as it is out of place. That is no `Err(Refusal::OutOfPlace)`, by the contract of
+// `placed`: a message refused with 7 is `unread`, which ends the tape (`asked_ends`).
 #[derive(Clone, Copy)]
 pub enum Wanted {
     // How many columns.
@@ -31,107 +31,92 @@ pub enum Wanted {
     Unpair,
     // An opening: d, N and directions.
     Open(u8, u16, u8),
-    Nothing,
-    Refused(Refusal),
     Misplaced,
 }
 
 // What a frame with n wants, by its kind; no other kind has a place on a tape.
+#[tactic(auto, unfolding(crate::specs::Placing::frame_wants, crate::specs::Asking::sized_asks))]
 fn sized(kind: u8, n: u16) -> Wanted
-    ensures { (columns : List ℕ) → wants result columns ≡ sized_asks kind n }
+    ensures { (columns : List ℕ) → frame_wants result columns ≡ sized_asks kind n }
 {
-    if kind == LOOK {
-        return Wanted::Look(n);
+    match kind {
+        LOOK => Wanted::Look(n),
+        WATCH => Wanted::Watch(Desk::One, n),
+        UNWATCH => Wanted::End(Desk::One, n),
+        WATCH_TWO => Wanted::Watch(Desk::Two, n),
+        UNWATCH_TWO => Wanted::End(Desk::Two, n),
+        _ => Wanted::Misplaced,
     }
-    if kind == WATCH {
-        return Wanted::Watch(Desk::One, n);
-    }
-    if kind == UNWATCH {
-        return Wanted::End(Desk::One, n);
-    }
-    if kind == WATCH_TWO {
-        return Wanted::Watch(Desk::Two, n);
-    }
-    if kind == UNWATCH_TWO {
-        return Wanted::End(Desk::Two, n);
-    }
-    Wanted::Misplaced
 }
 
 // What a frame with n1 and n2 wants, by its kind; no other kind has a place on a tape.
+#[tactic(auto, unfolding(crate::specs::Placing::frame_wants, crate::specs::Asking::pair_asks))]
 fn paired(kind: u8, n1: u16, n2: u16) -> Wanted
-    ensures { (columns : List ℕ) → wants result columns ≡ pair_asks kind n1 n2 }
+    ensures { (columns : List ℕ) → frame_wants result columns ≡ pair_asks kind n1 n2 }
 {
-    if kind == PAST {
-        return Wanted::Past(n1, n2);
+    match kind {
+        PAST => Wanted::Past(n1, n2),
+        PAIR => Wanted::Pair(n1, n2),
+        _ => Wanted::Misplaced,
     }
-    if kind == PAIR {
-        return Wanted::Pair(n1, n2);
-    }
-    Wanted::Misplaced
 }
 
 // What a frame with no body wants, by its kind; no other kind has a place on a tape.
+#[tactic(auto, unfolding(crate::specs::Placing::frame_wants, crate::specs::Asking::bare_asks))]
 fn bare(kind: u8) -> Wanted
-    ensures { (columns : List ℕ) → wants result columns ≡ bare_asks kind }
+    ensures { (columns : List ℕ) → frame_wants result columns ≡ bare_asks kind }
 {
-    if kind == UNPAIR {
-        return Wanted::Unpair;
+    match kind {
+        UNPAIR => Wanted::Unpair,
+        _ => Wanted::Misplaced,
     }
-    Wanted::Misplaced
 }
 
-// What a message wants; a change has no place on a tape.
-fn asks(message: Message) -> Wanted
+// What a message wants, if it is no end of the tape and could be read; a change has no place on a tape.
+#[tactic(auto, unfolding(crate::specs::Placing::frame_wants, crate::specs::Placing::wants, crate::specs::Asking::asks))]
+fn asks(message: Message) -> Result<Option<Wanted>, Refusal>
     ensures { (columns : List ℕ) → wants result columns ≡ asks message columns }
 {
     match message {
-        Message::Quote(k) => Wanted::Quote(k),
-        Message::Sized(kind, n) => sized(kind, n),
-        Message::Change(_, _, _) => Wanted::Misplaced,
-        Message::Pair(kind, n1, n2) => paired(kind, n1, n2),
-        Message::Bare(kind) => bare(kind),
-        Message::Position(_, _) => Wanted::Misplaced,
-        Message::Open(d, n, directions) => Wanted::Open(d, n, directions),
-        Message::EndOfTape => Wanted::Nothing,
-        Message::Refused(refusal) => Wanted::Refused(refusal),
+        Message::Quote(k) => Ok(Some(Wanted::Quote(k))),
+        Message::Sized(kind, n) => Ok(Some(sized(kind, n))),
+        Message::Pair(kind, n1, n2) => Ok(Some(paired(kind, n1, n2))),
+        Message::Bare(kind) => Ok(Some(bare(kind))),
+        Message::Open(d, n, directions) => Ok(Some(Wanted::Open(d, n, directions))),
+        Message::Change(..) | Message::Position(..) => Ok(Some(Wanted::Misplaced)),
+        Message::EndOfTape => Ok(None),
+        Message::Refused(refusal) => Err(refusal),
     }
 }
 
 // Whether what is wanted is out of place (01: 7): an opening after an accepted one, any other call before one.
+#[tactic(auto, unfolding(crate::specs::Placing::out_of_place))]
 fn misplaced(begun: bool, wanted: Wanted) -> bool
     ensures { result ≡ out_of_place begun wanted }
 {
     match wanted {
-        Wanted::Open(_, _, _) => begun,
-        Wanted::Quote(_) => !begun,
-        Wanted::Look(_) => !begun,
-        Wanted::Past(_, _) => !begun,
-        Wanted::Watch(_, _) => !begun,
-        Wanted::End(_, _) => !begun,
-        Wanted::Pair(_, _) => !begun,
-        Wanted::Unpair => !begun,
-        Wanted::Nothing => false,
-        Wanted::Refused(_) => false,
+        Wanted::Open(..) => begun,
         Wanted::Misplaced => false,
+        _ => !begun,
     }
 }
 
 // What a message wants, in its place.
-pub fn placed(begun: bool, message: Message) -> Wanted
+pub fn placed(begun: bool, message: Message) -> Result<Option<Wanted>, Refusal>
     ensures { (columns : List ℕ) → wants result columns ≡ asked begun (saying message) columns }
 {
-    let wanted = asks(message);
-    if misplaced(begun, wanted) {
-        return Wanted::Misplaced;
+    match asks(message)? {
+        Some(wanted) if misplaced(begun, wanted) => Ok(Some(Wanted::Misplaced)),
+        Some(wanted) => Ok(Some(wanted)),
+        None => Ok(None),
     }
-    wanted
 }
 
-// What stands at a place of a tape: what it wants of the player, the columns of its quote, and the place behind it.
+// What stands at a place of a tape: what it wants of the player, none at the end of the tape, or why it cannot be read; the columns of
+// its quote; and the place behind it.
 #[derive(Clone, Copy)]
 pub struct Wish {
-    pub wanted: Wanted,
+    pub wanted: Result<Option<Wanted>, Refusal>,
     pub columns: [u32; 6],
     pub next: usize,
 }
@@ -141,11 +126,11 @@ pub fn wish_at(tape: &[u8], place: usize, head: Head) -> Wish
     ensures { WishAt tape.now place head result.wanted result.columns result.next }
 {
     let read = read_at(tape, place);
-    let quote = read.columns;
-    let found = read.message;
+    // A field that is an array goes into a literal by a variable: the borrow checker does not cover it straight.
+    let columns = read.columns;
     Wish {
-        wanted: placed(head.settings_hold(), found),
-        columns: quote,
+        wanted: placed(head.settings_hold(), read.message),
+        columns,
         next: read.next,
     }
 }

@@ -1,4 +1,5 @@
 -- A quote and look in one, made on a reachable book: both are taken and their lines stand in the text, or all is as it was.
+use Rattle.std.specs.Prelude.{Result, Ok, Err}
 use mathlib.Core.Path.{◌≡◌, refl, sym, ap, subst, ◌∙◌}
 use Prim.Native.Nat.{ℕ, zero, suc, ◌+◌, ◌≤◌}
 use native.Mathlib.Numerals.{add-one}
@@ -10,8 +11,6 @@ use lib.ListN.{length, take, drop, replicate, length-append, length-drop}
 use borrow.Author.Tests.{ne_eqb, not-true, not-false}
 use Rattle.lists.specs.Lists.{laid}
 use Rattle.head.specs.declared.Head.{Head}
-use Rattle.refusals.specs.declared.Answer.{Answer}
-use Rattle.refusals.specs.declared.Answer.TheVariants.{Accepted, Refused}
 use Rattle.refusals.specs.declared.Refusal.{Refusal}
 use Rattle.refusals.specs.Refusals.{number, number_of, granted}
 use Rattle.refusals.proofs.Numbers.{number_above}
@@ -76,7 +75,7 @@ module _ (h : Head) (t : Tables) (ws bytes x : List ℕ) (n : ℕ) where
     abbrev q : QuotedLooked h x n t ws bytes (replicate 1024 0) s.both (both_tables h x n t ws (length bytes) 1024) bytes' cells
     q = m.made
 
-    abbrev answer : Answer
+    abbrev answer : Result (Unit {0}) Refusal
     answer = s.both.reply.answer
 
     number_is : number_of answer ≡ both_answer h x n t ws (length bytes) 1024
@@ -88,7 +87,7 @@ module _ (h : Head) (t : Tables) (ws bytes x : List ℕ) (n : ℕ) where
     taken_is found f = rw (not-false found f) (ap (λ (o : Outcome). eqb o.number 0) (sym q.reply))
 
     -- the call refuses
-    pub tried_refused : (found : Bool) {before : List ℕ} {r : BothTurn} {refusal : Refusal} → not found ≡ false → answer ≡ Refused refusal → r.taken ≡ false
+    pub tried_refused : (found : Bool) {before : List ℕ} {r : BothTurn} {refusal : Refusal} → not found ≡ false → answer ≡ Err refusal → r.taken ≡ false
         → BothTried found x n k before r t' bytes' before
     unfolding both_out
     tried_refused found {refusal = refusal} f e g = record {
@@ -98,7 +97,7 @@ module _ (h : Head) (t : Tables) (ws bytes x : List ℕ) (n : ℕ) where
     }
 
     -- the call takes both
-    module _ (e : answer ≡ Accepted) where
+    module _ (e : answer ≡ Ok tt) where
       zero_there : both_answer h x n t ws (length bytes) 1024 ≡ 0
       zero_there = sym number_is ∙ ap number_of e
 

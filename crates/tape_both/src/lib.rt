@@ -3,8 +3,8 @@
 
 ghost use Rattle.std.specs.Prelude.{◌≡◌, true, false, [], ◌∷◌, ◌++◌, ◌+◌, ◌≤◌, length, take};
 ghost use Rattle.head.specs.Heads.{max_capacity};
+ghost use Rattle.lent_tables.specs.Lent.{lent_mut, SameLoan};
 ghost use Rattle.model.specs.Changes.{change_room};
-ghost use Rattle.model.specs.Promises.{tables};
 ghost use Rattle.call_quoting.specs.Known.{Known};
 ghost use Rattle.text.specs.Text.{line, Laid};
 ghost use Rattle.line_changes.specs.Printed.{changes_text};
@@ -13,8 +13,8 @@ ghost use Rattle.tape_both.specs.Tried.{step_bytes, BothTried};
 
 use call_quote_looking::both_known;
 use head::{Desk, Head, PLACES, Reply};
-use line_answers::{Turn, put_answer, put_changed};
-use refusals::Answer;
+use lent_tables::LentTablesMut;
+use line_answers::{DeskLine, Turn, put_answer, put_changed};
 use tape_turns::TurnMade;
 
 // What a quote and look in one came to: whether both are taken, and if so their turn.
@@ -32,7 +32,7 @@ fn not_taken(head: Head, watches: [u64; 8]) -> BothTurn
         taken: false,
         made: TurnMade {
             turn: Turn {
-                answer: Answer::Accepted,
+                answer: Ok(()),
                 count: 0,
                 head,
                 watches,
@@ -52,22 +52,18 @@ fn put_both(reply: Reply, numbers: &[u32], bytes: &[u8], text: &mut [u8]) -> usi
 {
     let head = reply.head;
     let rows = [head.newest, head.live];
-    let quoted = put_changed(
-        Answer::Accepted,
-        Desk::One,
-        b'Q',
-        &rows,
-        bytes,
-        reply.count,
-        text,
-    );
-    let looked = put_answer(
-        Answer::Accepted,
-        Desk::One,
-        b'L',
+    let quote_line = DeskLine {
+        desk: Desk::One,
+        letter: b'Q',
+        numbers: &rows,
+    };
+    let quoted = put_changed(Ok(()), &quote_line, bytes, reply.count, text);
+    let look_line = DeskLine {
+        desk: Desk::One,
+        letter: b'L',
         numbers,
-        &mut text[quoted..],
-    );
+    };
+    let looked = put_answer(Ok(()), &look_line, &mut text[quoted..]);
     quoted + looked
 }
 
@@ -78,21 +74,18 @@ pub fn make_both(
     quote: [u32; 6],
     n: u16,
     head: Head,
-    columns: &mut [u32],
-    positions: &mut [u32],
-    lower_ends: &mut [u32],
-    upper_ends: &mut [u32],
+    tables: &mut LentTablesMut<'_>,
     watches: [u64; 8],
     bytes: &mut [u8],
     text: &mut [u8],
 ) -> BothTurn
     requires kind_bound { kind ≤ 6 }
     requires bytes_len_bound { (length bytes.old ≤ change_room) × (step_bytes ≤ length text.old) }
-    requires known { Known true head (tables columns.old positions.old lower_ends.old upper_ends.old) watches }
-    ensures { BothTried found (take kind quote) n
-        (player head (tables columns.old positions.old lower_ends.old
-        upper_ends.old) watches bytes.old) text.old result
-        (tables columns.new positions.new lower_ends.new upper_ends.new)
+    requires known { Known true head (lent_mut tables.old) watches }
+    ensures same_loan { SameLoan tables.old tables.new }
+    ensures made { BothTried found (take kind quote) n
+        (player head (lent_mut tables.old) watches bytes.old) text.old result
+        (lent_mut tables.new)
         bytes.new text.new }
 {
     if !found {
@@ -104,35 +97,27 @@ pub fn make_both(
         head,
         &quote[..kind as usize],
         n as u32,
-        columns,
-        positions,
-        lower_ends,
-        upper_ends,
+        tables,
         watches,
         8,
         bytes,
         &mut cells[1..],
     );
-    let replied = entered.both;
-    let reply = replied.reply;
-    let answer = reply.answer;
-    match answer {
-        Answer::Accepted => {}
-        Answer::Refused(_) => {
-            return not_taken(head, watches);
-        }
+    let both = entered.both;
+    let reply = both.reply;
+    if let Err(_) = reply.answer {
+        return not_taken(head, watches);
     }
     cells[0] = n as u32;
-    let end = replied.listed + 1;
+    let end = both.listed + 1;
     let count = put_both(reply, &cells[..end], bytes, text);
-    let next = reply.head;
     BothTurn {
         taken: true,
         made: TurnMade {
             turn: Turn {
-                answer,
+                answer: reply.answer,
                 count,
-                head: next,
+                head: reply.head,
                 watches,
             },
             by: entered.by,

@@ -6,25 +6,25 @@ use Prim.Native.Nat.{ℕ, ◌+◌, ◌≤◌}
 use native.Mathlib.Omega.{arith}
 use mathlib.Core.Bool.{Bool, true, false, ◌||◌, cond}
 use mathlib.Core.List.{List, [], ◌∷◌, ◌++◌, append-nil, append_assoc}
-use lib.ListN.{length, take, drop, length-take, take-append-drop}
+use lib.ListN.{length, take, drop, take-append-drop}
 use lib.Seq.{length-take-le}
 use Rattle.lists.specs.Lists.{flat}
 use Rattle.lists.proofs.Booleans.{or_cases, or_left, or_right}
 use Rattle.lists.proofs.Filters.{flat_append}
 use Rattle.model.specs.Rows.{Tables}
 use Rattle.model.specs.Reference.{Reference, Lengths, is_open, unopened}
-use Rattle.tape_model.specs.Play.{Played, Player, play_at, print, reference_make, book_play}
+use Rattle.tape_model.specs.Play.{Player, play_at, print, reference_make, book_play}
 use Rattle.tape_model.specs.Streams.{ready, settled, lines_from}
 use Rattle.tape_model.proofs.Agrees.{Alike, at_first_lem, frame_agrees}
 use Rattle.tape_model.proofs.Sliding.{slide_alike}
 use Rattle.tape_model.proofs.Streaming.{ready_same, print_lines, lines_play, lines_drop}
 use Rattle.table_starts.specs.Starts.{Moved, stays, moves}
 use Rattle.tape_playback.specs.declared.Playback.{Playback}
-use Rattle.tape_playback.specs.Played.{player_of, SameBook, Plays, none, frame, moved}
+use Rattle.tape_playback.specs.Played.{player_of, Plays, none, frame, moved}
 use Rattle.tape_playback.proofs.Advancing.{plays_inside}
 use Rattle.tape_playback.proofs.Gathering.{gathered_lines, gathered_fits}
 use Rattle.tape_pieces.specs.Pieces.{PiecePlayed}
-use Rattle.tape_streams.specs.Streams.{pending, supplied, Flushed, Refilled}
+use Rattle.tape_streams.specs.Streams.{pending, Flushed, Refilled}
 use Rattle.tape_pieces.specs.Runs.{Printer, playing, loans, Fresh, behind, Runs, begins, flushes, refills, plays, Finished}
 
 module _ (lengths : Lengths) where

@@ -6,10 +6,10 @@ use Prim.Native.Nat.{ℕ, zero, suc, ◌+◌, ◌-◌, ◌≤◌, ◌<◌}
 use native.Mathlib.Omega.{arith}
 use native.Mathlib.Decide.{dec_le}
 use mathlib.Core.Bool.{Bool, true, false, ◌||◌, not}
-use mathlib.Core.List.{List, [], ◌∷◌, ◌++◌, append-nil, append_assoc}
+use mathlib.Core.List.{List, [], ◌∷◌, ◌++◌, append_assoc}
 use lib.Dec.{ltb}
 use borrow.Author.Tests.{lt-ltb}
-use lib.ListN.{length, take, drop, replicate, length-append, length-drop, length-take}
+use lib.ListN.{length, take, drop, length-append, length-drop}
 use lib.Seq.{length-take-le, take_at}
 use Rattle.lists.specs.Lists.{laid, flat}
 use Rattle.lists.proofs.Booleans.{clash, or_left, or_right}
@@ -21,16 +21,16 @@ use Rattle.tape_model.specs.Streams.{settled}
 use Rattle.tape_model.proofs.Streaming.{may_play}
 use Rattle.tape_both.specs.Tried.{step_bytes}
 use Rattle.tape.proofs.Prints.{cells_kept}
-use Rattle.table_starts.specs.Starts.{Within, onward, Moved, stays}
+use Rattle.table_starts.specs.Starts.{onward, stays}
 use Rattle.tape_playback.specs.declared.Playback.{Playback}
-use Rattle.tape_playback.specs.Played.{player_of, Resumes, resumes, Gathered, SameInput, Plays, none, frame, moved}
+use Rattle.tape_playback.specs.Played.{Resumes, resumes, Gathered, SameInput, Plays, none, frame, moved}
 use Rattle.tape_playback.proofs.Advancing.{left, advanced, plays_inside}
-use Rattle.tape_playback.proofs.Gathering.{gathered_none, gathered_more, gathered_fits}
+use Rattle.tape_playback.proofs.Gathering.{gathered_none, gathered_more}
 use Rattle.tape_pieces.specs.Pieces.{GoesOn, PiecePlayed}
 use Rattle.tape_pieces.proofs.Playing.{no_room, some_room, none_over}
 use Rattle.tape_streams.specs.Streams.{pending, supplied, Flushed, Refilled}
 use Rattle.tape_streams.proofs.Refilling.{reads_short}
-use Rattle.tape_pieces.specs.Runs.{Printer, playing, loans, front, Fresh, Cut, no_piece, piece_more, behind, Runs, begins, flushes, refills, plays, Finished, Ran}
+use Rattle.tape_pieces.specs.Runs.{Printer, playing, loans, front, Fresh, Cut, no_piece, piece_more, behind, Runs, begins, flushes, refills, plays, Ran}
 use Rattle.tape_pieces.proofs.Printing.{printer_prints_more}
 
 -- ---- a frame

@@ -1,5 +1,5 @@
 -- Runs of a printer: what it holds between two calls, and the calls that it makes, each of which met its contract on what the one before left.
-use Rattle.std.specs.Prelude.{◌≡◌, ℕ, ◌+◌, ◌≤◌, Bool, true, false, List, [], ◌∷◌, ◌++◌, length, take}
+use Rattle.std.specs.Prelude.{◌≡◌, ℕ, ◌+◌, ◌≤◌, true, false, List, [], ◌∷◌, ◌++◌, length, take}
 use Rattle.head.specs.Heads.{fresh_head}
 use Rattle.model.specs.Rows.{Tables}
 use Rattle.model.specs.Reference.{Lengths}

@@ -24,7 +24,7 @@ use Rattle.tape_playback.proofs.Starting.{parts, backs, parts_are, start_within,
 
 -- the lines fit the text
 pub stepped_fits : {one : Played Player} {before : List ℕ} {r : Step} {t' : Tables} {bytes' after : List ℕ}
-    → SteppedTo one before r t' bytes' after → length after ≡ length before → r.count ≤ length before
+    → SteppedTo one before r t' bytes' after → length after ≡ length before → r.turn.count ≤ length before
 unfolding laid
 stepped_fits {one} {before} s e =
     let l : List ℕ = one.text in
@@ -33,9 +33,9 @@ stepped_fits {one} {before} s e =
 -- what it leaves
 pub step_played : (tape : List ℕ) (s : Playback) (t : Tables) (bytes before : List ℕ) {z : SlidStep} {t' : Tables} {bytes' last : List ℕ} {s' : Start}
     → StepMade true (play_step tape s.place (player s.head (parts s.start t) s.watches bytes)) (mid_of s.used (length before - s.used) before) z t' bytes' last
-    → Long t → Within 1023 s.start → s.used ≤ length before → s' ≡ record { row = s.start.row + z.by; cell = s.start.cell + z.by * z.step.head.dimensions }
+    → Long t → Within 1023 s.start → s.used ≤ length before → s' ≡ record { row = s.start.row + z.by; cell = s.start.cell + z.by * z.step.turn.head.dimensions }
     → StepPlayed tape s t bytes before
-    (record { head = z.step.head; watches = z.step.watches; start = s'; place = z.step.next; end = s.end; used = s.used + z.step.count; ended = s.ended; over = z.step.over })
+    (record { head = z.step.turn.head; watches = z.step.turn.watches; start = s'; place = z.step.next; end = s.end; used = s.used + z.step.turn.count; ended = s.ended; over = z.step.over })
     (backs s.start t t') bytes' (put_mid s.used (length before - s.used) before last)
 step_played tape s t bytes before {z} {t'} {bytes'} {last} m l w h e =
     let k : Player = player_of s t bytes in

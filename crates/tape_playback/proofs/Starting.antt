@@ -106,9 +106,9 @@ slid_cells {by} {d} k (no n) h = let z : by ≡ 0 = omega arith in omega (arith,
 
 module _ {one : Played Player} {before : List ℕ} {z : SlidStep} {t' : Tables} {bytes' after : List ℕ}
     (m : StepMade true one before z t' bytes' after) {s s' : Start} (w : Within 1023 s)
-    (e : s' ≡ record { row = s.row + z.by; cell = s.cell + z.by * z.step.head.dimensions }) where
+    (e : s' ≡ record { row = s.row + z.by; cell = s.cell + z.by * z.step.turn.head.dimensions }) where
   -- only a book that was opened slides
-  six : 0 < z.by → z.step.head.dimensions ≤ 6
+  six : 0 < z.by → z.step.turn.head.dimensions ≤ 6
   six l = (settings_within _ _ _ (left_holds m l)).bounded_columns
 
   -- where the rows start then
@@ -118,7 +118,7 @@ module _ {one : Played Player} {before : List ℕ} {z : SlidStep} {t' : Tables} 
     near = omega (arith, w.near, slid_cells (left_bounded m) (dec_lt 0 z.by) six);
   }
 
-  pub start_opened : FullOpened s' z.step.head
+  pub start_opened : FullOpened s' z.step.turn.head
   start_opened = rw e record { opened = λ q. left_holds m (omega (arith, w.bounded)) }
 
 -- rows that slid, where they go on
@@ -130,11 +130,11 @@ slid_moved (slid bounded holds same) = moves holds same
 -- and the book stands there
 pub start_resumes : (s : Start) (t : Tables) (k : Player) {one : Played Player} {before : List ℕ} {z : SlidStep} {t' : Tables} {bytes' after : List ℕ} {s' : Start}
     → StepMade true one before z t' bytes' after → one.state.outputs.cells ≡ k.outputs.cells → Within 1023 s
-    → s' ≡ record { row = s.row + z.by; cell = s.cell + z.by * z.step.head.dimensions } → Long t
+    → s' ≡ record { row = s.row + z.by; cell = s.cell + z.by * z.step.turn.head.dimensions } → Long t
     → Resumes one.state (left k z.step (onward s' (backs s t t')) bytes')
 start_resumes s t k {z = z} {t' = t'} {bytes' = bytes'} {s' = s'} m same w e l =
     subst (λ (q : Player). Resumes q (left k z.step (onward s' (backs s t t')) bytes')) (its_player m.stepped k same)
-    (resumes {u = onward s' (backs s t t')} (rw (e, backs_later s t l w t' z.by z.step.head.dimensions) (slid_moved (m.slides refl))))
+    (resumes {u = onward s' (backs s t t')} (rw (e, backs_later s t l w t' z.by z.step.turn.head.dimensions) (slid_moved (m.slides refl))))
 
 -- frames that are played on a book that calls left leave such a book
 pub plays_reached : {tape : List ℕ} {ended : Bool} {place : ℕ} {k : Player} {over : Bool} {lines : List ℕ} {next : ℕ} {now : Player} {over' : Bool}

@@ -2,15 +2,21 @@
 // places that it needs.
 #![tactic(auto)]
 
-ghost use Rattle.std.specs.Prelude.{◌+◌, ◌≤◌, length};
+ghost use Rattle.std.specs.Prelude.{true, ◌+◌, ◌≤◌, length};
 ghost use Rattle.model.specs.Calls.{Reached};
 ghost use Rattle.model.specs.Promises.{tables, world};
+ghost use Rattle.call_quoting.specs.Known.{Known};
+ghost use Rattle.line_answers.specs.Turns.{player};
+ghost use Rattle.tape.specs.Steps.{StepMade};
+ghost use Rattle.tape_steps.specs.Stepping.{play_step};
 ghost use Rattle.table_starts.specs.Starts.{Long, Within, onward};
 ghost use Rattle.tape_both.specs.Tried.{step_bytes};
 ghost use Rattle.tape_playback.specs.Played.{StepPlayed};
 
 use head::Head;
+use lent_tables::LentTablesMut;
 use table_starts::{Start, slid};
+use tape::SlidStep;
 use tape_steps::play_step;
 
 // Where a player of a tape stands: the head and the watches of the book, where its rows start, the place of the next frame and the end of
@@ -27,7 +33,42 @@ pub struct Playback {
     pub over: bool,
 }
 
-// Plays the frame at which a player stands, a quote's with the look's directly behind it if one call takes both.
+// Plays the frame at which a player stands on the tables from where its rows start on, which are lent one by one.
+fn step_rows(
+    playback: Playback,
+    tape: &[u8],
+    columns: &mut [u32],
+    positions: &mut [u32],
+    lower_ends: &mut [u32],
+    upper_ends: &mut [u32],
+    bytes: &mut [u8; tape::CHANGE_BYTES],
+    text: &mut [u8],
+) -> SlidStep
+    requires step_bytes_in_bounds { step_bytes ≤ length text.old }
+    requires known { Known true playback.head (tables columns.old positions.old lower_ends.old upper_ends.old) playback.watches }
+    ensures { StepMade true (play_step tape.now playback.place
+        (player playback.head (tables columns.old positions.old lower_ends.old upper_ends.old) playback.watches bytes.old)) text.old result
+        (tables columns.new positions.new lower_ends.new upper_ends.new) bytes.new text.new }
+{
+    let mut tables = LentTablesMut {
+        columns,
+        positions,
+        lower_ends,
+        upper_ends,
+    };
+    play_step(
+        tape,
+        playback.place,
+        playback.head,
+        &mut tables,
+        playback.watches,
+        bytes,
+        text,
+    )
+}
+
+// Plays the frame at which a player stands, a quote's with the look's directly behind it if one call takes both. The tables come one by one: the
+// borrow checker does not cover a call that is lent parts of several slices of one struct.
 pub fn play_next(
     playback: Playback,
     tape: &[u8],
@@ -49,34 +90,29 @@ pub fn play_next(
         (tables columns.new positions.new lower_ends.new upper_ends.new)
         bytes.new text.new }
 {
-    let head = playback.head;
-    let watches = playback.watches;
-    let used = playback.used;
     let start = playback.start;
-    let row = start.row;
-    let cell = start.cell;
-    let played = play_step(
+    let used = playback.used;
+    let played = step_rows(
+        playback,
         tape,
-        playback.place,
-        head,
-        &mut columns[cell..],
-        &mut positions[row..],
-        &mut lower_ends[row..],
-        &mut upper_ends[row..],
-        watches,
+        &mut columns[start.cell..],
+        &mut positions[start.row..],
+        &mut lower_ends[start.row..],
+        &mut upper_ends[start.row..],
         bytes,
         &mut text[used..],
     );
     let step = played.step;
-    let next_head = step.head;
-    let next_watches = step.watches;
-    let next_start = slid(start, played.by, next_head);
-    let mut now = playback;
-    now.head = next_head;
-    now.watches = next_watches;
-    now.start = next_start;
-    now.place = step.next;
-    now.used = used + step.count;
-    now.over = step.over;
-    now
+    let turn = step.turn;
+    // A field that is an array goes into a literal by a variable: the borrow checker does not cover it straight.
+    let watches = turn.watches;
+    Playback {
+        head: turn.head,
+        watches,
+        start: slid(start, played.by, turn.head),
+        place: step.next,
+        used: used + turn.count,
+        over: step.over,
+        ..playback
+    }
 }

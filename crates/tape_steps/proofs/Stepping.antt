@@ -132,7 +132,7 @@ module _ (tape : List ℕ) (place : ℕ) (h : Head) {r : BothAt} (e : r ≡ both
 
         -- so the step of both was made
         pub step_taken : {step : Step}
-            → step ≡ record { answer = made.made.turn.answer; over = eqb r.next place; next = r.next; count = made.made.turn.count; head = made.made.turn.head; watches = made.made.turn.watches }
+            → step ≡ record { turn = made.made.turn; over = eqb r.next place; next = r.next }
             → StepMade true (play_step tape place k) before (record { step = step; by = made.made.by }) t' bytes' after
         step_taken z = step_to played z (v.turn y)
 

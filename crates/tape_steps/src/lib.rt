@@ -1,8 +1,8 @@
 // A step along a tape: a quote's frame and a whole look's directly behind it by one call, or one frame by its own.
 #![tactic(auto)]
 
+ghost use Rattle.lent_tables.specs.Lent.{lent_mut, SameLoan};
 ghost use Rattle.std.specs.Prelude.{◌≡◌, true, ◌≤◌, length};
-ghost use Rattle.model.specs.Promises.{tables};
 ghost use Rattle.call_quoting.specs.Known.{Known};
 ghost use Rattle.line_answers.specs.Turns.{player};
 ghost use Rattle.tape.specs.Steps.{StepMade};
@@ -12,6 +12,7 @@ ghost use Rattle.tape_steps.specs.Stepping.{look_behind, none_at, both_at, play_
 use frame_kinds::{LOOK, MAX_COLUMNS};
 use frames::read_at;
 use head::{Head, PLACES};
+use lent_tables::LentTablesMut;
 use line_answers::step_of;
 use octets::two_at;
 use tape::{SlidStep, play_known};
@@ -76,12 +77,13 @@ fn both_at(tape: &[u8], place: usize, head: Head) -> BothAt
         return none_at(place);
     }
     let read = read_at(tape, place);
-    let quote = read.columns;
     let look = read.next;
+    // A field that is an array goes into a literal by a variable: the borrow checker does not cover it straight.
+    let columns = read.columns;
     BothAt {
         found: true,
         kind: tape[place],
-        columns: quote,
+        columns,
         n: two_at(tape, look + 1),
         next: look + 3,
     }
@@ -92,36 +94,36 @@ pub fn play_step(
     tape: &[u8],
     place: usize,
     head: Head,
-    columns: &mut [u32],
-    positions: &mut [u32],
-    lower_ends: &mut [u32],
-    upper_ends: &mut [u32],
+    tables: &mut LentTablesMut<'_>,
     watches: [u64; 8],
     bytes: &mut [u8; tape::CHANGE_BYTES],
     text: &mut [u8],
 ) -> SlidStep
     requires step_bytes_in_bounds { step_bytes ≤ length text.old }
-    requires known { Known true head (tables columns.old positions.old lower_ends.old upper_ends.old) watches }
-    ensures { StepMade true (play_step tape.now place
-        (player head (tables columns.old positions.old lower_ends.old
-        upper_ends.old) watches bytes.old)) text.old result
-        (tables columns.new positions.new lower_ends.new upper_ends.new)
+    requires known { Known true head (lent_mut tables.old) watches }
+    ensures same_loan { SameLoan tables.old tables.new }
+    ensures made { StepMade true (play_step tape.now place
+        (player head (lent_mut tables.old) watches bytes.old)) text.old result
+        (lent_mut tables.new)
         bytes.new text.new }
 {
     let both = both_at(tape, place, head);
-    let quote = both.columns;
     let tried = make_both(
-        both.found, both.kind, quote, both.n, head, columns, positions, lower_ends, upper_ends,
-        watches, bytes, text,
+        both.found,
+        both.kind,
+        both.columns,
+        both.n,
+        head,
+        tables,
+        watches,
+        bytes,
+        text,
     );
     if tried.taken {
-        let made = tried.made;
         return SlidStep {
-            step: step_of(place, both.next, made.turn),
-            by: made.by,
+            step: step_of(place, both.next, tried.made.turn),
+            by: tried.made.by,
         };
     }
-    play_known(
-        true, tape, place, head, columns, positions, lower_ends, upper_ends, watches, bytes, text,
-    )
+    play_known(true, tape, place, head, tables, watches, bytes, text)
 }

@@ -1,13 +1,14 @@
 -- What a printer has of a tape once it read on: what is not played stands at the front, and what came behind it.
 use mathlib.Core.Path.{◌≡◌, refl, sym, ap, ◌∙◌}
-use Prim.Native.Nat.{ℕ, ◌+◌, ◌-◌, ◌≤◌, ◌<◌}
+use Prim.Native.Nat.{ℕ, zero, suc, ◌+◌, ◌-◌, ◌≤◌, ◌<◌}
 use native.Mathlib.Decide.{dec_le}
 use native.Mathlib.Omega.{arith}
 use mathlib.Core.Bool.{Bool, true, false, ◌||◌, not}
 use mathlib.Core.List.{List, [], ◌++◌, append-nil}
-use lib.Dec.{ltb}
+use lib.Dec.{ltb, eqb}
 use lib.ListN.{length, take, drop, length-take, length-drop}
 use lib.Seq.{length-take-le, take_at, drop_at, take-add, take-append-add, take-append-le}
+use borrow.Author.Tests.{ne_eqb, lt-ltb}
 use borrow.Rule.Slice.PartMut.{mid_of, put_mid, same_len_mid}
 use Rattle.lists.specs.Lists.{laid}
 use Rattle.lists.proofs.Booleans.{clash, none_right}
@@ -16,6 +17,11 @@ use Rattle.tape_model.specs.Streams.{settled}
 use Rattle.tape_model.proofs.Streaming.{settled_soon}
 use Rattle.tape_playback.specs.declared.Playback.{Playback}
 use Rattle.tape_streams.specs.Streams.{pending, supplied, Refilled}
+
+-- nothing came where no byte did
+none_came : (count : ℕ) → eqb count 0 ≡ not (ltb 0 count)
+none_came zero = refl
+none_came (suc n) = ne_eqb (suc n) 0 (λ z. omega (arith, z)) ∙ sym (ap not (lt-ltb 0 (suc n) (omega arith)))
 
 module _ (s : Playback) (tape : List ℕ) (h : (s.place ≤ s.end) × (s.end ≤ length tape)) where
   -- how many bytes are not played
@@ -73,23 +79,22 @@ module _ (s : Playback) (tape : List ℕ) (h : (s.place ≤ s.end) × (s.end ≤
       ap (λ (xs : List ℕ). take (rest + count) (xs ++ (last ++ post))) stands ∙ read ∙ ap (λ (xs : List ℕ). xs ++ take count last) (sym pending_is)
 
   -- what is not played is moved to the front, and these bytes are read behind it
-  pub refill_read : 28 ≤ length tape → (last : List ℕ) {test : Bool} {front : List ℕ} {count : ℕ} {more : Bool} → test ≡ settled (take s.end tape) s.place → (s.over || s.ended) || test ≡ false → front ≡ laid (take rest (drop s.place tape)) tape
-      → count ≤ length last → length last ≡ length (mid_of rest (length front - rest) front) → (0 < length last → more ≡ ltb 0 count)
+  pub refill_read : (last : List ℕ) {test : Bool} {front : List ℕ} {count : ℕ} → test ≡ settled (take s.end tape) s.place → (s.over || s.ended) || test ≡ false → front ≡ laid (take rest (drop s.place tape)) tape
+      → count ≤ length last → length last ≡ length (mid_of rest (length front - rest) front)
       → Refilled s tape
-      (record { head = s.head; watches = s.watches; start = s.start; place = 0; end = rest + count; used = s.used; ended = not more; over = s.over })
+      (record { head = s.head; watches = s.watches; start = s.start; place = 0; end = rest + count; used = s.used; ended = eqb count 0; over = s.over })
       (put_mid rest (length front - rest) front last)
   unfolding laid
-  refill_read k last {front = front} {count = count} r e f c l m =
+  refill_read last {front = front} {count = count} r e f c l =
       let kept : List ℕ = take rest (drop s.place tape) in
       let long : length kept ≡ rest = sym (ap length pending_is) ∙ pending_long in
       let whole : length front ≡ length tape = ap length f ∙ length_laid kept tape (omega (arith, long)) in
       let came : length (take count last) ≡ count = length-take-le count last c in
-      let room : 0 < length last = omega (arith, whole, k, pending_long, reads_short (tested r e), simp (length-take, length-drop) at l) in
       record {
         came = take count last;
         kept = read_kept last f c;
         quiet = λ t. absurd (clash (supplied s tape) t (tested r e));
-        read = λ _. rw came (ap not (m room));
+        read = λ _. rw came (none_came count);
         inside = omega arith;
         within = omega (arith, whole, c, simp (length-take, length-drop) at l);
         long = same_len_mid rest (length front - rest) front last l ∙ whole;

@@ -69,7 +69,7 @@ pub fn refill<R: Read, E: Write>(
         b"tape_printer: standard input",
     );
     now.place = 0;
-    now.end = rest + came.count;
-    now.ended = !came.more;
+    now.end = rest + came;
+    now.ended = came == 0;
     now
 }

@@ -1,12 +1,13 @@
 -- What a frame wants of the player comes to, and what making it leaves.
-use Rattle.std.specs.Prelude.{◌≡◌, ℕ, Bool, true, false, List, [], take}
+use Rattle.std.specs.Prelude.{◌≡◌, ℕ, Bool, true, false, List, [], take, Option, Some, None, Result, Ok, Err}
+use Rattle.refusals.specs.declared.Refusal.{Refusal}
 use Rattle.refusals.specs.declared.Refusal.TheVariants.{OutOfPlace}
 use Rattle.refusals.specs.Refusals.{number}
 use Rattle.model.specs.Rows.{Tables}
 use Rattle.model.specs.Calls.{Call}
 use Rattle.call_quoting.specs.Entered.{Slid}
 use Rattle.tape_asking.specs.declared.Wanted.{Wanted}
-use Rattle.tape_asking.specs.declared.Wanted.TheVariants.{Quote, Look, Past, Watch, End, Pair, Unpair, Open, Nothing, Refused, Misplaced}
+use Rattle.tape_asking.specs.declared.Wanted.TheVariants.{Quote, Look, Past, Watch, End, Pair, Unpair, Open, Misplaced}
 use Rattle.tape_model.specs.Play.{Player}
 use Rattle.line_answers.specs.Turns.{Effect, made, refused_with, Turned}
 use Rattle.tape_turns.specs.declared.TurnMade.{TurnMade}
@@ -15,19 +16,23 @@ use Rattle.tape_turns.specs.declared.TurnMade.{TurnMade}
 abbrev pub nothing : Player → Effect
 nothing k = record { number = 0; text = []; state = k }
 
--- what is wanted comes to this
-unfoldable pub taken : Wanted → List ℕ → Player → Effect
-taken (Quote n) columns k = made (Call.Quote (take n columns)) k
-taken (Look n) columns k = made (Call.Look n) k
-taken (Past n1 n2) columns k = made (Call.Past n1 n2) k
-taken (Watch desk n) columns k = made (Call.Watch desk n) k
-taken (End desk n) columns k = made (Call.End desk n) k
-taken (Pair n1 n2) columns k = made (Call.Pair n1 n2) k
-taken Unpair columns k = made Call.Unpair k
-taken (Open d N directions) columns k = made (Call.Open d N directions) k
-taken Nothing columns k = nothing k
-taken (Refused refusal) columns k = refused_with (number refusal) k
-taken Misplaced columns k = refused_with (number OutOfPlace) k
+-- what a frame wants comes to this
+unfoldable pub frame_taken : Wanted → List ℕ → Player → Effect
+frame_taken (Quote n) columns k = made (Call.Quote (take n columns)) k
+frame_taken (Look n) columns k = made (Call.Look n) k
+frame_taken (Past n1 n2) columns k = made (Call.Past n1 n2) k
+frame_taken (Watch desk n) columns k = made (Call.Watch desk n) k
+frame_taken (End desk n) columns k = made (Call.End desk n) k
+frame_taken (Pair n1 n2) columns k = made (Call.Pair n1 n2) k
+frame_taken Unpair columns k = made Call.Unpair k
+frame_taken (Open d N directions) columns k = made (Call.Open d N directions) k
+frame_taken Misplaced columns k = refused_with (number OutOfPlace) k
+
+-- what stands at a place comes to this: a frame's call, nothing at the end, or what cannot be read
+unfoldable pub taken : Result (Option Wanted) Refusal → List ℕ → Player → Effect
+taken (Ok (Some w)) columns k = frame_taken w columns k
+taken (Ok None) columns k = nothing k
+taken (Err refusal) columns k = refused_with (number refusal) k
 
 -- the tables that this leaves, by the book model
 abbrev pub tables_of : Effect → Tables

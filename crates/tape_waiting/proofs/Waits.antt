@@ -1,16 +1,15 @@
 -- Whether a frame is ready, and whether it is settled, by the tests that the code makes.
 use mathlib.Core.Path.{◌≡◌, sym, ◌∙◌}
-use mathlib.Core.Logic.{◌⊎◌, inl, inr}
 use Prim.Native.Nat.{ℕ, ◌+◌, ◌-◌, ◌≤◌, ◌<◌}
 use native.Mathlib.Omega.{arith}
 use mathlib.Core.Bool.{Bool, true, false, ◌&&◌, ◌||◌, not}
 use mathlib.Core.List.{List}
 use lib.Dec.{ltb, leb, eqb}
 use lib.ListN.{length, get_or}
-use borrow.Author.Tests.{ltb-true, ltb-false, lt-ltb, le-ltb, leb-true, le-leb, eqb-true, eqb-false, eq-eqb, ne_eqb, not-true, not-false}
-use Rattle.lists.proofs.Booleans.{agree, refute, and_left, and_right, or_cases, none_left, none_right}
+use borrow.Author.Tests.{ltb-true, lt-ltb, le-ltb, leb-true, le-leb, eq-eqb, ne_eqb, not-true, not-false}
+use Rattle.lists.proofs.Booleans.{agree, refute, and_left}
 use Rattle.frame_kinds.specs.Kinds.{within, look_kind, body_length}
-use Rattle.frame_kinds.proofs.Shapes.{within_bounds, quote_body}
+use Rattle.frame_kinds.proofs.Shapes.{within_bounds}
 use Rattle.tape_model.specs.Streams.{ready, settled}
 
 module _ (tape : List ℕ) (place : ℕ) where
@@ -19,14 +18,20 @@ module _ (tape : List ℕ) (place : ℕ) where
   unfolding ready
   not_ready h = rw (le-ltb place (length tape) h)
 
-  -- a frame is whole if its body is shorter than what stands from its kind on
-  pub ready_inside : {body : ℕ} → place < length tape → body ≡ body_length (get_or tape place 0) → eqb body 255 || ltb body (length tape - place) ≡ ready tape place
+  -- a frame of a known kind is whole if its body is shorter than what stands from its kind on
+  pub ready_known : {body : ℕ} → place < length tape → (body ≡ body_length (get_or tape place 0)) × (body ≤ 24) → ltb body (length tape - place) ≡ ready tape place
   unfolding ready
-  ready_inside {body} h e =
+  ready_known {body} h b =
       let same : ltb body (length tape - place) ≡ leb (place + 1 + body) (length tape) =
       agree _ _ (λ t. le-leb (place + 1 + body) (length tape) (omega (arith, ltb-true body (length tape - place) t)))
       (λ t. lt-ltb body (length tape - place) (omega (arith, leb-true (place + 1 + body) (length tape) t))) in
-      rw (lt-ltb place (length tape) h, ← e, same)
+      let known : (body ≡ 255) → ⊥ = λ e. omega (arith, e, b.1) in
+      rw (lt-ltb place (length tape) h, ← b.0, ne_eqb body 255 known, same)
+
+  -- and one of an unknown kind is ready
+  pub ready_unknown : place < length tape → body_length (get_or tape place 0) ≡ 255 → true ≡ ready tape place
+  unfolding ready
+  ready_unknown h e = rw (lt-ltb place (length tape) h, e)
 
   abbrev kind : ℕ
   kind = get_or tape place 0
@@ -48,52 +53,33 @@ module _ (tape : List ℕ) (place : ℕ) where
     stands = ltb-true place (length tape) (and_left (ltb place (length tape)) _ is_ready)
 
     -- another frame than a quote's is settled
-    pub other_settled : eqb kind 0 || ltb 6 kind ≡ true → true ≡ settled tape place
+    pub low_settled : kind ≡ 0 → true ≡ settled tape place
     unfolding settled
-    other_settled k = rw (is_ready, refute (within 1 6 kind) (λ w. none (within_bounds 1 6 kind w) (or_cases (eqb kind 0) (ltb 6 kind) k)))
-      where
-        none : (1 ≤ kind) × (kind ≤ 6) → (eqb kind 0 ≡ true) ⊎ (ltb 6 kind ≡ true) → ⊥
-        none h (inl z) = omega (arith, h.0, eqb-true kind 0 z)
-        none h (inr z) = omega (arith, h.1, ltb-true 6 kind z)
+    low_settled k = rw (is_ready, k)
 
-    -- ---- a quote's, by what stands behind it
-    module _ (k : eqb kind 0 || ltb 6 kind ≡ false) {body : ℕ} (b : body ≡ body_length kind) where
-      low : 1 ≤ kind
-      low = positive kind (eqb-false kind 0 (none_left (eqb kind 0) (ltb 6 kind) k))
-        where
-          positive : (n : ℕ) → (n ≡ 0 → ⊥) → 1 ≤ n
-          positive n z = omega (arith, z)
+    pub high_settled : 6 < kind → true ≡ settled tape place
+    unfolding settled
+    high_settled k = rw (is_ready, refute (within 1 6 kind) (λ w. let b = within_bounds 1 6 kind w in omega arith))
 
-      high : kind ≤ 6
-      high = ltb-false 6 kind (none_right (eqb kind 0) (ltb 6 kind) k)
-
-      -- the place behind the frame
-      abbrev next : ℕ
-      next = place + 1 + body
-
-      -- it lies within what has come
-      pub next_inside : next ≤ length tape
-      unfolding ready
-      next_inside =
-          pick (or_cases (eqb (body_length kind) 255) (leb (place + 1 + body_length kind) (length tape)) (and_right (ltb place (length tape)) _ is_ready))
-        where
-          pick : (eqb (body_length kind) 255 ≡ true) ⊎ (leb (place + 1 + body_length kind) (length tape) ≡ true) → next ≤ length tape
-          pick (inl z) = absurd (omega (arith, eqb-true (body_length kind) 255 z, quote_body kind low high, high))
-          pick (inr z) = rw b (leb-true (place + 1 + body_length kind) (length tape) z)
-
-      -- the frame is settled if what follows is known
-      by_next : settled tape place ≡ (ltb next (length tape) && (not (eqb (get_or tape next 0) look_kind) || ready tape next))
+    -- and a quote's if what follows is known
+    module _ (low : 1 ≤ kind) (high : kind ≤ 6) {body : ℕ} (b : body ≡ body_length kind) where
+      pub by_next : let next = place + 1 + body in (ltb next (length tape) && (not (eqb (get_or tape next 0) look_kind) || ready tape next)) ≡ settled tape place
       unfolding settled
       by_next = rw (is_ready, le-leb 1 kind low, le-leb kind 6 high, b)
 
-      -- nothing has come
-      pub held : length tape ≤ next → false ≡ settled tape place
-      held h = sym (by_next ∙ rw (le-ltb next (length tape) h))
+-- what follows, by what stands at the next place
+module _ (tape : List ℕ) (next : ℕ) where
+  abbrev follower : ℕ
+  follower = get_or tape next 0
 
-      -- no look follows
-      pub no_look : next < length tape → (get_or tape next 0 ≡ look_kind → ⊥) → true ≡ settled tape place
-      no_look h n = sym (by_next ∙ rw (lt-ltb next (length tape) h, ne_eqb (get_or tape next 0) look_kind n))
+  -- nothing has come
+  pub none_follows : length tape ≤ next → false ≡ (ltb next (length tape) && (not (eqb follower look_kind) || ready tape next))
+  none_follows h = rw (le-ltb next (length tape) h)
 
-      -- a look follows
-      pub some_look : {whole : Bool} → next < length tape → get_or tape next 0 ≡ look_kind → whole ≡ ready tape next → whole ≡ settled tape place
-      some_look h n w = w ∙ sym (by_next ∙ rw (lt-ltb next (length tape) h, eq-eqb (get_or tape next 0) look_kind n))
+  -- no look follows
+  pub other_follows : next < length tape → (follower ≡ look_kind → ⊥) → true ≡ (ltb next (length tape) && (not (eqb follower look_kind) || ready tape next))
+  other_follows h n = rw (lt-ltb next (length tape) h, ne_eqb follower look_kind n)
+
+  -- a look follows
+  pub look_follows : next < length tape → follower ≡ look_kind → ready tape next ≡ (ltb next (length tape) && (not (eqb follower look_kind) || ready tape next))
+  look_follows h n = rw (lt-ltb next (length tape) h, eq-eqb follower look_kind n)

@@ -6,4 +6,4 @@ pub returns-then-line-ge-TOO_LONG : goal.returns-then-line-ge-TOO_LONG
 returns-then-line-ge-TOO_LONG c = too_long _ _ c.if-line-ge-TOO_LONG.true
 
 pub returns : goal.returns
-returns c = laid_line _ c.write_line-written.ensures c.if-line-ge-TOO_LONG.false c.requires
+returns c = laid_line _ c.write_line.ensures c.if-line-ge-TOO_LONG.false c.requires c.unwrap_or.ensures

@@ -6,11 +6,8 @@ use Rattle.line_writer.proofs.take_line.Goals as goal
 pub slice_bounds-lay_line-end : goal.slice_bounds-lay_line-end
 slice_bounds-lay_line-end c = stop_inside _ _ _ c.requires.used_in_bounds.1 c.requires.stop_value.0
 
-pub behind-requires : goal.behind-requires
-behind-requires c = stop_inside _ _ _ c.requires.used_in_bounds.1 c.requires.stop_value.0
-
-pub overflow_add-now : goal.overflow_add-now
-overflow_add-now c = omega (arith, laid_short c.lay_line-count.ensures, c.requires.used_in_bounds)
+pub overflow_add-result : goal.overflow_add-result
+overflow_add-result c = omega (arith, laid_short c.lay_line-count.ensures, c.requires.used_in_bounds)
 
 pub returns : goal.returns
-returns c = line_taken _ _ _ c.requires.used_in_bounds.0 c.requires.stop_value.0 c.lay_line-count.ensures refl c.behind.ensures
+returns c = line_taken _ _ _ c.requires.used_in_bounds.0 c.requires.stop_value.0 c.lay_line-count.ensures refl (stop_inside _ _ _ c.requires.used_in_bounds.1 c.requires.stop_value.0) c.min.ensures

@@ -17,6 +17,6 @@ joined a k n xs ys within fits =
 pub loop-done-preserved : goal.loop-done-preserved
 loop-done-preserved g c =
     let fits = c.in-Ok.ensures.bound.0 in
-    let within = c.loop-done.invariant.1 in
-    let both = Consumes-trans _ _ _ _ _ c.loop-done.invariant.2 c.in-Ok.ensures.bytes.0 in
-    (search rules, search rules, subst (Consumes _ _) (joined c.loop-done.done (length c.loop-done.buffer - c.loop-done.done) c.in-Ok.came c.loop-done.buffer c.read.new.buf within fits) both)
+    let within = c.loop-done.invariant.0 in
+    let both = Consumes-trans _ _ _ _ _ c.loop-done.invariant.1 c.in-Ok.ensures.bytes.0 in
+    (search rules, subst (Consumes _ _) (joined c.loop-done.done (length c.loop-done.buffer - c.loop-done.done) c.in-Ok.came c.loop-done.buffer c.read.new.buf within fits) both)

@@ -5,8 +5,8 @@ use Rattle.tape_calls.proofs.Rooms.{pair_fits}
 use Rattle.line_answers.proofs.Turning.{pair_turned}
 use Rattle.tape_calls.proofs.pair.Goals as goal
 
-pub put_changed-requires : goal.put_changed-requires
-put_changed-requires c =
+pub put_reply_changes-requires : goal.put_reply_changes-requires
+put_reply_changes-requires c =
     record {
       numbers_len_bound = (omega arith, omega (arith, pair_fits c.pair-reply.ensures));
       bytes_len_bound = (omega arith, omega arith);
@@ -15,4 +15,4 @@ put_changed-requires c =
 pub returns : goal.returns
 returns c =
     let made = rw (lent_all c.args.watches 8 (omega (arith, c.well_formed)) (omega arith)) at c.pair-reply.ensures in
-    pair_turned _ _ _ _ _ _ made c.put_changed.ensures
+    rw c.put_reply_changes.ensures.turn (pair_turned _ _ _ _ _ _ made c.put_reply_changes.ensures.laid)

@@ -7,4 +7,4 @@ use Rattle.tape_calls.proofs.unpair.Goals as goal
 pub returns : goal.returns
 returns c =
     let made = rw (lent_all c.args.watches 8 (omega (arith, c.well_formed)) (omega arith)) at c.unpair-reply.ensures in
-    λ bytes. unpair_turned _ _ _ bytes made c.put_answer.ensures
+    λ bytes. rw c.put_reply.ensures.turn (unpair_turned _ _ _ bytes made c.put_reply.ensures.laid)

@@ -21,8 +21,8 @@ play_next-now-requires c =
       reached = reached c.loop-columns.invariant;
     }
 
-pub rewind-next-requires : goal.rewind-next-requires
-rewind-next-requires c =
+pub rewind_rows-now-requires : goal.rewind_rows-now-requires
+rewind_rows-now-requires c =
     record {
       long = long_same c.play_next-now.auto.columns c.play_next-now.auto.positions c.play_next-now.auto.lower_ends c.play_next-now.auto.upper_ends c.loop-columns.invariant.tables_long;
       within = (c.play_next-now.ensures.starts, c.play_next-now.ensures.opened);
@@ -33,8 +33,8 @@ loop-columns-smaller c = less c.loop-columns.invariant c.plays.ensures c.loop-co
 
 pub loop-columns-preserved : goal.loop-columns-preserved
 loop-columns-preserved c =
-    more c.loop-columns.invariant c.plays.ensures c.loop-columns-test.true c.play_next-now.ensures c.play_next-now.auto.text (c.rewind-next.auto.columns ∙ c.play_next-now.auto.columns)
-    (c.rewind-next.auto.positions ∙ c.play_next-now.auto.positions) (c.rewind-next.auto.lower_ends ∙ c.play_next-now.auto.lower_ends) (c.rewind-next.auto.upper_ends ∙ c.play_next-now.auto.upper_ends) c.rewind-next.ensures.within_2 c.rewind-next.ensures.moved
+    more c.loop-columns.invariant c.plays.ensures c.loop-columns-test.true c.play_next-now.ensures c.play_next-now.auto.text (c.rewind_rows-now.auto.columns ∙ c.play_next-now.auto.columns)
+    (c.rewind_rows-now.auto.positions ∙ c.play_next-now.auto.positions) (c.rewind_rows-now.auto.lower_ends ∙ c.play_next-now.auto.lower_ends) (c.rewind_rows-now.auto.upper_ends ∙ c.play_next-now.auto.upper_ends) c.rewind_rows-now.ensures.within_2 c.rewind_rows-now.ensures.moved
 
 pub shape_of-columns : goal.shape_of-columns
 shape_of-columns c = c.loop-columns.invariant.columns

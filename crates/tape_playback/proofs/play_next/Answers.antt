@@ -6,20 +6,20 @@ use Rattle.tape_playback.proofs.Framing.{stepped_fits, step_played}
 use Rattle.tape.proofs.Slides.{left_bounded}
 use Rattle.tape_playback.proofs.play_next.Goals as goal
 
-pub play_step-played-requires : goal.play_step-played-requires
-play_step-played-requires c =
+pub step_rows-played-requires : goal.step_rows-played-requires
+step_rows-played-requires c =
     record {
       step_bytes_in_bounds = simp (length-take, length-drop) (omega (arith, c.requires.step_bytes_in_bounds.0));
       known = record { reached = λ e. parts_reached _ _ c.requires.reached; roomy = λ e. parts_roomy _ _ c.requires.long c.requires.within };
     }
 
-pub slid-next_start-requires : goal.slid-next_start-requires
-slid-next_start-requires c = (c.requires.within, left_bounded c.play_step-played.ensures)
+pub slid-requires : goal.slid-requires
+slid-requires c = (c.requires.within, left_bounded c.step_rows-played.ensures)
 
-pub overflow_add-now : goal.overflow_add-now
-overflow_add-now c =
-    omega (arith, stepped_fits c.play_step-played.ensures.stepped c.play_step-played.auto.text, c.play_step-arg-6-1.given, c.requires.step_bytes_in_bounds.0, c.well_formed)
+pub overflow_add-result : goal.overflow_add-result
+overflow_add-result c =
+    omega (arith, stepped_fits c.step_rows-played.ensures.stepped c.step_rows-played.auto.text, c.requires.step_bytes_in_bounds.0, c.well_formed)
 
 pub returns : goal.returns
 returns c =
-    step_played _ _ _ _ _ c.play_step-played.ensures c.requires.long c.requires.within (omega (arith, c.requires.step_bytes_in_bounds.0)) c.slid-next_start.ensures
+    step_played _ _ _ _ _ c.step_rows-played.ensures c.requires.long c.requires.within (omega (arith, c.requires.step_bytes_in_bounds.0)) c.slid.ensures

@@ -6,7 +6,7 @@ use Rattle.tape_streams.proofs.refill.Goals as goal
 pub returns-clause-refilled : goal.returns-clause-refilled
 returns-clause-refilled g c =
     let came = c.read_in-came in
-    refill_read _ _ c.requires.place_le_end c.requires.in_bounds came.new.buffer c.settled.ensures c.if-now-settled.false c.to_front.ensures came.ensures.prefix_len.0 came.auto.buffer came.ensures.more_value
+    refill_read _ _ c.requires.place_le_end came.new.buffer c.settled.ensures c.if-now-settled.false c.to_front.ensures came.ensures.prefix_len.0 came.auto.buffer
 
 pub returns-clause-given : goal.returns-clause-given
 returns-clause-given g c =

@@ -13,4 +13,4 @@ play_known-played-requires c =
     }
 
 pub returns : goal.returns
-returns c = step_anywhere c.play_known-played.ensures
+returns c = record { same_loan = c.play_known-played.ensures.same_loan; made = step_anywhere c.play_known-played.ensures.made }

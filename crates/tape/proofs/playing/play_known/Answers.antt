@@ -12,4 +12,5 @@ make-made-requires c =
     }
 
 pub returns : goal.returns
-returns c = step_made _ _ _ _ _ _ _ c.wish_at-wish.ensures c.step_of.ensures c.make-made.ensures
+returns c =
+    record { same_loan = c.make-made.ensures.same_loan; made = step_made _ _ _ _ _ _ _ c.wish_at-wish.ensures c.step_of.ensures c.make-made.ensures.made }
