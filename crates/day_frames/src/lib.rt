@@ -2,155 +2,151 @@
 #![tactic(auto)]
 
 ghost use Rattle.std.specs.Prelude.{◌≡◌, ◌+◌, ◌*◌, ◌≤◌, length};
+ghost use Rattle.refusals.specs.Refusals.{number_of};
 ghost use Rattle.text.specs.Text.{Laid};
-ghost use Rattle.day_skyline.specs.Sheet.{columns_hold};
-ghost use Rattle.day_frames.specs.Gather.{none, over_with, with_quote, after_message, stored, Stepped, Gathers, early_answer, day_line};
+ghost use Rattle.day_skyline.specs.Sheet.{sheet_count};
+ghost use Rattle.day_frames.specs.Gather.{state_of, none, over_with, with_quote, after_message, stored, Stepped, Gathers, early_answer, line_of, day_line};
 
-use day_skyline::sheet;
+use day_skyline::{LONGEST_DAY, sheet};
 use frames::{Message, read_at};
 use head::Head;
-use refusals::{Answer, Refusal};
+use refusals::Refusal;
 use text::put_line;
 
-// The most quotes of a day.
-const LONGEST_DAY: u32 = 4096;
-
-// Where the gathering stands: the place on the tape, how many quotes were taken, the number of the refusal that ended it (0: none),
-// whether one had another number of columns, and whether it is over.
+// Where the gathering stands: the place on the tape, how many quotes were taken, whether one had another number of columns, and once it
+// is over how it ended.
 #[derive(Clone, Copy)]
-pub struct Gathered {
-    pub place: usize,
-    pub count: u32,
-    pub number: u32,
-    pub mixed: bool,
-    pub over: bool,
+struct Gathered {
+    place: usize,
+    count: u32,
+    mixed: bool,
+    end: Option<Result<(), Refusal>>,
 }
 
 impl Gathered {
     // At first.
     fn none() -> Gathered
-        ensures { result ≡ none }
+        ensures { state_of result ≡ none }
     {
         Gathered {
             place: 0,
             count: 0,
-            number: 0,
             mixed: false,
-            over: false,
+            end: None,
         }
     }
 
-    // It is over, with this number.
-    fn over_with(self, number: u32) -> Gathered
-        ensures { result ≡ over_with number self }
+    // It is over, and ended so.
+    #[tactic(auto, unfolding(crate::specs::Gather::over_with))]
+    fn over_with(self, end: Result<(), Refusal>) -> Gathered
+        ensures { state_of result ≡ over_with (number_of end) (state_of self) }
     {
         Gathered {
-            place: self.place,
-            count: self.count,
-            number,
-            mixed: self.mixed,
-            over: true,
+            end: Some(end),
+            ..self
         }
     }
 
     // With one more quote, of so many columns; behind the longest day and one quote it is over.
+    #[tactic(auto, unfolding(crate::specs::Gather::with_quote))]
     fn with_quote(self, d: u32, columns: u8, next: usize) -> Gathered
-        requires { self.count ≤ 4096 }
-        ensures { result ≡ with_quote d columns next self }
+        requires few { self.count ≤ 4096 }
+        requires open { self.end ≡ None }
+        ensures { state_of result ≡ with_quote d columns next (state_of self) }
     {
         let count = self.count + 1;
         Gathered {
             place: next,
             count,
-            number: self.number,
-            mixed: self.mixed | (columns as u32 != d),
-            over: LONGEST_DAY < count,
+            mixed: self.mixed | (u32::from(columns) != d),
+            end: if LONGEST_DAY < count {
+                Some(Ok(()))
+            } else {
+                None
+            },
         }
     }
 
     // After a message, with the place behind its frame: 7 if it is no quote.
     fn after(self, d: u32, message: Message, next: usize) -> Gathered
-        requires { self.count ≤ 4096 }
-        ensures { result ≡ after_message d message next self }
+        requires few { self.count ≤ 4096 }
+        requires open { self.end ≡ None }
+        ensures { state_of result ≡ after_message d message next (state_of self) }
     {
         match message {
             Message::Quote(columns) => self.with_quote(d, columns, next),
-            Message::Sized(_, _) => self.over_with(7),
-            Message::Change(_, _, _) => self.over_with(7),
-            Message::Pair(_, _, _) => self.over_with(7),
-            Message::Bare(_) => self.over_with(7),
-            Message::Position(_, _) => self.over_with(7),
-            Message::Open(_, _, _) => self.over_with(7),
-            Message::EndOfTape => self.over_with(0),
-            Message::Refused(refusal) => self.over_with(refusal.number()),
+            Message::EndOfTape => self.over_with(Ok(())),
+            Message::Refused(refusal) => self.over_with(Err(refusal)),
+            _ => self.over_with(Err(Refusal::OutOfPlace)),
         }
     }
 }
 
 // Stores the first d columns of a quote from a place on, if there is room for them.
+#[tactic(auto, unfolding(crate::specs::Gather::stored))]
 fn store(columns: [u32; 6], d: usize, at: usize, cells: &mut [u32])
     ensures { cells.new ≡ stored d columns at cells.old }
 {
-    if 6 < d {
-        return;
-    }
-    if cells.len() < at {
-        return;
-    }
-    if cells.len() - at < d {
-        return;
-    }
-    let mut i = 0;
-    while i < d {
-        cells[at + i] = columns[i];
-        i += 1;
+    if d <= columns.len() && at <= cells.len() && d <= cells.len() - at {
+        cells[at..at + d].copy_from_slice(&columns[..d]);
     }
 }
 
 // Takes the frame at the place, unless it is over: a quote's columns behind those of the others.
 fn step(d: u32, tape: &[u8], gathered: Gathered, cells: &mut [u32]) -> Gathered
     requires { gathered.count ≤ 4096 }
-    ensures { Stepped d tape.now gathered cells.old result cells.new }
+    ensures { Stepped d tape.now (state_of gathered) cells.old (state_of result) cells.new }
 {
-    if gathered.over {
+    if gathered.end.is_some() {
         return gathered;
     }
     let read = read_at(tape, gathered.place);
-    let message = read.message;
-    let columns = read.columns;
-    let after = gathered.after(d, message, read.next);
+    let after = gathered.after(d, read.message, read.next);
     let at = (gathered.count as usize) * (d as usize);
-    store(columns, d as usize, at, cells);
+    store(read.columns, d as usize, at, cells);
     after
 }
 
 // Takes the frames of a day, up to the first that is no quote or cannot be read, at most one more than the longest day has.
 fn gather(d: u32, tape: &[u8], cells: &mut [u32]) -> Gathered
-    ensures { Gathers d tape.now cells.old result cells.new }
+    ensures { Gathers d tape.now cells.old (state_of result) cells.new }
 {
     let mut gathered = Gathered::none();
-    let mut i: u32 = 0;
-    while i <= LONGEST_DAY {
+    for _i in 0..=LONGEST_DAY {
         gathered = step(d, tape, gathered, cells);
-        i += 1;
     }
     gathered
 }
 
 // The answer of a day before its sheet: 1, 2 or 7 of its frames, then 3, then 4.
-fn judge(d: u32, directions: u32, gathered: Gathered) -> u32
-    ensures { result ≡ early_answer d directions gathered }
+#[tactic(auto, using(day_skyline::proofs::Answering::settled, refusals::proofs::Numbers::number_above), unfolding(crate::specs::Gather::early_answer, refusals::specs::Refusals::first_of))]
+fn judge(d: u32, directions: u32, gathered: Gathered) -> Result<(), Refusal>
+    ensures { number_of result ≡ early_answer d directions (state_of gathered) }
 {
-    if gathered.number != 0 {
-        return gathered.number;
-    }
+    gathered.end.unwrap_or(Ok(()))?;
     if !Head::fresh(d, 1, directions).settings_hold() {
-        return 3;
+        return Err(Refusal::Settings);
     }
     if gathered.mixed {
-        return 4;
+        return Err(Refusal::ColumnCount);
     }
-    0
+    Ok(())
+}
+
+// Finds the sheet of the day that these frames say and writes its positions into out, or hands back its refusal.
+fn find(
+    d: u32,
+    directions: u32,
+    tape: &[u8],
+    cells: &mut [u32],
+    out: &mut [u32],
+) -> Result<usize, Refusal>
+    ensures said { line_of result out.new ≡ day_line d directions tape.now cells.old out.old }
+    ensures fits { sheet_count result ≤ length out.new }
+{
+    let gathered = gather(d, tape, cells);
+    judge(d, directions, gathered)?;
+    sheet(d, directions, gathered.count, cells, out)
 }
 
 // Lays the line of the day that these frames say at the start of the text: its sheet, or its refusal. Returns how many bytes.
@@ -167,16 +163,8 @@ pub fn day_line(
     ensures { Laid (day_line d directions tape.now cells.old out.old)
         text.old result text.new }
 {
-    let gathered = gather(d, tape, cells);
-    let early = judge(d, directions, gathered);
-    if 0 < early {
-        return put_line(b'R', &[early], text);
-    }
-    let reply = sheet(d, directions, gathered.count, cells, out);
-    let count = reply.count;
-    let answer = reply.answer;
-    match answer {
-        Answer::Accepted => put_line(b'D', &out[..count], text),
-        Answer::Refused(refusal) => put_line(b'R', &[refusal.number()], text),
+    match find(d, directions, tape, cells, out) {
+        Ok(count) => put_line(b'D', &out[..count], text),
+        Err(refusal) => put_line(b'R', &[refusal.number()], text),
     }
 }

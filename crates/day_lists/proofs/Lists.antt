@@ -17,13 +17,14 @@ use Rattle.dominance.specs.Renewal.{renewed}
 use Rattle.skyline.specs.Skyline.{window_start, skyline}
 use Rattle.head.specs.Heads.{settings_hold, max_capacity, last_position}
 use Rattle.refusals.specs.declared.Refusal.TheVariants.{ShortOutput}
-use Rattle.refusals.specs.Refusals.{number, number_of, first_of, granted}
+use Rattle.refusals.specs.Refusals.{number, first_of, granted}
 use Rattle.model.specs.Changes.{change_room}
 use Rattle.model.specs.Reference.{Reference, unopened, newest, opening, is_open, outside, skyline_of, with_quote, too_short, tells, reference_step}
 use Rattle.model.specs.Calls.{Open, Quote, Look, Outputs, Lending, Lent, Seen, Expected, lengths_of, expected_step, book_seen, book_step, runs, expected_first, expected_at_end, reference_at_end, world_at_end}
 use Rattle.model.proofs.Replay.{call_agrees, replay_ends}
-use Rattle.day_skyline.specs.declared.SheetReply.{SheetReply}
-use Rattle.day_skyline.specs.Sheet.{longest_day, columns_hold, quotes_in, sheet_of, sheet_answer, Sheeted}
+use Rattle.std.specs.Prelude.{Result}
+use Rattle.refusals.specs.declared.Refusal.{Refusal}
+use Rattle.day_skyline.specs.Sheet.{longest_day, columns_hold, quotes_in, sheet_of, sheet_answer, sheet_number, sheet_count, Sheeted}
 use Rattle.day_lists.specs.Fed.{lending, fed, look_after, Feeds}
 
 -- ---- the reference model fed with a day
@@ -146,9 +147,9 @@ module _ (d N directions count : ℕ) (columns : List ℕ) (fits : d * count ≤
         rw (f.columns_hold_lem, le-ltb longest_day count (omega arith), le-ltb (length columns) (d * count) fits)
 
     -- the book's look at the list of N, once it was fed the day alone, answers, counts and writes what the sheet does
-    pub sheet_is_look : (out : Outputs) {r : SheetReply} {after : List ℕ} → Sheeted d directions count columns out.cells r after
-        → (number_of r.answer ≡ (look_after d N directions count columns o l out).outcome.number)
-        × (r.count ≡ (look_after d N directions count columns o l out).outcome.count)
+    pub sheet_is_look : (out : Outputs) {r : Result ℕ Refusal} {after : List ℕ} → Sheeted d directions count columns out.cells r after
+        → (sheet_number r ≡ (look_after d N directions count columns o l out).outcome.number)
+        × (sheet_count r ≡ (look_after d N directions count columns o l out).outcome.count)
         × (after ≡ (look_after d N directions count columns o l out).outputs.cells)
     unfolding look_after book_step
     sheet_is_look out s =

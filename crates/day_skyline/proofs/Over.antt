@@ -17,9 +17,9 @@ use Rattle.dominance.specs.Compared.{compared}
 use Rattle.dominance.specs.declared.Comparison.{Comparison}
 use Rattle.dominance.proofs.Comparing.{no_worse_by, dominated_by_lem, some_better_same}
 use Rattle.dominance.proofs.Renewal.{renewed_later, renewed_earlier, renewed_irreflexive, renewed_transitive}
-use Rattle.day_skyline.specs.declared.Day.{Day}
+use Rattle.day_skyline.specs.declared.day.Day.{Day}
 use Rattle.day_skyline.specs.Sheet.{quotes_in}
-use Rattle.day_skyline.specs.Finding.{over_in, Fits, Inside}
+use Rattle.day_skyline.specs.Finding.{over_in, Inside}
 
 -- the first d cells decide who is better
 better_take : (d directions : ℕ) (p q : List ℕ) → some_better d directions (take d p) (take d q) ≡ some_better d directions p q
@@ -29,30 +29,33 @@ better_take d directions p q = some_better_same d directions (take d p) p (take 
 pub part_all : (a : ℕ) (l : List ℕ) → take (length l - a) (drop a l) ≡ drop a l
 part_all a l = take_all (length l - a) (drop a l) (simp length-drop (omega arith))
 
-module _ (day : Day) (columns : List ℕ) where
+module _ (day : Day) where
   abbrev d : ℕ
   d = day.dimensions
+
+  abbrev columns : List ℕ
+  columns = day.columns.now
 
   abbrev quotes : List (List ℕ)
   quotes = quotes_in d day.count columns
 
   -- it is a strict partial order
-  pub over_irreflexive : (p : ℕ) → over_in day columns p p ≡ false
+  pub over_irreflexive : (p : ℕ) → over_in day p p ≡ false
   unfolding over_in
   over_irreflexive p = renewed_irreflexive d day.directions quotes p
 
-  pub over_transitive : (p q r : ℕ) → over_in day columns p q ≡ true → over_in day columns q r ≡ true → over_in day columns p r ≡ true
+  pub over_transitive : (p q r : ℕ) → over_in day p q ≡ true → over_in day q r ≡ true → over_in day p r ≡ true
   unfolding over_in
   over_transitive p q r e f = renewed_transitive d day.directions quotes p q r e f
 
-  -- the cells of a position are in the table
-  pub cells_in : Fits day columns → (p : ℕ) → Inside day.count p → (p - 1) * d + d ≤ length columns
-  cells_in f p i =
+  -- the columns of a position are in the table
+  pub columns_in : (p : ℕ) → Inside day.count p → (p - 1) * d + d ≤ length columns
+  columns_in p i =
       let low = i.low in
       let high = i.high in
       let e : suc (p - 1) ≤ day.count = omega arith in
       let m : (p - 1) * d + d ≤ day.count * d = rw (← suc-mul (p - 1) d) (mul-le-mul_right d e) in
-      omega (arith, m, f.cells, mul_comm d day.count)
+      omega (arith, m, day.quotes_held, mul_comm d day.count)
 
   -- and are its quote
   quote_is : (p : ℕ) → Inside day.count p → quote_at quotes p ≡ take d (drop ((p - 1) * d) columns)
@@ -70,7 +73,7 @@ module _ (day : Day) (columns : List ℕ) where
     y = drop ((q - 1) * d) columns
 
     -- the quote at q is over that at p: it is nowhere worse, and better somewhere or the later one
-    pub over_by : {c : Comparison} → c ≡ compared d day.directions x y → not c.better && (c.worse || ltb p q) ≡ over_in day columns q p
+    pub over_by : {c : Comparison} → c ≡ compared d day.directions x y → not c.better && (c.worse || ltb p q) ≡ over_in day q p
     unfolding over_in compared
     over_by e = rw e (go (dec_lt p q))
       where

@@ -1,14 +1,14 @@
 -- The parts of the sheet's functions: a day of which is asked, one part of an array thinned by another, and a half's sheet found.
-use Rattle.std.specs.Prelude.{◌≡◌, ◌⊎◌, ℕ, ◌+◌, ◌-◌, ◌*◌, ◌≤◌, Bool, true, not, List, [], ◌∷◌, ◌++◌, ltb, length, take, drop}
+use Rattle.std.specs.Prelude.{◌≡◌, ◌⊎◌, ℕ, ◌+◌, ◌-◌, ◌*◌, ◌≤◌, Bool, true, not, List, [], ◌∷◌, ◌++◌, ltb, length, take, drop, Result}
 use Rattle.lists.specs.Lists.{rising, laid}
 use Rattle.dominance.specs.Renewal.{renewed}
 use Rattle.skyline.specs.Skyline.{skyline}
 use Rattle.skyline.specs.Halves.{thinned}
+use Rattle.refusals.specs.declared.Refusal.{Refusal}
 use Rattle.refusals.specs.declared.Refusal.TheVariants.{Settings, DayLength, ShortLoan, ShortOutput}
-use Rattle.refusals.specs.Refusals.{number, number_of, first_of, granted}
-use Rattle.day_skyline.specs.declared.Day.{Day}
-use Rattle.day_skyline.specs.declared.SheetReply.{SheetReply}
-use Rattle.day_skyline.specs.Sheet.{longest_day, columns_hold, quotes_in}
+use Rattle.refusals.specs.Refusals.{number, first_of, granted}
+use Rattle.day_skyline.specs.declared.day.Day.{Day}
+use Rattle.day_skyline.specs.Sheet.{longest_day, columns_hold, quotes_in, sheet_number, sheet_count}
 
 -- the answer of a sheet but for the room: 3, 17, 11
 unfoldable pub loan_answer : ℕ → ℕ → ℕ → ℕ → ℕ
@@ -20,20 +20,18 @@ unfoldable pub room_answer : ℕ → List ℕ → ℕ
 room_answer room positions = first_of ((ltb room (length positions), number ShortOutput) ∷ [])
 
 -- what is handed back and left where these positions are to be written
-pub record Written (positions before : List ℕ) (r : SheetReply) (after : List ℕ) : Type 0 where
-  pub answered : number_of r.answer ≡ room_answer (length before) positions
-  pub counted : r.count ≡ granted (room_answer (length before) positions) (length positions) 0
+pub record Written (positions before : List ℕ) (r : Result ℕ Refusal) (after : List ℕ) : Type 0 where
+  pub answered : sheet_number r ≡ room_answer (length before) positions
+  pub counted : sheet_count r ≡ granted (room_answer (length before) positions) (length positions) 0
   pub out : after ≡ granted (room_answer (length before) positions) (laid positions before) before
 
--- one position of the day is over another
-unfoldable pub over_in : Day → List ℕ → ℕ → ℕ → Bool
-over_in day columns = renewed day.dimensions day.directions (quotes_in day.dimensions day.count columns)
+-- the place in the table of the first column of the quote at position p
+unfoldable pub start_of : Day → ℕ → ℕ
+start_of day p = (p - 1) * day.dimensions
 
--- the day is within its limits, and its quotes are in the table
-pub record Fits (day : Day) (columns : List ℕ) : Type 0 where
-  pub dimensions : day.dimensions ≤ 6
-  pub count : day.count ≤ longest_day
-  pub cells : day.dimensions * day.count ≤ length columns
+-- one position of the day is over another
+unfoldable pub over_in : Day → ℕ → ℕ → Bool
+over_in day = renewed day.dimensions day.directions (quotes_in day.dimensions day.count day.columns.now)
 
 -- a position of a day of this count
 pub record Inside (count p : ℕ) : Type 0 where

@@ -1,12 +1,12 @@
 -- The day sheet (02, 10/13): its quotes, its positions, its refusals, and what the call hands back and leaves.
-use Rattle.std.specs.Prelude.{◌≡◌, ℕ, ◌*◌, ◌/◌, ◌^◌, Bool, ◌&&◌, not, List, [], ◌∷◌, map, ltb, leb, eqb, length, take, drop}
+use Rattle.std.specs.Prelude.{◌≡◌, ℕ, ◌*◌, ◌/◌, ◌^◌, Bool, ◌&&◌, not, List, [], ◌∷◌, map, ltb, leb, eqb, length, take, drop, Result, Ok, Err}
 use Rattle.lists.specs.Lists.{run, laid}
 use Rattle.dominance.specs.Renewal.{renewed}
 use Rattle.skyline.specs.Skyline.{skyline}
 use Rattle.head.specs.Heads.{max_dimensions}
+use Rattle.refusals.specs.declared.Refusal.{Refusal}
 use Rattle.refusals.specs.declared.Refusal.TheVariants.{Settings, DayLength, ShortLoan, ShortOutput}
-use Rattle.refusals.specs.Refusals.{number, number_of, first_of, granted}
-use Rattle.day_skyline.specs.declared.SheetReply.{SheetReply}
+use Rattle.refusals.specs.Refusals.{number, first_of, granted}
 
 -- the most quotes of a day
 abbrev pub longest_day : ℕ
@@ -32,8 +32,18 @@ sheet_answer d directions count columns room =
     ∷ (ltb (length columns) (d * count), number ShortLoan)
     ∷ (ltb room (length (sheet_of d directions count columns)), number ShortOutput) ∷ [])
 
+-- 0 where a sheet is handed back, or the refusal's number
+abbrev pub sheet_number : Result ℕ Refusal → ℕ
+sheet_number (Ok n) = 0
+sheet_number (Err k) = number k
+
+-- how many positions were written, 0 where the sheet is refused
+abbrev pub sheet_count : Result ℕ Refusal → ℕ
+sheet_count (Ok n) = n
+sheet_count (Err k) = 0
+
 -- what the call hands back, and what it leaves of the cells that were lent for positions: the sheet over their front, or all as lent
-pub record Sheeted (d directions count : ℕ) (columns before : List ℕ) (r : SheetReply) (after : List ℕ) : Type 0 where
-  pub answered : number_of r.answer ≡ sheet_answer d directions count columns (length before)
-  pub counted : r.count ≡ granted (sheet_answer d directions count columns (length before)) (length (sheet_of d directions count columns)) 0
+pub record Sheeted (d directions count : ℕ) (columns before : List ℕ) (r : Result ℕ Refusal) (after : List ℕ) : Type 0 where
+  pub answered : sheet_number r ≡ sheet_answer d directions count columns (length before)
+  pub counted : sheet_count r ≡ granted (sheet_answer d directions count columns (length before)) (length (sheet_of d directions count columns)) 0
   pub out : after ≡ granted (sheet_answer d directions count columns (length before)) (laid (sheet_of d directions count columns) before) before

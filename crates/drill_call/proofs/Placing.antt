@@ -1,11 +1,10 @@
 -- The quotes of both hands by their numbers are the hands of the drill, so the place that the turns find is the drill's. Assumes nothing.
 use mathlib.Core.Path.{◌≡◌, sym, ap, ap₂, ◌∙◌}
-use mathlib.Core.List.{List, [], ◌++◌, map, append-nil}
-use Prim.Native.Nat.{ℕ, ◌+◌, ◌-◌, ◌*◌, ◌%◌, ◌<◌, ◌≤◌}
+use mathlib.Core.List.{List, [], ◌++◌, map}
+use Prim.Native.Nat.{ℕ, ◌+◌, ◌*◌, ◌%◌, ◌<◌, ◌≤◌}
 use native.Mathlib.Omega.{arith}
-use lib.Dec.{ltb}
-use lib.ListN.{length, take, drop, replicate, length-drop}
-use lib.Seq.{paste, take_all, drop-append-le, take-append-le, drop-append-add}
+use lib.ListN.{length, take, drop, length-drop}
+use lib.Seq.{drop-append-le, take-append-le, drop-append-add}
 use borrow.Author.Tests.{lt-ltb, le-ltb}
 use Rattle.lists.specs.Lists.{run}
 use Rattle.lists.proofs.Filters.{map_map}
@@ -16,33 +15,13 @@ use Rattle.drill_model.specs.Drill.{Held, held, no_quote, hand_of, first_stands,
 use Rattle.drill_model.proofs.Hands.{length_mapped}
 use Rattle.drill_model.proofs.Turned.{best_mapped}
 use Rattle.drill_model.proofs.Drilled.{place_within}
-use Rattle.drill_turns.specs.declared.last_list.Rules.{Rules}
+use Rattle.drill_turns.specs.declared.game.Rules.{Rules}
 use Rattle.drill_turns.specs.Numbers.{numbered, won_by}
-use Rattle.drill_turns.specs.declared.Play.{Play}
-use Rattle.drill_turns.specs.Plays.{Started, place_in}
+use Rattle.drill_turns.specs.declared.game.Play.{Play}
+use Rattle.drill_turns.specs.Plays.{place_number, Started, place_in}
+use Rattle.std.specs.Prelude.{Option, Some, None, IfSome}
 use Rattle.drill_call.specs.declared.Hand.{Hand}
 use Rattle.drill_call.specs.Drills.{quotes_of, Small}
-
--- both hands' cells, one behind the other
-joined_cells : (a b : List ℕ) → length a ≡ 24 → length b ≡ 24 → paste (paste (replicate 48 0) 0 a (length a)) 24 b (length b) ≡ a ++ b
-joined_cells a b u v =
-    rw (u, v)
-    (ap₂ (λ (x y : List ℕ). x ++ y) (ap₂ (λ (x y : List ℕ). x ++ y) (front a u) (take_all 24 b (omega arith))) (rest a u) ∙ append-nil (a ++ b))
-  where
-    whole : (a : List ℕ) → length a ≡ 24 → take 24 a ≡ a
-    whole a u = take_all 24 a (omega arith)
-
-    front : (a : List ℕ) → length a ≡ 24 → take 24 (take 24 a ++ drop 24 (replicate 48 0)) ≡ a
-    front a u = take-append-le 24 (take 24 a) (drop 24 (replicate 48 0)) (omega (arith, ap length (whole a u))) ∙ rw (whole a u) (whole a u)
-
-    rest : (a : List ℕ) → length a ≡ 24 → drop 48 (take 24 a ++ drop 24 (replicate 48 0)) ≡ []
-    rest a u =
-        let end : 48 ≡ length a + 24 = omega arith in
-        rw (whole a u) (ap (λ (k : ℕ). drop k (a ++ drop 24 (replicate 48 0))) end ∙ drop-append-add a (drop 24 (replicate 48 0)) 24)
-
-pub joined_by : (a b : List ℕ) {q r : List ℕ} → length a ≡ 24 → length b ≡ 24 → q ≡ paste (replicate 48 0) 0 a (length a)
-    → r ≡ paste q 24 b (length b) → (r ≡ a ++ b) × (length a ≡ 24)
-joined_by a b u v e f = (f ∙ rw e (joined_cells a b u v), u)
 
 module _ (d : ℕ) (a b : List ℕ) (narrow : d ≤ 6) (long : length a ≡ 24) where
   -- a number below 4 is a quote of the first hand
@@ -115,3 +94,8 @@ module _ (rules : Rules) (first second : Hand) (small : Small rules first second
 
   pub place_empty : first.count ≡ 0 → 0 ≡ place
   place_empty e = omega (arith, place_most)
+
+-- a place that was found is one of a hand of four
+pub place_below : (r : Option ℕ) → place_number r ≤ 4 → IfSome r (λ i. i < 4)
+place_below None h = tt
+place_below (Some i) h = omega arith

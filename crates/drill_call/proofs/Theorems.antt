@@ -7,9 +7,10 @@ use Rattle.refusals.specs.Refusals.{first_of, granted}
 use Rattle.drill_model.specs.Drill.{no_quote, first_stands, drill_place}
 use Rattle.drill_model.proofs.Choosing.{way_of_wins, wins_of_way}
 use Rattle.drill_model.proofs.Drilled.{named_keeps, keeps_named, none_wins, wins_none}
-use Rattle.drill_turns.specs.declared.last_list.Rules.{Rules}
+use Rattle.drill_turns.specs.declared.game.Rules.{Rules}
 use Rattle.drill_call.specs.declared.Hand.{Hand}
-use Rattle.drill_call.specs.declared.Outcome.{Outcome}
+use Rattle.std.specs.Prelude.{Option, Result}
+use Rattle.refusals.specs.declared.Refusal.{Refusal}
 use Rattle.drill_call.specs.Drills.{quotes_of, refusals, yes, no, refused, saying, answered, drilled, Accepted, Winning, Keeping, WinningByWay}
 use Rattle.drill_call.proofs.Placing.{place_empty}
 use Rattle.drill_call.proofs.Judging.{accepted_small}
@@ -38,7 +39,7 @@ module _ (rules : Rules) (first second : Hand) where
   unfolding drilled granted
   granted_place p a e = rw (a, e)
 
-  module _ (r : Outcome) (met : saying r ≡ drilled rules first second) where
+  module _ (r : Result (Option ℕ) Refusal) (met : saying r ≡ drilled rules first second) where
     -- yes with place i + 1 exactly if no refusal's condition holds, laying that quote keeps the win, and laying an earlier one does not
     pub drill_yes : (i : ℕ) → saying r ≡ yes (suc i)
         → Accepted rules first second × Keeping rules first second i × ((j : ℕ) → j < i → Keeping rules first second j → ⊥)

@@ -1,16 +1,15 @@
 -- What the drill answers (02, 12/13): its refusals in order, yes with the earliest place that keeps the win, or no.
-use Rattle.std.specs.Prelude.{◌≡◌, ℕ, zero, suc, ◌*◌, ◌≤◌, Bool, ◌||◌, not, List, [], ◌∷◌, map, ltb, eqb, get_or, take, drop}
+use Rattle.std.specs.Prelude.{◌≡◌, ℕ, zero, suc, ◌*◌, ◌≤◌, Bool, ◌||◌, not, List, [], ◌∷◌, map, ltb, eqb, get_or, take, drop, Option, Some, None, Result, Ok, Err}
 use Rattle.lists.specs.Lists.{any, run}
 use Rattle.head.specs.Heads.{settings_hold}
+use Rattle.refusals.specs.declared.Refusal.{Refusal}
 use Rattle.refusals.specs.declared.Refusal.TheVariants.{Settings, ColumnCount, WindowSize, DrillSize}
 use Rattle.refusals.specs.Refusals.{number, first_of, granted}
 use Rattle.drill_model.specs.Turns.{First, Second}
 use Rattle.drill_model.specs.Ways.{WinningWay}
 use Rattle.drill_model.specs.Drill.{no_quote, hand_of, first_stands, WinsDrill, KeepsDrill, drill_place}
-use Rattle.drill_turns.specs.declared.last_list.Rules.{Rules}
+use Rattle.drill_turns.specs.declared.game.Rules.{Rules}
 use Rattle.drill_call.specs.declared.Hand.{Hand}
-use Rattle.drill_call.specs.declared.Outcome.{Outcome}
-use Rattle.drill_call.specs.declared.Outcome.TheVariants.{Yes, No, Refused}
 
 -- the quotes of a hand, of d columns each; those beyond its count are not read, nor are columns beyond d
 unfoldable pub quotes_of : ℕ → Hand → List (List ℕ)
@@ -41,10 +40,10 @@ pub data Saying : Type 0 where
   refused : ℕ → Saying
 
 -- what an outcome says
-abbrev pub saying : Outcome → Saying
-saying (Yes place) = yes place
-saying No = no
-saying (Refused k) = refused (number k)
+abbrev pub saying : Result (Option ℕ) Refusal → Saying
+saying (Ok (Some place)) = yes place
+saying (Ok None) = no
+saying (Err k) = refused (number k)
 
 -- yes with the earliest place that keeps the win, or no where there is none
 unfoldable pub answered : ℕ → Saying

@@ -1,43 +1,41 @@
 -- A hand gathered from a file, frame by frame: the pass over the frames, and what it comes to. Assumes nothing.
-use mathlib.Core.Path.{◌≡◌, refl, sym, ap, ◌∙◌}
+use mathlib.Core.Path.{◌≡◌, sym, ap, ◌∙◌}
 use mathlib.Core.Bool.{Bool, true, false, cond}
 use mathlib.Core.List.{List}
-use Prim.Native.Nat.{ℕ, zero, suc, ◌+◌, ◌*◌, ◌<◌, ◌≤◌}
+use Prim.Native.Nat.{ℕ, zero, suc, ◌+◌, ◌-◌, ◌*◌, ◌<◌, ◌≤◌}
 use native.Mathlib.Omega.{arith}
-use native.Mathlib.Numerals.{add-one}
-use lib.Dec.{ltb, leb, eqb}
+use lib.Dec.{ltb, eqb}
 use lib.ListN.{length, get_or, set}
+use lib.Seq.{paste, paste-zero, paste-suc}
+use borrow.Rule.Slice.PartMut.{put_mid}
+use Rattle.std.proofs.Common.{rules}
+use Rattle.std.proofs.lemmas.Slice.{overwrites}
 use borrow.Author.Tests.{le-leb, lt-leb}
 use Rattle.refusals.specs.declared.Refusal.{Refusal}
-use Rattle.refusals.specs.declared.Answer.{Answer}
-use Rattle.refusals.specs.declared.Answer.TheVariants as Answer
-use Rattle.refusals.specs.Refusals.{number, number_of, granted}
-use Rattle.refusals.proofs.Numbers.{accepted_number, refused_number, refused_granted}
+use Rattle.std.specs.Prelude.{Result, Ok, Err}
+use Rattle.refusals.specs.Refusals.{number, granted}
+use Rattle.refusals.proofs.Numbers.{refused_granted}
 use Rattle.frame_kinds.specs.Kinds.{body_length}
-use Rattle.frames.specs.declared.Message.{Message}
-use Rattle.frames.specs.declared.Message.TheVariants as Message
 use Rattle.frames.specs.declared.Read.{Read}
 use Rattle.frames.specs.Frames as Frames
 use Rattle.frames.specs.Frames.{Reading, reading, saying, stays, read_at}
 use Rattle.drill_call.specs.declared.Hand.{Hand}
-use Rattle.drill_hands.specs.Files.{no_hand, entered, with_quote, number_in, columns_in, hand_from, hand_in}
+use Rattle.drill_hands.specs.Files.{no_hand, entered, with_quote, number_in, columns_in, refusal_of, count_of, hand_from, hand_in}
 
--- the first j of a quote's cells are stored
-pub record Entering (cells : List ℕ) (at : ℕ) (quote after : List ℕ) (j : ℕ) : Type 0 where
-  pub within : j ≤ 6
-  pub so_far : after ≡ entered cells at quote j
+-- a quote's cells stored one after the other are the quote's pasted
+entered_pasted : (cells : List ℕ) (at : ℕ) (quote : List ℕ) (k : ℕ) → k ≤ length quote → at + k ≤ length cells → paste cells at quote k ≡ entered cells at quote k
+unfolding entered
+entered_pasted cells at quote zero h u = sym (paste-zero cells at quote)
+entered_pasted cells at quote (suc k) h u =
+    sym (paste-suc cells at quote k 0 (omega arith) (omega arith)) ∙ ap (λ (l : List ℕ). set l (at + k) (get_or quote k 0))
+    (entered_pasted cells at quote k (omega arith) (omega arith))
 
-module _ (cells : List ℕ) (at : ℕ) (quote : List ℕ) where
-  pub start_enter : Entering cells at quote cells 0
-  unfolding entered
-  start_enter = record { within = omega arith; so_far = refl }
-
-  pub more_enter : (after : List ℕ) (j : ℕ) → Entering cells at quote after j → j < 6 → Entering cells at quote (set after (at + j) (get_or quote j 0)) (j + 1)
-  unfolding entered
-  more_enter after j s h = record { within = omega arith; so_far = rw (s.so_far, add-one j) }
-
-  pub end_enter : (after : List ℕ) (j : ℕ) → Entering cells at quote after j → 6 ≤ j → after ≡ entered cells at quote 6
-  end_enter after j s h = let e : j ≡ 6 = omega (arith, s.within) in s.so_far ∙ rw e
+-- so is a quote copied to its place
+pub entered_is : (cells : List ℕ) (at : ℕ) (quote : List ℕ) → length quote ≡ 6 → length cells ≡ 24 → at ≤ 18
+    → put_mid at (at + 6 - at) cells quote ≡ entered cells at quote 6
+entered_is cells at quote e f h =
+    let pasted : put_mid at (at + 6 - at) cells quote ≡ paste cells at quote 6 = search (rules, overwrites) in
+    pasted ∙ entered_pasted cells at quote 6 (omega arith) (omega arith)
 
 module _ (h : Hand) (count : ℕ) (quote : List ℕ) where
   -- the fifth quote is counted and not held
@@ -50,11 +48,6 @@ module _ (h : Hand) (count : ℕ) (quote : List ℕ) where
       → record { count = h.count + 1; columns = set h.columns h.count count; cells = cells } ≡ with_quote h count quote
   unfolding with_quote
   held_quote u e = rw (lt-leb 4 h.count u, e)
-
--- what cannot be read
-pub refused_in : {m : Message} {k : Refusal} → m ≡ Message.Refused k → number k ≡ number_in (saying m)
-unfolding number_in saying
-refused_in e = rw e
 
 -- a quote was read: the place behind it is further on
 quote_on : (file : List ℕ) (place : ℕ) → number_in (read_at file place).says ≡ 0 → place < (read_at file place).next
@@ -129,27 +122,27 @@ module _ (file : List ℕ) (hand : Hand) (place : ℕ) (g : Gathering file hand 
   unfolding reading
   says = ap Reading.says e
 
-  -- a quote goes behind the hand
-  pub more_gather : {a : Answer} {count : ℕ} {after : Hand} → number_of a ≡ number_in (saying r.message) → a ≡ Answer.Accepted
-      → count ≡ columns_in (saying r.message) → after ≡ with_quote hand count r.columns → Gathering file after r.next
-  unfolding reading
-  more_gather {a} n f c w =
-      let accepted : number_in (read_at file place).says ≡ 0 = rw says at (accepted_number a n f) in
-      let at : r.next ≡ (read_at file place).next = ap Reading.next e in
-      let columns : r.columns ≡ (read_at file place).columns = ap Reading.columns e in
-      rw (w, c, columns, at, says) (gathered_on file hand place within g.most g.enough g.same accepted)
+  module _ {t : Result ℕ Refusal} (n : refusal_of t ≡ number_in (saying r.message)) (c : count_of t ≡ columns_in (saying r.message)) where
+    -- a quote goes behind the hand
+    pub more_gather : {count : ℕ} {after : Hand} → t ≡ Ok count → after ≡ with_quote hand count r.columns → Gathering file after r.next
+    unfolding reading
+    more_gather {count} f w =
+        let accepted : number_in (read_at file place).says ≡ 0 = rw says at (sym n ∙ ap refusal_of f) in
+        let at : r.next ≡ (read_at file place).next = ap Reading.next e in
+        let columns : r.columns ≡ (read_at file place).columns = ap Reading.columns e in
+        let counted : count ≡ columns_in (saying r.message) = sym (ap count_of f) ∙ c in
+        rw (w, counted, columns, at, says) (gathered_on file hand place within g.most g.enough g.same accepted)
 
-  -- the place moves on
-  pub moves_on : {a : Answer} → number_of a ≡ number_in (saying r.message) → a ≡ Answer.Accepted → place < r.next
-  unfolding reading
-  moves_on {a} n f =
-      let accepted : number_in (read_at file place).says ≡ 0 = rw says at (accepted_number a n f) in
-      rw (ap Reading.next e) (quote_on file place accepted)
+    -- the place moves on
+    pub moves_on : {count : ℕ} → t ≡ Ok count → place < r.next
+    unfolding reading
+    moves_on f =
+        let accepted : number_in (read_at file place).says ≡ 0 = rw says at (sym n ∙ ap refusal_of f) in
+        rw (ap Reading.next e) (quote_on file place accepted)
 
-  -- any other frame, or none, refuses the file
-  pub out_gather : {a : Answer} (k : Refusal) → number_of a ≡ number_in (saying r.message) → a ≡ Answer.Refused k → (number k, hand) ≡ hand_in file
-  out_gather {a} k n f =
-      gathered_out file hand place within g.most g.enough g.same k (rw says at (refused_number a k n f))
+    -- any other frame, or none, refuses the file
+    pub out_gather : (k : Refusal) → t ≡ Err k → (number k, hand) ≡ hand_in file
+    out_gather k f = gathered_out file hand place within g.most g.enough g.same k (rw says at (sym n ∙ ap refusal_of f))
 
 -- the whole file was read
 pub end_gather : (file : List ℕ) (hand : Hand) (place : ℕ) → Gathering file hand place → length file ≤ place → (0, hand) ≡ hand_in file

@@ -1,16 +1,16 @@
 -- The hand that a file of quote frames holds, and the line of an outcome (02, 12/13).
-use Rattle.std.specs.Prelude.{ℕ, zero, suc, ◌+◌, ◌*◌, ◌&&◌, not, cond, List, [], ◌∷◌, leb, eqb, length, get_or, set, replicate}
+use Rattle.std.specs.Prelude.{ℕ, zero, suc, ◌+◌, ◌*◌, ◌&&◌, not, cond, List, [], ◌∷◌, leb, eqb, length, get_or, set, replicate, Option, Some, None, Result, Ok, Err}
+use Rattle.refusals.specs.declared.Refusal.{Refusal}
 use Rattle.refusals.specs.declared.Refusal.TheVariants.{OutOfPlace}
-use Rattle.refusals.specs.Refusals.{number, number_of, granted}
+use Rattle.refusals.specs.Refusals.{number, granted}
 use Rattle.frames.specs.declared.Message.TheVariants.{Quote, Sized, Change, Pair, Bare, Position, Open, EndOfTape, Refused}
 use Rattle.frames.specs.Frames.{Saying, told, ended, refused, read_at}
 use Rattle.text.specs.Text.{line, line2}
 use Rattle.drill_call.specs.declared.Hand.{Hand}
 use Rattle.drill_call.specs.Drills as Drills
-use Rattle.drill_turns.specs.declared.last_list.Rules.{Rules}
+use Rattle.drill_turns.specs.declared.game.Rules.{Rules}
 use Rattle.line_fields.specs.declared.Fields.{Fields}
-use Rattle.drill_hands.specs.declared.Asked.{Asked}
-use Rattle.drill_hands.specs.declared.Handful.{Handful}
+use Rattle.drill_hands.specs.declared.Unread.{Unread}
 
 -- an empty hand
 abbrev pub no_hand : Hand
@@ -55,9 +55,20 @@ columns_in (told (Refused k)) = 0
 columns_in ended = 0
 columns_in (refused k) = 0
 
+-- 0 for a quote that was told of, or the number of the refusal
+abbrev pub refusal_of : Result ℕ Refusal → ℕ
+refusal_of (Ok k) = 0
+refusal_of (Err k) = number k
+
+-- how many columns were told of; 0 where there is a refusal
+abbrev pub count_of : Result ℕ Refusal → ℕ
+count_of (Ok k) = k
+count_of (Err k) = 0
+
 -- 0 or the number of the refusal, and the hand
-abbrev pub handed : Handful → ℕ × Hand
-handed r = (number_of r.answer, r.hand)
+abbrev pub handed : Result Hand Unread → ℕ × Hand
+handed (Ok h) = (0, h)
+handed (Err u) = (number u.refusal, u.hand)
 
 -- the hand from a place of a file on, in at most so many frames, behind the quotes before it
 unfoldable pub hand_from : ℕ → List ℕ → ℕ → Hand → ℕ × Hand
@@ -79,17 +90,17 @@ files_drilled rules first second =
     let two = hand_in second in
     granted one.0 (granted two.0 (Drills.drilled rules one.1 two.1) (Drills.refused two.0)) (Drills.refused one.0)
 
--- the rules by the fields of a line: there are four, each with a number
-unfoldable pub asked_by : Fields → Asked
-asked_by f = record {
-  valid = (f.valid && not f.empty) && eqb f.count 4;
-  rules = record {
-    dimensions = get_or f.numbers 0 0;
-    capacity = get_or f.numbers 1 0;
-    directions = get_or f.numbers 2 0;
-    n = get_or f.numbers 3 0;
-  };
-}
+-- the rules by the fields of a line, where there are four, each with a number
+unfoldable pub asked_by : Fields → Option Rules
+asked_by f =
+    cond ((f.valid && not f.empty) && eqb f.count 4)
+    (Some (record {
+      dimensions = get_or f.numbers 0 0;
+      capacity = get_or f.numbers 1 0;
+      directions = get_or f.numbers 2 0;
+      n = get_or f.numbers 3 0;
+    }))
+    None
 
 -- the line of what the drill says: `yes place`, `no` or `R number`
 unfoldable pub line_of : Drills.Saying → List ℕ

@@ -1,5 +1,5 @@
 -- The proofs of the crate.
 pub mod Playing
 pub mod Turning
-pub mod Laid
+pub mod LastList
 pub mod Scans

@@ -1,48 +1,37 @@
 -- Hands and quotes laid in arrays: what is left of a hand, a play once a quote is laid, and the first one. Assumes nothing.
 use mathlib.Core.Path.{◌≡◌, refl, sym, ap, ◌∙◌}
 use mathlib.Core.Bool.{Bool, true, false, cond}
-use mathlib.Core.Logic.{◌⊎◌, ⊎_elim}
+use mathlib.Core.Logic.{⊎_elim}
 use mathlib.Core.List.{List, [], ◌∷◌}
 use Prim.Native.Nat.{ℕ, zero, suc, ◌+◌, ◌-◌, ◌<◌, ◌≤◌}
 use native.Mathlib.Nat.{zero-add}
 use native.Mathlib.Omega.{arith}
 use native.Mathlib.Numerals.{add-one}
 use lib.Dec.{ltb}
-use lib.ListN.{length, get_or, take, set, replicate, length-set}
-use lib.Seq.{get_or-set_same, get_or-set_other, take-suc-set, ext_get_or}
+use lib.ListN.{length, get_or, set}
+use lib.Seq.{take-suc-set, ext_get_or}
 use borrow.Author.Tests.{lt-ltb, le-ltb}
 use Rattle.lists.specs.Lists.{run}
 use Rattle.lists.proofs.Runs.{length_run, get_or_run}
 use Rattle.drill_model.specs.Turns.{left, laying}
-use Rattle.drill_model.proofs.Below.{below_or_not, below_cases}
+use Rattle.drill_model.proofs.Below.{below_or_not}
 use Rattle.drill_model.proofs.Hands.{length_left, length_mapped}
-use Rattle.drill_turns.specs.declared.Play.{Play}
-use Rattle.drill_turns.specs.Plays.{numbers_of, first_hand, second_hand, laid_in, Fair, LeftOf, Started, LaidFirst, LaidSecond}
+use Rattle.std.specs.List.{SameBelow, CopiedTo}
+use Rattle.drill_turns.specs.declared.game.Hand.{Hand}
+use Rattle.drill_turns.specs.declared.game.Laid.{Laid}
+use Rattle.drill_turns.specs.declared.game.Play.{Play}
+use Rattle.drill_turns.specs.Plays.{numbers_of, numbers_in, first_hand, second_hand, laid_in, LeftOf, Without, Laying, Started, LaidFirst, LaidSecond}
 
--- the first j numbers left of a hand are written
-pub record Keeping (hand : List ℕ) (i : ℕ) (kept : List ℕ) (j : ℕ) : Type 0 where
-  pub long : length kept ≡ 4
-  pub within : j ≤ 3
-  pub at : (m : ℕ) → m < j → get_or kept m 0 ≡ cond (ltb m i) (get_or hand m 0) (get_or hand (suc m) 0)
-
-module _ (hand : List ℕ) (i : ℕ) where
-  pub start_keep : Keeping hand i (replicate 4 0) 0
-  start_keep = record { long = refl; within = omega arith; at = λ m h. absurd (omega arith) }
-
-  module _ (kept : List ℕ) (j : ℕ) (s : Keeping hand i kept j) where
-    pub more_keep : j < 3 → {x : ℕ} → x ≡ cond (ltb j i) (get_or hand j 0) (get_or hand (j + 1) 0) → Keeping hand i (set kept j x) (j + 1)
-    more_keep h {x} e = record {
-      long = length-set kept j x ∙ s.long;
-      within = omega arith;
-      at = λ m u. ⊎_elim
-          (λ (a : m < j). get_or-set_other kept j m x 0 (λ z. omega arith) ∙ s.at m a)
-          (λ (b : m ≡ j). rw b (get_or-set_same kept j x 0 (omega (arith, s.long)) ∙ e
-          ∙ ap (λ (k : ℕ). cond (ltb j i) (get_or hand j 0) (get_or hand k 0)) (add-one j)))
-          (below_cases m j (omega arith));
-    }
-
-    pub end_keep : 3 ≤ j → LeftOf hand i kept
-    end_keep h = record { at = λ m u. s.at m (omega arith) }
+-- a hand whose numbers behind place i were moved one place to the front
+pub moved : (hand r : List ℕ) (i : ℕ) → SameBelow hand r i → CopiedTo hand r (i + 1) i (4 - (i + 1)) → LeftOf hand i r
+moved hand r i same copied = record {
+  at = λ j u. ⊎_elim
+      (λ (a : j < i). same j 0 a ∙ sym (rw (lt-ltb j i a)))
+      (λ (b : i ≤ j).
+      let e : i + 1 + (j - i) ≡ suc j = omega arith in
+      copied j 0 b (omega arith) ∙ rw (e, le-ltb j i b))
+      (below_or_not j i);
+}
 
 -- what is left of a list, by its places
 get_or_left : (i : ℕ) (l : List ℕ) (m : ℕ) → get_or (left i l) m 0 ≡ cond (ltb m i) (get_or l m 0) (get_or l (suc m) 0)
@@ -78,57 +67,45 @@ left_numbers count i hand r h u s =
     number_at (count - 1) r m w ∙ s.at m (omega arith)
     ∙ sym (get_or_left i (numbers_of count hand) m ∙ rw (number_at count hand m (omega arith), number_at count hand (suc m) (omega arith))))
 
--- one quote more is laid behind the others
-laid_more : (count i c : ℕ) (hand laid : List ℕ) → i < count → c < length laid
-    → take (c + 1) (set laid c (get_or hand i 0)) ≡ laying 0 i (numbers_of count hand) (take c laid)
-unfolding laying
-laid_more count i c hand laid h u = rw (add-one c, number_at count hand i h) (take-suc-set laid c (get_or hand i 0) u)
+-- a hand without one of its quotes
+pub without : (h r : Hand) (i : ℕ) → i < h.count → r.count ≡ h.count - 1 → SameBelow h.numbers r.numbers i
+    → CopiedTo h.numbers r.numbers (i + 1) i (4 - (i + 1)) → Without h i r
+without h r i u e same copied =
+    let few = h.few in
+    record {
+      numbers = rw e (left_numbers h.count i h.numbers r.numbers u few (moved h.numbers r.numbers i same copied));
+      fewer = omega arith;
+    }
 
-module _ (p : Play) (i : ℕ) (kept : List ℕ) (fair : Fair p) where
-  pub laid_first : i < p.first_count → LeftOf p.first i kept → LaidFirst p i (record {
-    first = kept;
-    first_count = p.first_count - 1;
-    second = p.second;
-    second_count = p.second_count;
-    laid = set p.laid p.laid_count (get_or p.first i 0);
-    laid_count = p.laid_count + 1;
-  })
-  unfolding first_hand second_hand laid_in
-  laid_first h s = record {
-    fair = record {
-      long = length-set p.laid p.laid_count (get_or p.first i 0) ∙ fair.long;
-      first = omega (arith, fair.first);
-      second = fair.second;
-      all = omega (arith, fair.all);
-    };
-    first = left_numbers p.first_count i p.first kept h fair.first s;
-    second = refl;
-    laid = laid_more p.first_count i p.laid_count p.first p.laid h (omega (arith, fair.all, fair.long));
-    fewer = omega arith;
-    same = refl;
+-- one quote more is laid behind the others
+pub laid_more : (l r : Laid) (number : ℕ) → l.count < 8 → r.count ≡ l.count + 1 → r.numbers ≡ set l.numbers l.count number → Laying l number r
+laid_more l r number h e f =
+    let long = l.of_eight in
+    record {
+      numbers = rw (e, f, add-one) (take-suc-set l.numbers l.count number (omega arith));
+      more = e;
+    }
+
+module _ (p r : Play) (i : ℕ) where
+  pub laid_first : i < p.first.count → Without p.first i r.first → r.second ≡ p.second → Laying p.laid (get_or p.first.numbers i 0) r.laid → LaidFirst p i r
+  unfolding first_hand second_hand laid_in laying
+  laid_first h w e l = record {
+    first = w.numbers;
+    second = ap numbers_in e;
+    laid = rw (number_at p.first.count p.first.numbers i h) l.numbers;
+    fewer = w.fewer;
+    same = ap (λ (x : Hand). x.count) e;
   }
 
-  pub laid_second : i < p.second_count → LeftOf p.second i kept → LaidSecond p i (record {
-    first = p.first;
-    first_count = p.first_count;
-    second = kept;
-    second_count = p.second_count - 1;
-    laid = set p.laid p.laid_count (get_or p.second i 0);
-    laid_count = p.laid_count + 1;
-  })
-  unfolding first_hand second_hand laid_in
-  laid_second h s = record {
-    fair = record {
-      long = length-set p.laid p.laid_count (get_or p.second i 0) ∙ fair.long;
-      first = fair.first;
-      second = omega (arith, fair.second);
-      all = omega (arith, fair.all);
-    };
-    first = refl;
-    second = left_numbers p.second_count i p.second kept h fair.second s;
-    laid = laid_more p.second_count i p.laid_count p.second p.laid h (omega (arith, fair.all, fair.long));
-    fewer = omega arith;
-    same = refl;
+  pub laid_second : i < p.second.count → Without p.second i r.second → r.first ≡ p.first → Laying p.laid (get_or p.second.numbers i 0) r.laid
+      → LaidSecond p i r
+  unfolding first_hand second_hand laid_in laying
+  laid_second h w e l = record {
+    first = ap numbers_in e;
+    second = w.numbers;
+    laid = rw (number_at p.second.count p.second.numbers i h) l.numbers;
+    fewer = w.fewer;
+    same = ap (λ (x : Hand). x.count) e;
   }
 
 numbers_first : (count : ℕ) → count ≤ 4 → numbers_of count (0 ∷ 1 ∷ 2 ∷ 3 ∷ []) ≡ run 0 count
@@ -149,19 +126,15 @@ numbers_second (suc (suc (suc zero))) h = refl
 numbers_second (suc (suc (suc (suc zero)))) h = refl
 numbers_second (suc (suc (suc (suc (suc n))))) h = absurd (omega arith)
 
-pub started : (firsts seconds : ℕ) → firsts ≤ 4 → seconds ≤ 4 → Started firsts seconds (record {
-  first = 0 ∷ 1 ∷ 2 ∷ 3 ∷ [];
-  first_count = firsts;
-  second = 4 ∷ 5 ∷ 6 ∷ 7 ∷ [];
-  second_count = seconds;
-  laid = replicate 8 0;
-  laid_count = 0;
-})
+pub started : (r : Play) → r.first.numbers ≡ 0 ∷ 1 ∷ 2 ∷ 3 ∷ [] → r.second.numbers ≡ 4 ∷ 5 ∷ 6 ∷ 7 ∷ [] → r.laid.count ≡ 0
+    → Started r.first.count r.second.count r
 unfolding first_hand second_hand laid_in
-started firsts seconds h u = record {
-  fair = record { long = refl; first = h; second = u; all = omega arith };
-  first = numbers_first firsts h;
-  second = numbers_second seconds u;
-  laid = refl;
-  held = refl;
-}
+started r e f z =
+    let h = r.first.few in
+    let u = r.second.few in
+    record {
+      first = rw e (numbers_first r.first.count h);
+      second = rw f (numbers_second r.second.count u);
+      laid = rw z;
+      held = refl;
+    }

@@ -1,10 +1,10 @@
 -- The quotes of both hands by their numbers: the first hand's are 0 to 3, the second's 4 to 7, six cells each.
-use Rattle.std.specs.Prelude.{◌≡◌, ℕ, ◌*◌, ◌%◌, ◌≤◌, Bool, ◌&&◌, ◌||◌, not, cond, List, map, ltb, length, get_or, take, drop}
+use Rattle.std.specs.Prelude.{ℕ, ◌*◌, ◌%◌, Bool, ◌&&◌, ◌||◌, not, cond, List, map, ltb, get_or, take, drop}
 use Rattle.lists.specs.Lists.{run, any}
 use Rattle.dominance.specs.Compared.{compared}
 use Rattle.drill_model.specs.Turns.{First, Second}
 use Rattle.drill_model.specs.Drill.{Held, first_stands}
-use Rattle.drill_turns.specs.declared.last_list.Rules.{Rules}
+use Rattle.drill_turns.specs.declared.game.Rules.{Rules}
 
 -- the quote with a number, of d columns; numbers are counted around from 8 on
 unfoldable pub numbered : ℕ → List ℕ → ℕ → Held
@@ -17,11 +17,6 @@ numbered d cells number = record {
 unfoldable pub won_by : List ℕ → Rules → List ℕ → Bool
 won_by cells rules laid =
     first_stands rules.dimensions rules.capacity rules.directions rules.n (map (numbered rules.dimensions cells) laid)
-
--- cells for eight quotes, and at most six columns
-pub record Fits (cells : List ℕ) (rules : Rules) : Type 0 where
-  pub long : length cells ≡ 48
-  pub narrow : rules.dimensions ≤ 6
 
 -- the quote laid at place j is over the one laid at place i: worse in no column, and better in one or the later
 unfoldable pub over_at : List ℕ → Rules → List ℕ → ℕ → ℕ → Bool

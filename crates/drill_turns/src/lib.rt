@@ -1,36 +1,42 @@
 // The two turns of the drill, which call each other: each quote laid leaves one fewer in hand; and the last list, on which they end.
 #![tactic(auto)]
 
+mod game;
 mod last_list;
 
-ghost use Rattle.std.specs.Prelude.{◌≡◌, ◌+◌, ◌-◌, ◌<◌, ◌≤◌};
-ghost use Rattle.drill_turns.specs.Numbers.{Fits};
-ghost use Rattle.drill_turns.specs.Plays.{Fair, LeftOf, Started, LaidFirst, LaidSecond, place_in, wins_in};
+ghost use Rattle.std.specs.Prelude.{◌≡◌, ◌+◌, ◌-◌, ◌<◌, ◌≤◌, ltb};
+ghost use Rattle.drill_turns.specs.Plays.{Without, Laying, Started, LaidFirst, LaidSecond, side_of, layer_by, place_number, place_in, wins_in, wins_on};
 
-pub use last_list::{Rules, first_stands};
+pub use game::{Game, Hand, Laid, Play, Rules, Side};
 
-// A play: the numbers of the quotes in each hand, as many as are left, and of those laid, in their order.
-#[derive(Clone, Copy)]
-pub struct Play {
-    pub first: [u32; 4],
-    pub first_count: usize,
-    pub second: [u32; 4],
-    pub second_count: usize,
-    pub laid: [u32; 8],
-    pub laid_count: usize,
+impl Hand {
+    // The hand once the quote at place i is laid.
+    fn without(self, i: usize) -> Hand
+        requires { i < self.count }
+        ensures { Without self i result }
+    {
+        let mut numbers = self.numbers;
+        numbers.copy_within(i + 1.., i);
+        Hand {
+            numbers,
+            count: self.count - 1,
+        }
+    }
 }
 
-// What is left of a hand once the quote at place i is laid.
-fn left(hand: [u32; 4], i: usize) -> [u32; 4]
-    ensures { LeftOf hand i result }
-{
-    let mut kept = [0u32; 4];
-    let mut j: usize = 0;
-    while j < 3 {
-        kept[j] = table_cells::chosen(j < i, hand[j], hand[j + 1]);
-        j += 1;
+impl Laid {
+    // One quote more.
+    fn with(self, number: u32) -> Laid
+        requires { self.count < 8 }
+        ensures { Laying self number result }
+    {
+        let mut numbers = self.numbers;
+        numbers[self.count] = number;
+        Laid {
+            numbers,
+            count: self.count + 1,
+        }
     }
-    kept
 }
 
 impl Play {
@@ -39,131 +45,96 @@ impl Play {
         requires { (firsts ≤ 4) × (seconds ≤ 4) }
         ensures { Started firsts seconds result }
     {
-        let mut first = [0u32; 4];
-        let mut second = [4u32; 4];
-        first[1] = 1;
-        first[2] = 2;
-        first[3] = 3;
-        second[1] = 5;
-        second[2] = 6;
-        second[3] = 7;
         Play {
-            first,
-            first_count: firsts,
-            second,
-            second_count: seconds,
-            laid: [0; 8],
-            laid_count: 0,
+            first: Hand {
+                numbers: [0, 1, 2, 3],
+                count: firsts,
+            },
+            second: Hand {
+                numbers: [4, 5, 6, 7],
+                count: seconds,
+            },
+            laid: Laid {
+                numbers: [0; 8],
+                count: 0,
+            },
         }
     }
 
     // Once the first side laid the quote at place i of its hand.
     fn lay_first(self, i: usize) -> Play
-        requires fair { Fair self }
-        requires i_bound { i < self.first_count }
+        requires { i < self.first.count }
         ensures { LaidFirst self i result }
     {
-        let hand = self.first;
-        let second = self.second;
-        let mut laid = self.laid;
-        let at = self.laid_count;
-        laid[at] = hand[i];
-        let first = left(hand, i);
         Play {
-            first,
-            first_count: self.first_count - 1,
-            second,
-            second_count: self.second_count,
-            laid,
-            laid_count: at + 1,
+            first: self.first.without(i),
+            second: self.second,
+            laid: self.laid.with(self.first.numbers[i]),
         }
     }
 
     // Once the second side laid the quote at place i of its hand.
     fn lay_second(self, i: usize) -> Play
-        requires fair { Fair self }
-        requires i_bound { i < self.second_count }
+        requires { i < self.second.count }
         ensures { LaidSecond self i result }
     {
-        let hand = self.second;
-        let first = self.first;
-        let mut laid = self.laid;
-        let at = self.laid_count;
-        laid[at] = hand[i];
-        let second = left(hand, i);
         Play {
-            first,
-            first_count: self.first_count,
-            second,
-            second_count: self.second_count - 1,
-            laid,
-            laid_count: at + 1,
+            first: self.first,
+            second: self.second.without(i),
+            laid: self.laid.with(self.second.numbers[i]),
+        }
+    }
+
+    // The side that lays the next quote: the one whose turn it is, the other where its hand is empty, and none where both are.
+    fn layer(self, turn: Side) -> Option<Side>
+        ensures { result ≡ layer_by (ltb 0 self.first.count) (ltb 0 self.second.count) turn }
+    {
+        match (0 < self.first.count, 0 < self.second.count) {
+            (true, true) => Some(turn),
+            (true, false) => Some(Side::First),
+            (false, true) => Some(Side::Second),
+            (false, false) => None,
         }
     }
 }
 
-// The first side's turn, with a quote in hand: the earliest place, counted from 1, whose laying keeps the win, or 0 where there is none.
-#[cycle(first_turn_second_turn)]
-pub fn first_turn(quotes: &[u32], rules: Rules, play: Play) -> usize
-    requires fits { Fits quotes.now rules }
-    requires fair { Fair play }
-    requires first_count_nonzero { 0 < play.first_count }
-    ensures { result ≡ place_in quotes.now rules play }
-{
-    let count = play.first_count;
-    let mut i = 0;
-    while i < count {
-        let next = play.lay_first(i);
-        i += 1;
-        if 0 < next.second_count {
-            if second_turn(quotes, rules, next) {
-                return i;
-            }
-        } else {
-            if 0 < next.first_count {
-                if 0 < first_turn(quotes, rules, next) {
-                    return i;
-                }
-            } else {
-                let laid = next.laid;
-                if first_stands(quotes, rules, laid, next.laid_count) {
-                    return i;
-                }
+impl Game<'_> {
+    // The first side's turn: the earliest place of its hand, counted from 0, whose laying keeps the win.
+    #[cycle(turns)]
+    pub fn first_turn(self, play: Play) -> Option<usize>
+        ensures { place_number result ≡ place_in self.entry.quotes.now self.entry.rules play }
+    {
+        for i in 0..play.first.count {
+            if self.wins(Side::Second, play.lay_first(i)) {
+                return Some(i);
             }
         }
+        None
     }
-    0
-}
 
-// The second side's turn, with a quote in hand: whether the first side wins after each quote that it can lay.
-#[cycle(first_turn_second_turn)]
-pub fn second_turn(quotes: &[u32], rules: Rules, play: Play) -> bool
-    requires fits { Fits quotes.now rules }
-    requires fair { Fair play }
-    requires second_count_nonzero { 0 < play.second_count }
-    ensures { result ≡ wins_in quotes.now rules play }
-{
-    let count = play.second_count;
-    let mut i = 0;
-    while i < count {
-        let next = play.lay_second(i);
-        i += 1;
-        if 0 < next.first_count {
-            if first_turn(quotes, rules, next) == 0 {
+    // The second side's turn, with a quote in hand: whether the first side wins after each quote that it can lay.
+    #[cycle(turns)]
+    pub fn second_turn(self, play: Play) -> bool
+        requires { 0 < play.second.count }
+        ensures { result ≡ wins_in self.entry.quotes.now self.entry.rules play }
+    {
+        for i in 0..play.second.count {
+            if !self.wins(Side::First, play.lay_second(i)) {
                 return false;
             }
-        } else {
-            if 0 < next.second_count {
-                if !second_turn(quotes, rules, next) {
-                    return false;
-                }
-            } else {
-                let laid = next.laid;
-                if !first_stands(quotes, rules, laid, next.laid_count) {
-                    return false;
-                }
-            }
+        }
+        true
+    }
+
+    // Whether the first side wins, by whose turn it is: where both hands are empty the last list decides.
+    #[cycle(turns)]
+    fn wins(self, turn: Side, play: Play) -> bool
+        ensures { result ≡ wins_on self.entry.quotes.now self.entry.rules (side_of turn) play }
+    {
+        match play.layer(turn) {
+            Some(Side::First) => self.first_turn(play).is_some(),
+            Some(Side::Second) => self.second_turn(play),
+            None => self.first_stands(play.laid),
         }
     }
-    true
 }

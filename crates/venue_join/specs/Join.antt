@@ -1,10 +1,10 @@
 -- The join of two venues' tapes: which stamped quote comes next, the part that holds it, and where both tapes stand after it.
-use Rattle.std.specs.Prelude.{◌≡◌, ℕ, ◌-◌, cond, List, [], ltb, take, drop}
+use Rattle.std.specs.Prelude.{◌≡◌, ℕ, ◌-◌, cond, List, [], ltb, take, drop, Option, Some, None, Result, Ok, Err}
+use Rattle.std.specs.Borrow.{Bor}
+use Rattle.refusals.specs.declared.Refusal.{Refusal}
 use Rattle.refusals.specs.Refusals.{number}
 use Rattle.venue_tapes.specs.VenueTapes.{Ahead, pair, done, refuses, next}
 use Rattle.venue_join.specs.declared.Venue.{Venue}
-use Rattle.venue_join.specs.declared.Joining.{Joining}
-use Rattle.venue_join.specs.declared.Joining.TheVariants as Joining
 use Rattle.venue_join.specs.declared.Step.{Step}
 
 -- what a join answers: a pair of the first tape, a pair of the second, 'end', or the number of a refusal
@@ -82,16 +82,24 @@ answer_of of_second = 0
 answer_of at_ends = end_number
 answer_of (refused k) = k
 
--- what is answered, by 02's numbers
-unfoldable pub choice_of : Joining → Choice
-choice_of Joining.First = of_first
-choice_of Joining.Second = of_second
-choice_of Joining.End = at_ends
-choice_of (Joining.Refused k) = refused (number k)
+-- what a step makes of two tapes' places and last stamps
+unfoldable pub joint_in : Venue → Venue → Result (Option Step) Refusal → Joint
+joint_in v w (Ok (Some (Step.First behind))) = record { choice = of_first; first = behind; second = w }
+joint_in v w (Ok (Some (Step.Second behind))) = record { choice = of_second; first = v; second = behind }
+joint_in v w (Ok None) = record { choice = at_ends; first = v; second = w }
+joint_in v w (Err k) = record { choice = refused (number k); first = v; second = w }
 
--- what a step hands back
-unfoldable pub joint_in : Step → Joint
-joint_in s = record { choice = choice_of s.answer; first = s.first; second = s.second }
+-- the part that is handed back: an empty one at both ends and by a refusal
+abbrev pub part_in : Result (Option (Bor (List ℕ))) Refusal → List ℕ
+part_in (Ok (Some part)) = part.now
+part_in (Ok None) = []
+part_in (Err k) = []
+
+-- what is answered, by 02's numbers: 0 for a pair, that of 'end', or the refusal's
+abbrev pub answer_in : Result (Option (Bor (List ℕ))) Refusal → ℕ
+answer_in (Ok (Some part)) = 0
+answer_in (Ok None) = end_number
+answer_in (Err k) = number k
 
 -- what the join promises: the part, the answer's number, and both tapes' places and last stamps after it
 pub record Joined (first second : List ℕ) (v w : Venue) (part : List ℕ) (answer : ℕ) (v' w' : Venue) : Type 0 where

@@ -4,9 +4,9 @@ use mathlib.Core.Logic.{◌⊎◌, inl, inr}
 use Prim.Native.Nat.{ℕ, ◌+◌, ◌-◌, ◌≤◌}
 use native.Mathlib.Nat.{add_assoc}
 use native.Mathlib.Omega.{arith}
-use mathlib.Core.Bool.{Bool, true, false, ◌||◌, cond}
-use mathlib.Core.List.{List, [], ◌++◌, append-nil}
-use lib.Dec.{ltb, leb}
+use mathlib.Core.Bool.{Bool, true}
+use mathlib.Core.List.{List, ◌++◌, append-nil}
+use lib.Dec.{leb}
 use lib.ListN.{length, take, drop, length-append, length-drop}
 use lib.Seq.{take-append-le, drop-append-le, drop-append-add}
 use borrow.Author.Tests.{leb-true}
@@ -14,7 +14,7 @@ use Rattle.lists.proofs.Booleans.{or_cases}
 use Rattle.venue_tapes.specs.VenueTapes.{Ahead, pair, done, refuses, next, further}
 use Rattle.venue_tapes.proofs.Local.{next_local}
 use Rattle.venue_join.specs.declared.Venue.{Venue}
-use Rattle.venue_join.specs.Join.{Choice, of_first, of_second, at_ends, refused, chosen, venue, moved, Joint, joint_by, joint_of, join_at, passed, part_by, part_at}
+use Rattle.venue_join.specs.Join.{Choice, of_first, of_second, at_ends, refused, chosen, moved, Joint, joint_by, joint_of, join_at, passed, part_by, part_at}
 use Rattle.venue_join.proofs.Joins.{took_first, took_second}
 use Rattle.venue_pieces.specs.Pieces.{enough, Came, onward, joint_onward}
 

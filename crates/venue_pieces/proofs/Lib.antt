@@ -1,4 +1,3 @@
 -- The laws of the crate.
-pub mod Gathering
 pub mod Steps
 pub mod InPieces

@@ -81,6 +81,9 @@ module _ (tape : List ℕ) (place : ℕ) where
             go Settings e = refl
             go Unknown e = refl
 
+-- what is seen at a place, case by case
+pub ruleset glimpses = (sort_beyond, sort_end, sort_unknown, sort_cut, sort_quote, sort_stamp, sort_stray, stamp_body)
+
 -- ---- what a tape has next
 
 module _ (tape : List ℕ) (place last : ℕ) {s : Sort} (seen : s ≡ sort_of (read_at tape place)) where
@@ -94,3 +97,6 @@ module _ (tape : List ℕ) (place last : ℕ) {s : Sort} (seen : s ≡ sort_of (
   pub next_other : {t : Sort} {x : Ahead} → s ≡ t → x ≡ ahead_by tape last t → x ≡ next tape place last
   unfolding next
   next_other e a = a ∙ rw (← e, seen)
+
+-- what a tape has next, case by case
+pub ruleset nexts = (next_stamp, next_other)

@@ -76,27 +76,27 @@ module _ (tape : List ℕ) (place : ℕ) where
     where
       by_kind : (b : Bool) {x n : ℕ} → cond b (stamp x n) stray ≡ stamp ms behind → (b ≡ true) × (x ≡ ms) × (n ≡ behind)
       by_kind true e = (refl, cc, cc)
-      by_kind false e = absurd (let z : ◌≡◌ {A = ℕ} 0 1 = cc in omega arith)
+      by_kind false e = cc
 
       by_shape : (shape : Shape) {next : ℕ} → sort_by (message shape) next ≡ stamp ms behind
           → (kind ≡ stamp_kind) × (message shape ≡ Position stamp_kind ms) × (next ≡ behind)
-      by_shape Shape.Columns e = absurd (let z : ◌≡◌ {A = ℕ} 0 1 = cc in omega arith)
-      by_shape Shape.Size e = absurd (let z : ◌≡◌ {A = ℕ} 0 1 = cc in omega arith)
-      by_shape Shape.SizePosition e = absurd (let z : ◌≡◌ {A = ℕ} 0 1 = cc in omega arith)
-      by_shape Shape.SizePair e = absurd (let z : ◌≡◌ {A = ℕ} 0 1 = cc in omega arith)
-      by_shape Shape.Bare e = absurd (let z : ◌≡◌ {A = ℕ} 0 1 = cc in omega arith)
+      by_shape Shape.Columns e = cc
+      by_shape Shape.Size e = cc
+      by_shape Shape.SizePosition e = cc
+      by_shape Shape.SizePair e = cc
+      by_shape Shape.Bare e = cc
       by_shape Shape.Position e =
           let r = by_kind (eqb kind stamp_kind) e in
           let k : kind ≡ stamp_kind = eqb-true kind stamp_kind r.0 in
           (k, rw (k, r.1), r.2)
-      by_shape Shape.Settings e = absurd (let z : ◌≡◌ {A = ℕ} 0 1 = cc in omega arith)
-      by_shape Shape.Unknown e = absurd (let z : ◌≡◌ {A = ℕ} 0 1 = cc in omega arith)
+      by_shape Shape.Settings e = cc
+      by_shape Shape.Unknown e = cc
 
       go : (read : Reading) → Found tape place read → read_at tape place ≡ read → sort_of read ≡ stamp ms behind → Stamped tape place ms behind
-      go _ (beyond t) e s = absurd (let z : ◌≡◌ {A = ℕ} 0 1 = cc in omega arith)
-      go _ (at_end_lem t) e s = absurd (let z : ◌≡◌ {A = ℕ} 0 1 = cc in omega arith)
-      go _ unknown e s = absurd (let z : ◌≡◌ {A = ℕ} 0 1 = cc in omega arith)
-      go _ cut e s = absurd (let z : ◌≡◌ {A = ℕ} 0 1 = cc in omega arith)
+      go _ (beyond t) e s = cc
+      go _ (at_end_lem t) e s = cc
+      go _ unknown e s = cc
+      go _ cut e s = cc
       go _ (whole k t) e s =
           let r = by_shape (shape_of kind) s in
           let five : body_length kind ≡ 4 = ap body_length r.0 ∙ stamp_body in
@@ -113,24 +113,24 @@ module _ (tape : List ℕ) (place : ℕ) where
   quoted {behind} h = go (read_at tape place) (found tape place) refl h
     where
       by_kind : (b : Bool) (x n : ℕ) → cond b (stamp x n) stray ≡ quote behind → ⊥
-      by_kind true x n e = let z : ◌≡◌ {A = ℕ} 0 1 = cc in omega arith
-      by_kind false x n e = let z : ◌≡◌ {A = ℕ} 0 1 = cc in omega arith
+      by_kind true x n e = cc
+      by_kind false x n e = cc
 
       by_shape : (shape : Shape) {next : ℕ} → sort_by (message shape) next ≡ quote behind → (shape ≡ Shape.Columns) × (next ≡ behind)
       by_shape Shape.Columns e = (refl, cc)
-      by_shape Shape.Size e = absurd (let z : ◌≡◌ {A = ℕ} 0 1 = cc in omega arith)
-      by_shape Shape.SizePosition e = absurd (let z : ◌≡◌ {A = ℕ} 0 1 = cc in omega arith)
-      by_shape Shape.SizePair e = absurd (let z : ◌≡◌ {A = ℕ} 0 1 = cc in omega arith)
-      by_shape Shape.Bare e = absurd (let z : ◌≡◌ {A = ℕ} 0 1 = cc in omega arith)
+      by_shape Shape.Size e = cc
+      by_shape Shape.SizePosition e = cc
+      by_shape Shape.SizePair e = cc
+      by_shape Shape.Bare e = cc
       by_shape Shape.Position {next} e = absurd (by_kind (eqb kind stamp_kind) (number4 tape (place + 1)) next e)
-      by_shape Shape.Settings e = absurd (let z : ◌≡◌ {A = ℕ} 0 1 = cc in omega arith)
-      by_shape Shape.Unknown e = absurd (let z : ◌≡◌ {A = ℕ} 0 1 = cc in omega arith)
+      by_shape Shape.Settings e = cc
+      by_shape Shape.Unknown e = cc
 
       go : (read : Reading) → Found tape place read → read_at tape place ≡ read → sort_of read ≡ quote behind → Quoted tape place behind
-      go _ (beyond t) e s = absurd (let z : ◌≡◌ {A = ℕ} 0 1 = cc in omega arith)
-      go _ (at_end_lem t) e s = absurd (let z : ◌≡◌ {A = ℕ} 0 1 = cc in omega arith)
-      go _ unknown e s = absurd (let z : ◌≡◌ {A = ℕ} 0 1 = cc in omega arith)
-      go _ cut e s = absurd (let z : ◌≡◌ {A = ℕ} 0 1 = cc in omega arith)
+      go _ (beyond t) e s = cc
+      go _ (at_end_lem t) e s = cc
+      go _ unknown e s = cc
+      go _ cut e s = cc
       go _ (whole k t) e s =
           let r = by_shape (shape_of kind) s in
           let b = quote_kinds kind r.0 in
@@ -152,10 +152,10 @@ module _ (tape : List ℕ) (place : ℕ) where
   end_seen h = go (read_at tape place) (found tape place) h
     where
       go : (read : Reading) → Found tape place read → sort_of read ≡ at_end → place ≡ length tape
-      go _ (beyond t) e = absurd (let z : ◌≡◌ {A = ℕ} 0 1 = cc in omega arith)
+      go _ (beyond t) e = cc
       go _ (at_end_lem t) e = t
-      go _ unknown e = absurd (let z : ◌≡◌ {A = ℕ} 0 1 = cc in omega arith)
-      go _ cut e = absurd (let z : ◌≡◌ {A = ℕ} 0 1 = cc in omega arith)
+      go _ unknown e = cc
+      go _ cut e = cc
       go _ (whole k t) e = absurd (clash false (rw e at (told_frame (message_at tape (place + 1) (get_or tape place 0)) (place + 1 + body_length (get_or tape place 0)))) refl)
 
   -- what cannot be read is 1 or 2
@@ -168,7 +168,7 @@ module _ (tape : List ℕ) (place : ℕ) where
 
       go : (read : Reading) → Found tape place read → sort_of read ≡ unread k → (1 ≤ k) × (k ≤ 2)
       go _ (beyond t) e = of 2 e (omega arith) (omega arith)
-      go _ (at_end_lem t) e = absurd (let z : ◌≡◌ {A = ℕ} 0 1 = cc in omega arith)
+      go _ (at_end_lem t) e = cc
       go _ unknown e = of 1 e (omega arith) (omega arith)
       go _ cut e = of 2 e (omega arith) (omega arith)
       go _ (whole x t) e = absurd (clash false (rw e at (told_frame (message_at tape (place + 1) (get_or tape place 0)) (place + 1 + body_length (get_or tape place 0)))) refl)
@@ -188,11 +188,11 @@ unfolding next ahead_by after_stamp alone
 is_pair tape place last {ms} {behind} h = go (sort_of (read_at tape place)) refl h
   where
     lone : (b : Bool) → cond b (refuses 15) (refuses 16) ≡ pair ms behind → ⊥
-    lone true e = let z : ◌≡◌ {A = ℕ} 0 1 = cc in omega arith
-    lone false e = let z : ◌≡◌ {A = ℕ} 0 1 = cc in omega arith
+    lone true e = cc
+    lone false e = cc
 
     in_order : (b : Bool) {x n : ℕ} → cond b (refuses 15) (pair x n) ≡ pair ms behind → (b ≡ false) × (x ≡ ms) × (n ≡ behind)
-    in_order true e = absurd (let z : ◌≡◌ {A = ℕ} 0 1 = cc in omega arith)
+    in_order true e = cc
     in_order false e = (refl, cc, cc)
 
     after : {x middle : ℕ} → Stamped tape place x middle → (s : Sort) → sort_of (read_at tape middle) ≡ s → after_stamp last x s ≡ pair ms behind
@@ -206,16 +206,16 @@ is_pair tape place last {ms} {behind} h = go (sort_of (read_at tape place)) refl
           ordered = rw r.1 at r.0;
         }
     after {x} st (stamp y n) q e = absurd (lone (out_of_order last x) e)
-    after st stray q e = absurd (let z : ◌≡◌ {A = ℕ} 0 1 = cc in omega arith)
+    after st stray q e = cc
     after {x} st at_end q e = absurd (lone (out_of_order last x) e)
-    after st (unread k) q e = absurd (let z : ◌≡◌ {A = ℕ} 0 1 = cc in omega arith)
+    after st (unread k) q e = cc
 
     go : (s : Sort) → sort_of (read_at tape place) ≡ s → ahead_by tape last s ≡ pair ms behind → IsPair tape place last ms behind
-    go (quote n) q e = absurd (let z : ◌≡◌ {A = ℕ} 0 1 = cc in omega arith)
+    go (quote n) q e = cc
     go (stamp x middle) q e = after (stamped tape place q) (sort_of (read_at tape middle)) refl e
-    go stray q e = absurd (let z : ◌≡◌ {A = ℕ} 0 1 = cc in omega arith)
-    go at_end q e = absurd (let z : ◌≡◌ {A = ℕ} 0 1 = cc in omega arith)
-    go (unread k) q e = absurd (let z : ◌≡◌ {A = ℕ} 0 1 = cc in omega arith)
+    go stray q e = cc
+    go at_end q e = cc
+    go (unread k) q e = cc
 
 -- a pair has at least ten bytes, at most thirty, and lies within the tape
 pub pair_size : {tape : List ℕ} {place last ms behind : ℕ} → IsPair tape place last ms behind
@@ -233,26 +233,26 @@ unfolding next ahead_by after_stamp alone
 done_at_end tape place last h = go (sort_of (read_at tape place)) refl h
   where
     lone : (b : Bool) → cond b (refuses 15) (refuses 16) ≡ done → ⊥
-    lone true e = let z : ◌≡◌ {A = ℕ} 0 1 = cc in omega arith
-    lone false e = let z : ◌≡◌ {A = ℕ} 0 1 = cc in omega arith
+    lone true e = cc
+    lone false e = cc
 
     two : (b : Bool) (x n : ℕ) → cond b (refuses 15) (pair x n) ≡ done → ⊥
-    two true x n e = let z : ◌≡◌ {A = ℕ} 0 1 = cc in omega arith
-    two false x n e = let z : ◌≡◌ {A = ℕ} 0 1 = cc in omega arith
+    two true x n e = cc
+    two false x n e = cc
 
     after : (x : ℕ) (s : Sort) → after_stamp last x s ≡ done → ⊥
     after x (quote n) e = two (out_of_order last x) x n e
     after x (stamp y n) e = lone (out_of_order last x) e
-    after x stray e = let z : ◌≡◌ {A = ℕ} 0 1 = cc in omega arith
+    after x stray e = cc
     after x at_end e = lone (out_of_order last x) e
-    after x (unread k) e = let z : ◌≡◌ {A = ℕ} 0 1 = cc in omega arith
+    after x (unread k) e = cc
 
     go : (s : Sort) → sort_of (read_at tape place) ≡ s → ahead_by tape last s ≡ done → place ≡ length tape
-    go (quote n) q e = absurd (let z : ◌≡◌ {A = ℕ} 0 1 = cc in omega arith)
+    go (quote n) q e = cc
     go (stamp x middle) q e = absurd (after x (sort_of (read_at tape middle)) e)
-    go stray q e = absurd (let z : ◌≡◌ {A = ℕ} 0 1 = cc in omega arith)
+    go stray q e = cc
     go at_end q e = end_seen tape place q
-    go (unread k) q e = absurd (let z : ◌≡◌ {A = ℕ} 0 1 = cc in omega arith)
+    go (unread k) q e = cc
 
 -- each refusal has a number from 1 to 16
 pub refusal_range : (tape : List ℕ) (place last : ℕ) {k : ℕ} → next tape place last ≡ refuses k → (1 ≤ k) × (k ≤ 16)
@@ -268,7 +268,7 @@ refusal_range tape place last {k} h = go (sort_of (read_at tape place)) refl h
 
     two : (b : Bool) (x n : ℕ) → cond b (refuses 15) (pair x n) ≡ refuses k → (1 ≤ k) × (k ≤ 16)
     two true x n e = of 15 e (omega arith) (omega arith)
-    two false x n e = absurd (let z : ◌≡◌ {A = ℕ} 0 1 = cc in omega arith)
+    two false x n e = cc
 
     unreadable : (at n : ℕ) → sort_of (read_at tape at) ≡ unread n → refuses n ≡ refuses k → (1 ≤ k) × (k ≤ 16)
     unreadable at n q e = let r = unread_range tape at q in of n e r.0 (omega (arith, r.1))
@@ -284,5 +284,5 @@ refusal_range tape place last {k} h = go (sort_of (read_at tape place)) refl h
     go (quote n) q e = of 16 e (omega arith) (omega arith)
     go (stamp x middle) q e = after x middle (sort_of (read_at tape middle)) refl e
     go stray q e = of 7 e (omega arith) (omega arith)
-    go at_end q e = absurd (let z : ◌≡◌ {A = ℕ} 0 1 = cc in omega arith)
+    go at_end q e = cc
     go (unread n) q e = unreadable place n q e

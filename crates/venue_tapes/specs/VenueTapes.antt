@@ -1,13 +1,13 @@
 -- A venue's tape: what stands at a place of it, and what it has next: a stamped quote, its end, or a refusal by 02's numbers.
-use Rattle.std.specs.Prelude.{ℕ, ◌+◌, Bool, ◌||◌, cond, List, ltb, eqb}
+use Rattle.std.specs.Prelude.{ℕ, ◌+◌, Bool, ◌||◌, cond, List, ltb, eqb, Option, Some, None, Result, Ok, Err}
+use Rattle.refusals.specs.declared.Refusal.{Refusal}
 use Rattle.refusals.specs.declared.Refusal.TheVariants.{OutOfPlace, StampOrder, Unmatched}
 use Rattle.refusals.specs.Refusals.{number}
 use Rattle.frame_kinds.specs.Kinds.{stamp_kind}
 use Rattle.frames.specs.declared.Message.{Message}
 use Rattle.frames.specs.Frames.{Saying, told, ended, refused, Reading, read_at}
 use Rattle.venue_tapes.specs.declared.Glimpse.{Glimpse}
-use Rattle.venue_tapes.specs.declared.Next.{Next}
-use Rattle.venue_tapes.specs.declared.Next.TheVariants as Found
+use Rattle.venue_tapes.specs.declared.Pair.{Pair}
 
 -- ---- what stands at a place
 
@@ -42,12 +42,12 @@ unfoldable pub sort_of : Reading → Sort
 sort_of read = sort_said read.says read.next
 
 -- what a glimpse shows, by 01's numbers
-unfoldable pub glimpsed : Glimpse → Sort
-glimpsed (Glimpse.Quote behind) = quote behind
-glimpsed (Glimpse.Stamp ms behind) = stamp ms behind
-glimpsed Glimpse.Stray = stray
-glimpsed Glimpse.EndOfTape = at_end
-glimpsed (Glimpse.Refused k) = unread (number k)
+unfoldable pub glimpsed : Result Glimpse Refusal → Sort
+glimpsed (Ok (Glimpse.Quote behind)) = quote behind
+glimpsed (Ok (Glimpse.Stamp ms behind)) = stamp ms behind
+glimpsed (Ok Glimpse.Stray) = stray
+glimpsed (Ok Glimpse.EndOfTape) = at_end
+glimpsed (Err k) = unread (number k)
 
 -- ---- what a tape has next
 
@@ -91,10 +91,10 @@ unfoldable pub next : List ℕ → ℕ → ℕ → Ahead
 next tape place last = ahead_by tape last (sort_of (read_at tape place))
 
 -- what was found next, by 02's numbers
-unfoldable pub ahead : Next → Ahead
-ahead (Found.Pair ms behind) = pair ms behind
-ahead Found.Done = done
-ahead (Found.Refused k) = refuses (number k)
+unfoldable pub ahead : Result (Option Pair) Refusal → Ahead
+ahead (Ok (Some p)) = pair p.stamp p.next
+ahead (Ok None) = done
+ahead (Err k) = refuses (number k)
 
 -- the same, with so many more bytes before it
 unfoldable pub further : ℕ → Ahead → Ahead

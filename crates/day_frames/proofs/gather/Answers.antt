@@ -10,10 +10,7 @@ pub step-gathered-requires : goal.step-gathered-requires
 step-gathered-requires c = omega (arith, few_quotes _ _ _ c.loop-i.invariant, c.loop-i-test.true)
 
 pub loop-i-preserved : goal.loop-i-preserved
-loop-i-preserved c = gathering_more _ _ _ c.loop-i.invariant c.loop-i-test.true c.step-gathered.auto.cells c.step-gathered.ensures
-
-pub shape_of-cells : goal.shape_of-cells
-shape_of-cells c = c.loop-i.invariant.long
+loop-i-preserved c = gathering_more _ _ _ c.loop-i.invariant (omega arith) c.step-gathered.auto.cells c.step-gathered.ensures
 
 pub returns : goal.returns
 returns c = gathering_end _ _ _ c.loop-i.invariant (omega arith)

@@ -1,12 +1,13 @@
 -- `best_place` meets its contract.
-use borrow.Author.Rules.{rules}
-use Rattle.drill_call.proofs.Placing.{place_empty, found_place}
+use native.Mathlib.Omega.{arith}
+use Rattle.drill_call.proofs.Placing.{found_place, place_most, place_below}
 use Rattle.drill_call.proofs.best_place.Goals as goal
 
-pub returns-then-first-eq0 : goal.returns-then-first-eq0
-returns-then-first-eq0 c = place_empty c.args.rules c.args.first c.args.second c.requires c.if-first-eq0.true
+pub returns-clause-place : goal.returns-clause-place
+returns-clause-place c = found_place c.args.rules c.args.first c.args.second c.requires c.joined-quotes.ensures _ c.start.ensures c.first_turn.ensures
 
-pub returns : goal.returns
-returns c =
-    found_place c.args.rules c.args.first c.args.second c.requires c.joined-quotes.ensures
-    _ c.start-play.ensures c.first_turn.ensures
+pub returns-clause-within : goal.returns-clause-within
+returns-clause-within c =
+    let e = found_place c.args.rules c.args.first c.args.second c.requires c.joined-quotes.ensures _ c.start.ensures c.first_turn.ensures in
+    let firsts = c.requires.firsts in
+    place_below c.first_turn.result (omega (arith, e, place_most c.args.rules c.args.first c.args.second c.requires))

@@ -1,38 +1,22 @@
 -- `drill` meets its contract.
-use borrow.Author.Rules.{rules}
-use native.Mathlib.Omega.{arith}
-use Rattle.refusals.proofs.Numbers.{accepted_number}
+use mathlib.Core.Path.{◌≡◌, sym}
+use Prim.Native.Nat.{◌+◌}
+use Rattle.std.proofs.Common.{rules}
+use Rattle.std.specs.Prelude.{Err}
+use Rattle.std.specs.Option.{option_map}
 use Rattle.drill_call.proofs.Judging.{accepted_small}
-use Rattle.drill_call.proofs.Placing.{place_most}
-use Rattle.drill_call.proofs.Answers.{refused_says, no_says, yes_says}
+use Rattle.drill_call.proofs.Answers.{refused_says, place_says}
 use Rattle.drill_call.proofs.drill.Goals as goal
 
+pub returns-in_err-judge : goal.returns-in_err-judge
+returns-in_err-judge c =
+    let e : c.from_residual.result ≡ Err c.in_err-judge.field-0.0 = search rules in
+    rw e (refused_says c.args.rules c.args.first c.args.second c.in_err-judge.field-0.0 c.in_err-judge.ensures)
+
 pub best_place-place-requires : goal.best_place-place-requires
-best_place-place-requires c =
-    accepted_small c.args.rules c.args.first c.args.second
-    (accepted_number _ c.judge-answer.ensures c.in-Accepted.is)
+best_place-place-requires c = accepted_small c.args.rules c.args.first c.args.second (sym c.in_ok-judge.ensures)
 
-pub returns-then-place-eq0 : goal.returns-then-place-eq0
-returns-then-place-eq0 c =
-    no_says c.args.rules c.args.first c.args.second c.judge-answer.ensures c.in-Accepted.is
-    c.best_place-place.ensures c.if-place-eq0.true
-
-pub overflow_cast-result : goal.overflow_cast-result
-overflow_cast-result c =
-    let small = accepted_small c.args.rules c.args.first c.args.second
-    (accepted_number _ c.judge-answer.ensures c.in-Accepted.is)
-    in
-    omega (
-      arith,
-      c.best_place-place.ensures,
-      place_most c.args.rules c.args.first c.args.second small,
-      small.firsts,
-    )
-
-pub returns-in-Refused : goal.returns-in-Refused
-returns-in-Refused c = refused_says c.args.rules c.args.first c.args.second c.judge-answer.ensures c.in-Refused.is
-
-pub returns-else-place-eq0 : goal.returns-else-place-eq0
-returns-else-place-eq0 c =
-    yes_says c.args.rules c.args.first c.args.second c.judge-answer.ensures c.in-Accepted.is
-    c.best_place-place.ensures c.if-place-eq0.false
+pub returns : goal.returns
+returns c =
+    let e : c.map.result ≡ option_map (λ i. i + 1) c.best_place-place.result = search rules in
+    rw e (place_says c.args.rules c.args.first c.args.second c.best_place-place.result c.in_ok-judge.ensures c.best_place-place.ensures.place)

@@ -1,25 +1,17 @@
--- `is_uneven` meets its contract.
-use Prim.Native.Nat.{◌-◌}
+-- `is_uneven` meets its contract: each of the hand's column counts is looked at.
+use mathlib.Core.Path.{◌∙◌}
+use mathlib.Core.Bool.{not}
 use native.Mathlib.Omega.{arith}
-use Rattle.drill_call.specs.Drills.{uneven}
-use Rattle.drill_call.proofs.Judging.{start_look, more_look, end_look}
+use lib.Dec.{eqb}
+use lib.ListN.{take}
+use Rattle.std.proofs.Common.{rules}
+use Rattle.std.proofs.lemmas.Iterator.{YieldsList-from_slice}
+use Rattle.std.proofs.lemmas.Iterator.Search.{any_from_yields_List}
+use Rattle.drill_call.proofs.Judging.{uneven_is}
 use Rattle.drill_call.proofs.is_uneven.Goals as goal
 
-pub loop-i-init : goal.loop-i-init
-loop-i-init c = start_look _ _ _ (omega arith)
-
-pub offset_bounds-columns-i : goal.offset_bounds-columns-i
-offset_bounds-columns-i c = omega (arith, c.loop-i.invariant.room)
-
-pub bounds-columns-i : goal.bounds-columns-i
-bounds-columns-i c = omega (arith, c.loop-i.invariant.room)
-
-pub overflow_add-i : goal.overflow_add-i
-overflow_add-i c = omega (arith, c.loop-i.invariant.room)
-
-pub loop-i-preserved : goal.loop-i-preserved
-loop-i-preserved c = more_look _ _ _ _ _ c.loop-i.invariant c.loop-i-test.true
-
 pub returns : goal.returns
-unfolding uneven
-returns c = end_look _ _ _ _ _ c.loop-i.invariant c.loop-i-test.false
+returns c =
+    any_from_yields_List (λ x. not (eqb x c.args.dimensions)) _ _ _ c.any.ensures.ran
+    (YieldsList-from_slice (take c.args.hand.count c.args.hand.columns) cc) (λ x b q k. search rules)
+    ∙ uneven_is c.args.dimensions c.args.hand (omega arith)

@@ -1,17 +1,21 @@
 -- `drill_files` meets its contract.
+use mathlib.Core.Path.{◌≡◌}
+use Rattle.std.proofs.Common.{rules}
+use Rattle.std.specs.Prelude.{Err}
 use Rattle.drill_hands.proofs.Lines.{first_refused, second_refused, both_taken}
 use Rattle.drill_hands.proofs.drill_files.Goals as goal
 
-pub returns-in-Refused : goal.returns-in-Refused
-returns-in-Refused c = first_refused _ _ _ c.read_hand-one.result c.read_hand-one.ensures _ c.in-Refused.is
+pub returns-in_err-mine : goal.returns-in_err-mine
+returns-in_err-mine c =
+    let e : c.from_residual.result ≡ Err c.in_err-mine.field-0.0.refusal = search rules in
+    rw e (first_refused c.args.rules c.args.first.now c.args.second.now c.in_err-mine.field-0.0 c.in_err-mine.ensures)
 
-pub returns-in-Refused-answer : goal.returns-in-Refused-answer
-returns-in-Refused-answer c =
-    second_refused _ _ _ c.read_hand-one.result c.read_hand-one.ensures c.in_default.is
-    c.read_hand-two.result c.read_hand-two.ensures _ c.in-Refused-answer.is
+pub returns-in_err-theirs : goal.returns-in_err-theirs
+returns-in_err-theirs c =
+    let e : c.from_residual-in_err-theirs.result ≡ Err c.in_err-theirs.field-0.0.refusal = search rules in
+    rw e (second_refused c.args.rules c.args.first.now c.args.second.now c.in_ok-mine.mine c.in_ok-mine.ensures c.in_err-theirs.field-0.0 c.in_err-theirs.ensures)
 
 pub returns : goal.returns
 returns c =
-    both_taken _ _ _ c.read_hand-one.result c.read_hand-one.ensures c.in_default.is
-    c.read_hand-two.result
-    c.read_hand-two.ensures c.in_default-answer.is c.drill.ensures
+    both_taken c.args.rules c.args.first.now c.args.second.now c.in_ok-mine.mine c.in_ok-mine.ensures
+    c.in_ok-theirs.theirs c.in_ok-theirs.ensures c.drill.ensures

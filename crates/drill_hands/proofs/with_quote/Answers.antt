@@ -6,4 +6,4 @@ pub returns-then-held-ge4 : goal.returns-then-held-ge4
 returns-then-held-ge4 c = fifth_quote c.args.hand _ _ c.if-held-ge4.true
 
 pub returns : goal.returns
-returns c = held_quote c.args.hand _ _ c.if-held-ge4.false c.entered-cells.ensures
+returns c = held_quote c.args.hand _ _ c.if-held-ge4.false c.entered.ensures

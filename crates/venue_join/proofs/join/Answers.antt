@@ -1,34 +1,23 @@
 -- `join` meets its contract: the part is what the chosen tape was moved past.
-use native.Mathlib.Omega.{arith}
-use Rattle.venue_join.proofs.Joins.{first_bounds, second_bounds, by_first, by_second, by_end, by_refusal}
+use Rattle.venue_join.proofs.Joins.{first_bounds, second_bounds, handed_first, handed_second, handed_none, handed_refusal}
+use Rattle.std.proofs.Common.{rules}
 use Rattle.venue_join.proofs.join.Goals as goal
 
-pub slice_bounds-result-count : goal.slice_bounds-result-count
-slice_bounds-result-count c = omega (arith, first_bounds _ _ _ _ c.join_at-step.result c.join_at-step.ensures c.number.ensures c.in-First.is)
+pub returns-in_err-behind : goal.returns-in_err-behind
+returns-in_err-behind c = handed_refusal _ _ _ _ c.join_at.ensures c.in_err-behind.was (search rules)
 
-pub slice_bounds-result-start : goal.slice_bounds-result-start
-slice_bounds-result-start c = omega (arith, first_bounds _ _ _ _ c.join_at-step.result c.join_at-step.ensures c.number.ensures c.in-First.is)
+pub pass-requires : goal.pass-requires
+pass-requires c = first_bounds _ _ _ _ c.join_at.ensures c.in_ok-behind.was c.in-Some-First.is c.in-Some-First.field-0-is
 
-pub slice_bounds-result-end : goal.slice_bounds-result-end
-slice_bounds-result-end c = omega (arith, first_bounds _ _ _ _ c.join_at-step.result c.join_at-step.ensures c.number.ensures c.in-First.is)
+pub pass-requires-in-Some-Second : goal.pass-requires-in-Some-Second
+pass-requires-in-Some-Second c = second_bounds _ _ _ _ c.join_at.ensures c.in_ok-behind.was c.in-Some-Second.is c.in-Some-Second.field-0-is
 
-pub returns-in-First : goal.returns-in-First
-returns-in-First c = by_first _ _ _ _ c.join_at-step.result c.join_at-step.ensures c.number.ensures c.in-First.is
+pub returns-in-Some-First : goal.returns-in-Some-First
+returns-in-Some-First c = handed_first _ _ _ _ c.join_at.ensures c.in_ok-behind.was c.in-Some-First.is c.in-Some-First.field-0-is c.pass.ensures.part c.pass.ensures.moved
 
-pub slice_bounds-result-count-in-Second : goal.slice_bounds-result-count-in-Second
-slice_bounds-result-count-in-Second c = omega (arith, second_bounds _ _ _ _ c.join_at-step.result c.join_at-step.ensures c.number.ensures c.in-Second.is)
+pub returns-in-Some-Second : goal.returns-in-Some-Second
+returns-in-Some-Second c =
+    handed_second _ _ _ _ c.join_at.ensures c.in_ok-behind.was c.in-Some-Second.is c.in-Some-Second.field-0-is c.pass-in-Some-Second.ensures.part c.pass-in-Some-Second.ensures.moved
 
-pub slice_bounds-result-start-in-Second : goal.slice_bounds-result-start-in-Second
-slice_bounds-result-start-in-Second c = omega (arith, second_bounds _ _ _ _ c.join_at-step.result c.join_at-step.ensures c.number.ensures c.in-Second.is)
-
-pub slice_bounds-result-end-in-Second : goal.slice_bounds-result-end-in-Second
-slice_bounds-result-end-in-Second c = omega (arith, second_bounds _ _ _ _ c.join_at-step.result c.join_at-step.ensures c.number.ensures c.in-Second.is)
-
-pub returns-in-Second : goal.returns-in-Second
-returns-in-Second c = by_second _ _ _ _ c.join_at-step.result c.join_at-step.ensures c.number.ensures c.in-Second.is
-
-pub returns-in-End : goal.returns-in-End
-returns-in-End c = by_end _ _ _ _ c.join_at-step.result c.join_at-step.ensures c.number.ensures c.in-End.is
-
-pub returns-in-Refused : goal.returns-in-Refused
-returns-in-Refused c = by_refusal _ _ _ _ c.join_at-step.result c.join_at-step.ensures c.number.ensures _ c.in-Refused.is
+pub returns-in-None : goal.returns-in-None
+returns-in-None c = handed_none _ _ _ _ c.join_at.ensures c.in_ok-behind.was c.in-None.is

@@ -3,23 +3,23 @@ use mathlib.Core.Path.{sym, ◌∙◌}
 use Rattle.venue_pieces.proofs.Steps.{goes_room, step_less, piece_start, piece_more, piece_all}
 use Rattle.venue_pieces.proofs.join_piece.Goals as goal
 
-pub loop-out-init : goal.loop-out-init
-loop-out-init c = piece_start _ _ _ _ _ _ _ c.requires
+pub pairs-init : goal.pairs-init
+pairs-init c = piece_start _ _ _ _ _ _ _ c.requires
 
 pub goes_on-requires : goal.goes_on-requires
-goes_on-requires c = c.loop-out.invariant.within
+goes_on-requires c = c.pairs.invariant.within
 
-pub join_one-now-requires : goal.join_one-now-requires
-join_one-now-requires c = (goes_room _ _ _ _ _ _ (sym c.goes_on.ensures ∙ c.loop-out-test.true)).1
+pub join_one-requires : goal.join_one-requires
+join_one-requires c = (goes_room _ _ _ _ _ _ (sym c.goes_on.ensures ∙ c.pairs-test.true)).1
 
-pub loop-out-smaller : goal.loop-out-smaller
-loop-out-smaller c = step_less _ _ _ c.join_one-now.ensures (goes_room _ _ _ _ _ _ (sym c.goes_on.ensures ∙ c.loop-out-test.true)).0
+pub pairs-smaller : goal.pairs-smaller
+pairs-smaller c = step_less _ _ _ c.join_one.ensures (goes_room _ _ _ _ _ _ (sym c.goes_on.ensures ∙ c.pairs-test.true)).0
 
-pub loop-out-preserved : goal.loop-out-preserved
-loop-out-preserved c = piece_more _ _ _ _ _ c.loop-out.invariant (sym c.goes_on.ensures ∙ c.loop-out-test.true) c.join_one-now.ensures c.join_one-now.auto.out
+pub pairs-preserved : goal.pairs-preserved
+pairs-preserved c = piece_more _ _ _ _ _ c.pairs.invariant (sym c.goes_on.ensures ∙ c.pairs-test.true) c.join_one.ensures c.join_one.auto.out
 
 pub shape_of-out : goal.shape_of-out
-shape_of-out c = c.loop-out.invariant.long
+shape_of-out c = c.pairs.invariant.long
 
 pub returns : goal.returns
-returns c = piece_all _ _ _ _ _ c.loop-out.invariant (sym c.goes_on.ensures ∙ c.loop-out-test.false)
+returns c = piece_all _ _ _ _ _ c.pairs.invariant (sym c.goes_on.ensures ∙ c.pairs-test.false)

@@ -2,8 +2,8 @@
 use Rattle.venue_pieces.proofs.Steps.{left, Piece}
 use Rattle.venue_pieces.proofs.join_piece.Given as goal
 
-abbrev pub invariant-loop-out : goal.invariant-loop-out
-invariant-loop-out l = Piece l.first l.second l.first_ended l.second_ended l.quotes l.initial.now l.initial.out l.now l.out
+abbrev pub invariant-pairs : goal.invariant-pairs
+invariant-pairs l = Piece l.first.tape.now l.second.tape.now l.first.ended l.second.ended l.written l.initial.joiner l.initial.out l.joiner l.out
 
-abbrev pub decreases-loop-out : goal.decreases-loop-out
-decreases-loop-out l = left l.first l.second l.quotes l.now
+abbrev pub decreases-pairs : goal.decreases-pairs
+decreases-pairs l = left l.first.tape.now l.second.tape.now l.written l.joiner

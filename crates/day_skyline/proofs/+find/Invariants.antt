@@ -1,6 +1,0 @@
--- `find` ends, since each half has fewer cells.
-use Rattle.std.proofs.Common.{length}
-use Rattle.day_skyline.proofs.+find.Given as goal
-
-abbrev pub decreases-find : goal.decreases-find
-decreases-find l = length l.cells.now
