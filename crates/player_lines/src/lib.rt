@@ -2,59 +2,93 @@
 // its input, in which they are found (src/input.rt).
 #![tactic(auto)]
 
+ghost use Rattle.std.specs.Prelude.{◌≤◌, length};
+
 mod input;
 mod words;
 
 use head::Desk;
-pub use input::{Cursor, next_line};
-pub use words::{front, quoted, quoted_behind, read_line};
+pub use input::Input;
+pub use words::read_line;
 
-// What a line asks for; of a watch and its end, whose it is. No line has come, or it is one that the player cannot take.
+// The most numbers of a line.
+const NUMBERS: usize = 12;
+
+// The numbers of a line. An array with a count: there is no heap, and no line has more.
+#[derive(Clone, Copy)]
+pub struct Numbers {
+    cells: [u32; NUMBERS],
+    count: usize,
+    ghost within: { count ≤ 12 },
+}
+
+// What a line names: a table, the output, the cells for the look behind a quote in one, the n of the records or their desks.
+#[derive(Clone, Copy)]
+pub enum Name {
+    Columns,
+    Positions,
+    LowerEnds,
+    UpperEnds,
+    Out,
+    Cells,
+    Watches,
+    Desks,
+}
+
+// What a line asks for, with its numbers; of a watch and its end, whose it is. Or the line is one that the player cannot take.
 #[derive(Clone, Copy)]
 pub enum Command {
-    None,
     Unread,
-    Open,
-    Quote,
-    Both,
-    Preview,
-    Look,
-    Past,
-    Watch(Desk),
-    End(Desk),
-    Pair,
+    Open([u32; 3]),
+    Quote(Numbers),
+    Both(u32, Numbers),
+    Preview(Numbers),
+    Look(u32),
+    Past(u32, u32),
+    Watch(Desk, u32),
+    End(Desk, u32),
+    Pair(u32, u32),
     Unpair,
     Due,
     Audit,
-    Lend,
-    Cell,
-    Head,
+    Lend(Name, usize),
+    Cell(Name, usize, u32),
+    Head([u32; 8]),
     Show,
 }
 
-// What a line names, by number: a table, the output, the cells for the look behind a quote in one, the n of the records or their desks; 0 where
-// it names none.
-pub const COLUMNS: u64 = 1;
+impl Numbers {
+    // No numbers.
+    fn none() -> Numbers {
+        Numbers {
+            cells: [0; NUMBERS],
+            count: 0,
+        }
+    }
 
-pub const POSITIONS: u64 = 2;
+    // Puts a number behind the others; none where there are twelve.
+    fn push(&mut self, n: u32) -> Option<()> {
+        if self.count == NUMBERS {
+            return None;
+        }
+        self.cells[self.count] = n;
+        self.count += 1;
+        Some(())
+    }
 
-pub const LOWER: u64 = 3;
+    // As many numbers as a line can have, of a list.
+    fn of(numbers: &[u32]) -> Option<Numbers> {
+        let mut all = Numbers::none();
+        for n in numbers {
+            all.push(*n)?;
+        }
+        Some(all)
+    }
 
-pub const UPPER: u64 = 4;
-
-pub const OUT: u64 = 5;
-
-pub const CELLS: u64 = 6;
-
-pub const WATCHES: u64 = 7;
-
-pub const DESKS: u64 = 8;
-
-// A line as it was read: its numbers with zeros behind them, and how many there are.
-#[derive(Clone, Copy)]
-pub struct Line {
-    pub command: Command,
-    pub name: u64,
-    pub numbers: [u32; 12],
-    pub count: usize,
+    // The numbers as a list.
+    pub fn as_slice(&self) -> &[u32]
+        ensures { length result.now ≤ 12 }
+    {
+        &self.cells[..self.count]
+    }
 }

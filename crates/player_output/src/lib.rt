@@ -1,144 +1,94 @@
 // The output of the book player: lines of numbers, gathered and written out in large pieces.
 #![tactic(auto)]
 
+ghost use Rattle.std.specs.Prelude.{◌≡◌, ◌+◌, ◌≤◌};
+
 use std::io::Write;
+use std::mem;
 use streams::Outlet;
 
-// How many lines of input were seen, how many bytes are gathered, and whether the output has failed.
-#[derive(Clone, Copy)]
-pub struct Print {
-    pub lines: u32,
+// How many bytes are gathered before they are written out.
+const PIECE: usize = 65536;
+
+// The most bytes of a space and a number.
+const FIELD: usize = 11;
+
+// What is gathered for the output, which lies within its piece, and whether the output has failed.
+#[derive(Drop)]
+pub struct Page<W, E> {
+    outlet: Outlet<W, E>,
+    piece: [u8; PIECE],
     pub used: usize,
     pub failed: bool,
+    ghost within: { used ≤ 65536 },
 }
 
-impl Print {
-    // Before the first line of input.
-    pub fn first() -> Print {
-        Print {
-            lines: 0,
+impl<W: Write, E: Write> Page<W, E> {
+    // An empty page.
+    pub fn new(outlet: Outlet<W, E>) -> Page<W, E>
+        ensures { result.used ≡ 0 }
+    {
+        Page {
+            outlet,
+            piece: [0; PIECE],
             used: 0,
             failed: false,
         }
     }
-}
 
-// Writes out what is gathered.
-pub fn flush<W: Write, E: Write>(
-    print: Print,
-    gathered: &[u8],
-    outlet: &mut Outlet<W, E>,
-) -> Print {
-    let mut now = print;
-    let used = print.used;
-    now.used = 0;
-    if used <= gathered.len() {
-        if !streams::put_out(outlet, &gathered[..used], b"book_player: standard output") {
-            now.failed = true;
+    // Writes out what is gathered.
+    pub fn flush(&mut self)
+        ensures { self.new.used ≡ 0 }
+    {
+        let used = mem::take(&mut self.used);
+        if !streams::put_out(
+            &mut self.outlet,
+            &self.piece[..used],
+            b"book_player: standard output",
+        ) {
+            self.failed = true;
         }
     }
-    now
-}
 
-// What is gathered where there is this much room behind it; else it is written out.
-fn with_room<W: Write, E: Write>(
-    print: Print,
-    room: usize,
-    gathered: &[u8],
-    outlet: &mut Outlet<W, E>,
-) -> Print {
-    let used = print.used;
-    if used <= gathered.len() {
-        if room <= gathered.len() - used {
-            return print;
+    // Writes out what is gathered where so many bytes have no room behind it.
+    fn make_room(&mut self, bytes: usize)
+        requires { bytes ≤ 65536 }
+        ensures { self.new.used + bytes ≤ 65536 }
+    {
+        if PIECE - self.used < bytes {
+            self.flush();
         }
     }
-    flush(print, gathered, outlet)
-}
 
-// Prints one byte.
-fn put_byte<W: Write, E: Write>(
-    print: Print,
-    byte: u8,
-    gathered: &mut [u8],
-    outlet: &mut Outlet<W, E>,
-) -> Print {
-    let mut now = with_room(print, 1, gathered, outlet);
-    let used = now.used;
-    if used < gathered.len() {
-        gathered[used] = byte;
-        now.used = used + 1;
+    // Prints a byte.
+    fn put_byte(&mut self, byte: u8) {
+        self.make_room(1);
+        self.piece[self.used] = byte;
+        self.used += 1;
     }
-    now
-}
 
-// Prints a space and a number.
-fn put_field<W: Write, E: Write>(
-    print: Print,
-    n: u32,
-    gathered: &mut [u8],
-    outlet: &mut Outlet<W, E>,
-) -> Print {
-    let mut now = put_byte(print, b' ', gathered, outlet);
-    now = with_room(now, 10, gathered, outlet);
-    let used = now.used;
-    if gathered.len() < used {
-        return now;
+    // Prints a space and a number.
+    #[tactic(auto, using(text::proofs::Digits::at_most_ten))]
+    fn put_field(&mut self, n: u32) {
+        self.make_room(FIELD);
+        self.piece[self.used] = b' ';
+        let count = text::put_number(n, &mut self.piece[self.used + 1..]);
+        self.used += 1 + count;
     }
-    if gathered.len() - used < 10 {
-        return now;
-    }
-    let count = text::put_number(n, &mut gathered[used..]);
-    now.used = used.wrapping_add(count);
-    now
-}
 
-// Prints the first numbers of a list or a table behind a letter.
-pub fn put_numbers<W: Write, E: Write>(
-    print: Print,
-    letter: u8,
-    numbers: &[u32],
-    count: usize,
-    gathered: &mut [u8],
-    outlet: &mut Outlet<W, E>,
-) -> Print {
-    let mut now = put_byte(print, letter, gathered, outlet);
-    for n in numbers.iter().take(count) {
-        now = put_field(now, *n, gathered, outlet);
+    // Prints a line of numbers behind a letter.
+    pub fn put_numbers<T: Copy + Into<u32>>(&mut self, letter: u8, numbers: &[T]) {
+        self.put_byte(letter);
+        for n in numbers {
+            self.put_field((*n).into());
+        }
+        self.put_byte(b'\n');
     }
-    put_byte(now, 10, gathered, outlet)
-}
 
-// A byte as a number of 32 bits.
-fn wide(byte: u8) -> u32 {
-    byte as u32
-}
-
-// Prints the first bytes of an output behind an X.
-pub fn put_bytes<W: Write, E: Write>(
-    print: Print,
-    bytes: &[u8],
-    count: usize,
-    gathered: &mut [u8],
-    outlet: &mut Outlet<W, E>,
-) -> Print {
-    let mut now = put_byte(print, b'X', gathered, outlet);
-    for byte in bytes.iter().take(count) {
-        now = put_field(now, wide(*byte), gathered, outlet);
+    // Prints a few bytes.
+    pub fn put_word(&mut self, word: &[u8]) {
+        for byte in word {
+            self.put_byte(*byte);
+        }
     }
-    put_byte(now, 10, gathered, outlet)
-}
-
-// Prints a few bytes.
-pub fn put_word<W: Write, E: Write>(
-    print: Print,
-    word: &[u8],
-    gathered: &mut [u8],
-    outlet: &mut Outlet<W, E>,
-) -> Print {
-    let mut now = print;
-    for byte in word {
-        now = put_byte(now, *byte, gathered, outlet);
-    }
-    now
 }

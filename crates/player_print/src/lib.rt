@@ -1,41 +1,31 @@
 // What is printed of each line of the book player.
 #![tactic(auto)]
 
-use head::{BothReply, CHANGE_BYTES, COLUMN_CELLS, Effect, Head, PLACES, Reply, Verdict, Watch};
-use player_output::{Print, flush, put_bytes, put_numbers, put_word};
+use head::{BothReply, Effect, Head, Reply};
+use player_output::Page;
 use player_state::{Seen, State};
-use refusals::Answer;
+use refusals::Refusal;
 use std::io::Write;
-use streams::Outlet;
 
 // The number of an answer: 0 where it accepts.
-fn number(answer: Answer) -> u32 {
+fn number(answer: Result<(), Refusal>) -> u32 {
     match answer {
-        Answer::Accepted => 0,
-        Answer::Refused(refusal) => refusal.number(),
+        Ok(()) => 0,
+        Err(refusal) => refusal.number(),
     }
 }
 
-// A count as a number of 32 bits; the largest one where it is none.
-fn narrow(count: usize) -> u32 {
-    if 4294967295 < count {
-        return 4294967295;
-    }
-    count as u32
+// The first so many of a list, or all where there are fewer.
+fn front<T>(list: &[T], count: usize) -> &[T] {
+    &list[..count.min(list.len())]
 }
 
 // Prints the reply of a call.
-fn put_reply<W: Write, E: Write>(
-    print: Print,
-    reply: Reply,
-    gathered: &mut [u8],
-    outlet: &mut Outlet<W, E>,
-) -> Print {
-    let answer = reply.answer;
+fn put_reply<W: Write, E: Write>(page: &mut Page<W, E>, reply: Reply) {
     let head = reply.head;
     let numbers = [
-        number(answer),
-        narrow(reply.count),
+        number(reply.answer),
+        u32::try_from(reply.count).unwrap_or(u32::MAX),
         head.dimensions,
         head.capacity,
         head.directions,
@@ -45,180 +35,86 @@ fn put_reply<W: Write, E: Write>(
         head.n1,
         head.n2,
     ];
-    put_numbers(print, b'A', &numbers, 10, gathered, outlet)
+    page.put_numbers(b'A', &numbers);
+}
+
+// Prints the first so many numbers that a call wrote behind an X, where there are any.
+fn put_written<W: Write, E: Write, T: Copy + Into<u32>>(
+    page: &mut Page<W, E>,
+    list: &[T],
+    count: usize,
+) {
+    if 0 < count {
+        page.put_numbers(b'X', front(list, count));
+    }
+}
+
+// Prints a reply with the bytes that were written.
+fn put_bytes_reply<W: Write, E: Write>(page: &mut Page<W, E>, reply: Reply, out: &[u8]) {
+    put_reply(page, reply);
+    put_written(page, out, reply.count);
+}
+
+// Prints what a preview hands back: its reply with the bytes that it wrote, and behind them the counts of live and held rows.
+fn put_preview<W: Write, E: Write>(page: &mut Page<W, E>, effect: Effect, out: &[u8]) {
+    put_bytes_reply(page, effect.reply, out);
+    page.put_numbers(b'N', &[effect.live, effect.held]);
+}
+
+// Prints what a quote and look in one hands back: its reply with the bytes that it wrote, and behind them the positions.
+fn put_both<W: Write, E: Write>(page: &mut Page<W, E>, made: BothReply, state: &State) {
+    put_bytes_reply(page, made.reply, &state.out);
+    put_written(page, &state.list, made.listed);
 }
 
 // Prints the verdict of an audit.
-fn put_verdict<W: Write, E: Write>(
-    print: Print,
-    verdict: Verdict,
-    gathered: &mut [u8],
-    outlet: &mut Outlet<W, E>,
-) -> Print {
+fn put_verdict<W: Write, E: Write>(page: &mut Page<W, E>, verdict: Result<bool, Refusal>) {
     match verdict {
-        Verdict::Yes => put_word(print, b"V yes\n", gathered, outlet),
-        Verdict::No => put_word(print, b"V no\n", gathered, outlet),
-        Verdict::Refused(refusal) => {
-            let numbers = [refusal.number()];
-            put_numbers(print, b'V', &numbers, 1, gathered, outlet)
-        }
+        Ok(true) => page.put_word(b"V yes\n"),
+        Ok(false) => page.put_word(b"V no\n"),
+        Err(refusal) => page.put_numbers(b'V', &[refusal.number()]),
     }
 }
 
 // How many places the tables of a head have: none where its capacity or its dimensions are out of range.
 fn places(head: Head) -> usize {
-    let sizes = Head::fresh(head.dimensions, head.capacity, 0);
-    if sizes.settings_hold() {
-        return head.capacity as usize;
+    if Head::fresh(head.dimensions, head.capacity, 0).settings_hold() {
+        head.capacity as usize
+    } else {
+        0
     }
-    0
 }
 
-// How many cells the columns of a head have: as many as places for each dimension.
-fn column_cells(head: Head) -> usize {
-    places(head).wrapping_mul(head.dimensions as usize)
-}
-
-// The desk of a record where desks are asked for, else its n.
-fn field(record: Watch, desks: bool) -> u32 {
-    if desks { record.desk } else { record.n }
-}
-
-// The desks of the records where they are asked for, else every n.
-fn fields(records: [Watch; 8], desks: bool) -> [u32; 8] {
-    records.map(|record| field(record, desks))
-}
-
-// Prints the records: every n, then every desk.
-fn put_records<W: Write, E: Write>(
-    print: Print,
-    records: [Watch; 8],
-    gathered: &mut [u8],
-    outlet: &mut Outlet<W, E>,
-) -> Print {
-    let sizes = fields(records, false);
-    let desks = fields(records, true);
-    let now = put_numbers(print, b'W', &sizes, 8, gathered, outlet);
-    put_numbers(now, b'D', &desks, 8, gathered, outlet)
-}
-
-// Prints the tables and the records, where the line asks for them.
-pub fn print_tables<W: Write, E: Write>(
-    print: Print,
-    state: State,
-    columns: &[u32; COLUMN_CELLS],
-    positions: &[u32; PLACES],
-    lower: &[u32; PLACES],
-    upper: &[u32; PLACES],
-    gathered: &mut [u8],
-    outlet: &mut Outlet<W, E>,
-) -> Print {
-    let seen = state.seen;
-    let Seen::Tables = seen else {
-        return print;
-    };
-    let records = state.records;
+// Prints the tables and the records: every n, then every desk.
+fn put_tables<W: Write, E: Write>(page: &mut Page<W, E>, state: &State) {
     let n = places(state.head);
-    let mut now = put_numbers(
-        print,
-        b'C',
-        columns,
-        column_cells(state.head),
-        gathered,
-        outlet,
-    );
-    now = put_numbers(now, b'P', positions, n, gathered, outlet);
-    now = put_numbers(now, b'E', lower, n, gathered, outlet);
-    now = put_numbers(now, b'U', upper, n, gathered, outlet);
-    put_records(now, records, gathered, outlet)
+    let cells = n.saturating_mul(state.head.dimensions as usize);
+    page.put_numbers(b'C', front(&state.tables.columns, cells));
+    page.put_numbers(b'P', front(&state.tables.positions, n));
+    page.put_numbers(b'E', front(&state.tables.lower_ends, n));
+    page.put_numbers(b'U', front(&state.tables.upper_ends, n));
+    page.put_numbers(b'W', &state.records.map(|record| record.n));
+    page.put_numbers(b'D', &state.records.map(|record| record.desk));
 }
 
-// Prints a reply with the bytes that were written.
-fn put_bytes_reply<W: Write, E: Write>(
-    print: Print,
-    reply: Reply,
-    out: &[u8],
-    gathered: &mut [u8],
-    outlet: &mut Outlet<W, E>,
-) -> Print {
-    let now = put_reply(print, reply, gathered, outlet);
-    if reply.count == 0 {
-        return now;
-    }
-    put_bytes(now, out, reply.count, gathered, outlet)
-}
-
-// Prints what a preview hands back: its reply with the bytes that it wrote, and behind them the counts of live and held rows.
-fn put_preview<W: Write, E: Write>(
-    print: Print,
-    effect: Effect,
-    out: &[u8],
-    gathered: &mut [u8],
-    outlet: &mut Outlet<W, E>,
-) -> Print {
-    let now = put_bytes_reply(print, effect.reply, out, gathered, outlet);
-    let numbers = [effect.live, effect.held];
-    put_numbers(now, b'N', &numbers, 2, gathered, outlet)
-}
-
-// Prints a reply with the first cells of the list that was written, so many.
-fn put_list_reply<W: Write, E: Write>(
-    print: Print,
-    reply: Reply,
-    list: &[u32],
-    count: usize,
-    gathered: &mut [u8],
-    outlet: &mut Outlet<W, E>,
-) -> Print {
-    let now = put_reply(print, reply, gathered, outlet);
-    if count == 0 {
-        return now;
-    }
-    put_numbers(now, b'X', list, count, gathered, outlet)
-}
-
-// Prints what a quote and look in one hands back: its reply with the bytes that it wrote, and behind them the positions.
-fn put_both<W: Write, E: Write>(
-    print: Print,
-    made: BothReply,
-    out: &[u8],
-    list: &[u32],
-    gathered: &mut [u8],
-    outlet: &mut Outlet<W, E>,
-) -> Print {
-    let now = put_bytes_reply(print, made.reply, out, gathered, outlet);
-    if made.listed == 0 {
-        return now;
-    }
-    put_numbers(now, b'X', list, made.listed, gathered, outlet)
-}
-
-// Prints what was seen of the line that was found, but for the tables; where none was found, writes out what is gathered.
+// Prints what was seen of the line of a number.
 pub fn print_line<W: Write, E: Write>(
-    print: Print,
-    found: bool,
-    state: State,
-    out: &[u8; CHANGE_BYTES],
-    list: &[u32; CHANGE_BYTES],
-    gathered: &mut [u8],
-    outlet: &mut Outlet<W, E>,
-) -> Print {
-    if !found {
-        return flush(print, gathered, outlet);
-    }
-    let mut now = print;
-    now.lines = print.lines.wrapping_add(1);
-    let seen = state.seen;
+    page: &mut Page<W, E>,
+    number: u32,
+    seen: Seen,
+    state: &State,
+) {
     match seen {
-        Seen::Unread => {
-            let numbers = [now.lines];
-            put_numbers(now, b'?', &numbers, 1, gathered, outlet)
+        Seen::Nothing => {}
+        Seen::Unread => page.put_numbers(b'?', &[number]),
+        Seen::Bytes(reply) => put_bytes_reply(page, reply, &state.out),
+        Seen::Preview(effect) => put_preview(page, effect, &state.out),
+        Seen::List(reply, count) => {
+            put_reply(page, reply);
+            put_written(page, &state.list, count);
         }
-        Seen::Bytes(reply) => put_bytes_reply(now, reply, out, gathered, outlet),
-        Seen::Preview(effect) => put_preview(now, effect, out, gathered, outlet),
-        Seen::List(reply, count) => put_list_reply(now, reply, list, count, gathered, outlet),
-        Seen::Both(made) => put_both(now, made, out, list, gathered, outlet),
-        Seen::Verdict(verdict) => put_verdict(now, verdict, gathered, outlet),
-        _ => now,
+        Seen::Both(made) => put_both(page, made, state),
+        Seen::Verdict(verdict) => put_verdict(page, verdict),
+        Seen::Tables => put_tables(page, state),
     }
 }

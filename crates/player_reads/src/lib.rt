@@ -1,135 +1,135 @@
-// The calls that only read the tables: looks, what is due and the audit, which are lent no records; the preview of a quote,
-// and those that set and end watches and the pair, which are.
+// The calls that only read the tables, made on the parts of the buffers that are lent: looks, what is due and the audit, which are lent no
+// records; the preview of a quote, and those that set and end watches and the pair, which are.
 #![tactic(auto)]
 
-use book::{due, look, past};
-use book_audit::audit;
-use book_by_value::{RecordReply, end, pair, preview, unpair, watch};
-use head::{COLUMN_CELLS, Head, PLACES};
-use player_lines::{Command, Line, front, quoted};
-use player_state::{Seen, State, least};
+use book_by_value::RecordReply;
+use head::Desk;
+use player_lines::{Command, Numbers};
+use player_state::{Seen, State, first};
 
-// How many cells as many rows have, two for each.
-fn row_cells(count: usize) -> usize {
-    std::num::wrapping_add_u64(count as u64, count as u64) as usize
+// Looks at the list of n.
+fn look(state: &mut State, n: u32) -> Seen {
+    let loan = state.loan;
+    let reply = book::look(
+        state.head,
+        n,
+        &state.tables.lent(loan),
+        first(&mut state.list, loan.out),
+    );
+    Seen::List(reply, reply.count)
 }
 
-// Makes the call of a line that is lent no records, where it asks for one, on the parts of the buffers that are lent.
-fn read_lent(
-    head: Head,
-    line: Line,
-    columns: &[u32],
-    positions: &[u32],
-    lower: &[u32],
-    upper: &[u32],
-    list: &mut [u32],
-) -> Seen {
-    let command = line.command;
-    let n = line.numbers;
+// Looks at the past list of a pair.
+fn past(state: &mut State, n1: u32, n2: u32) -> Seen {
+    let loan = state.loan;
+    let reply = book::past(
+        state.head,
+        n1,
+        n2,
+        &state.tables.lent(loan),
+        first(&mut state.list, loan.out),
+    );
+    Seen::List(reply, reply.count)
+}
+
+// Looks at what is due: two cells for each row.
+fn due(state: &mut State) -> Seen {
+    let loan = state.loan;
+    let reply = book::due(
+        state.head,
+        &state.tables.lent(loan),
+        first(&mut state.list, loan.out),
+    );
+    Seen::List(reply, reply.count.saturating_mul(2))
+}
+
+// Audits the tables.
+fn audit(state: &State) -> Seen {
+    let tables = state.tables.lent(state.loan);
+    Seen::Verdict(book_audit::audit(state.head, &tables))
+}
+
+// Makes the call of a line that is lent no records, where it asks for one, and answers what is to be printed of it.
+pub fn read(state: &mut State, command: Command) -> Seen {
     match command {
-        Command::Look => {
-            let reply = look(head, n[0], columns, positions, lower, upper, list);
-            Seen::List(reply, reply.count)
-        }
-        Command::Past => {
-            let reply = past(head, n[0], n[1], columns, positions, lower, upper, list);
-            Seen::List(reply, reply.count)
-        }
-        Command::Due => {
-            let reply = due(head, columns, positions, lower, upper, list);
-            Seen::List(reply, row_cells(reply.count))
-        }
-        Command::Audit => Seen::Verdict(audit(head, columns, positions, lower, upper)),
+        Command::Look(n) => look(state, n),
+        Command::Past(n1, n2) => past(state, n1, n2),
+        Command::Due => due(state),
+        Command::Audit => audit(state),
         _ => Seen::Nothing,
     }
 }
 
-// The state after a watch is set or ended.
-fn recorded(state: State, made: RecordReply) -> State {
-    let reply = made.reply;
-    let records = made.records;
-    let replied = state.replied(reply);
-    replied.recorded(records)
+// Previews a quote.
+fn preview(state: &mut State, columns: Numbers) -> Seen {
+    let loan = state.loan;
+    let effect = book_by_value::preview(
+        state.head,
+        columns.as_slice(),
+        &state.tables.lent(loan),
+        state.records,
+        first(&mut state.out, loan.out),
+    );
+    Seen::Preview(effect)
 }
 
-// Makes the call of a line that is lent the records, where it asks for one, on the parts of the buffers that are lent.
-fn set_lent(
-    state: State,
-    line: Line,
-    columns: &[u32],
-    positions: &[u32],
-    lower: &[u32],
-    upper: &[u32],
-    out: &mut [u8],
-) -> State {
-    let command = line.command;
-    let n = line.numbers;
-    let a = n[0];
-    let head = state.head;
-    let held = state.records;
+// Takes the records and the head that were handed back.
+fn recorded(state: &mut State, made: RecordReply) -> Seen {
+    let RecordReply { reply, records } = made;
+    state.records = records;
+    state.replied(reply)
+}
+
+// Sets a desk's watch.
+fn watch(state: &mut State, desk: Desk, n: u32) -> Seen {
+    let loan = state.loan;
+    let made = book_by_value::watch(
+        state.head,
+        desk,
+        n,
+        &state.tables.lent(loan),
+        state.records,
+        first(&mut state.out, loan.out),
+    );
+    recorded(state, made)
+}
+
+// Ends a desk's watch.
+fn end(state: &mut State, desk: Desk, n: u32) -> Seen {
+    let tables = state.tables.lent(state.loan);
+    let made = book_by_value::end(state.head, desk, n, &tables, state.records);
+    recorded(state, made)
+}
+
+// Sets the watched pair.
+fn pair(state: &mut State, n1: u32, n2: u32) -> Seen {
+    let loan = state.loan;
+    let reply = book_by_value::pair(
+        state.head,
+        n1,
+        n2,
+        &state.tables.lent(loan),
+        state.records,
+        first(&mut state.out, loan.out),
+    );
+    state.replied(reply)
+}
+
+// Ends the watched pair.
+fn unpair(state: &mut State) -> Seen {
+    let tables = state.tables.lent(state.loan);
+    let reply = book_by_value::unpair(state.head, &tables, state.records);
+    state.replied(reply)
+}
+
+// Makes the call of a line that is lent the records, where it asks for one, and answers what is to be printed of it.
+pub fn set(state: &mut State, command: Command) -> Seen {
     match command {
-        Command::Preview => {
-            let quote = quoted(&n, line.count);
-            let effect = preview(head, quote, columns, positions, lower, upper, held, out);
-            state.showing(Seen::Preview(effect))
-        }
-        Command::Watch(desk) => {
-            let made = watch(head, desk, a, columns, positions, lower, upper, held, out);
-            recorded(state, made)
-        }
-        Command::End(desk) => {
-            let made = end(head, desk, a, columns, positions, lower, upper, held);
-            recorded(state, made)
-        }
-        Command::Pair => {
-            let reply = pair(head, a, n[1], columns, positions, lower, upper, held, out);
-            state.replied(reply)
-        }
-        Command::Unpair => {
-            let reply = unpair(head, columns, positions, lower, upper, held);
-            state.replied(reply)
-        }
-        _ => state,
+        Command::Preview(columns) => preview(state, columns),
+        Command::Watch(desk, n) => watch(state, desk, n),
+        Command::End(desk, n) => end(state, desk, n),
+        Command::Pair(n1, n2) => pair(state, n1, n2),
+        Command::Unpair => unpair(state),
+        _ => Seen::Nothing,
     }
-}
-
-// Makes the call of a line that is lent no records, where it asks for one.
-pub fn read(
-    state: State,
-    line: Line,
-    columns: &[u32; COLUMN_CELLS],
-    positions: &[u32; PLACES],
-    lower: &[u32; PLACES],
-    upper: &[u32; PLACES],
-    list: &mut [u32],
-) -> State {
-    let loan = state.loan;
-    let columns = front(&columns[..], loan.columns);
-    let positions = front(&positions[..], loan.positions);
-    let lower = front(&lower[..], loan.lower);
-    let upper = front(&upper[..], loan.upper);
-    let k = least(loan.out, list.len());
-    let head = state.head;
-    let list = &mut list[..k];
-    let seen = read_lent(head, line, columns, positions, lower, upper, list);
-    state.seeing(seen)
-}
-
-// Makes the call of a line that is lent the records, where it asks for one.
-pub fn set(
-    state: State,
-    line: Line,
-    columns: &[u32; COLUMN_CELLS],
-    positions: &[u32; PLACES],
-    lower: &[u32; PLACES],
-    upper: &[u32; PLACES],
-    out: &mut [u8],
-) -> State {
-    let loan = state.loan;
-    let columns = front(&columns[..], loan.columns);
-    let positions = front(&positions[..], loan.positions);
-    let lower = front(&lower[..], loan.lower);
-    let upper = front(&upper[..], loan.upper);
-    let o = least(loan.out, out.len());
-    set_lent(state, line, columns, positions, lower, upper, &mut out[..o])
 }

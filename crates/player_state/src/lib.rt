@@ -1,13 +1,15 @@
-// The state of the book player: a head, eight records and how much of each buffer is lent, and what a line changes
-// without a call.
+// The state of the book player: a head, eight records, the buffers and how much of each is lent; and what a line changes without a call.
 #![tactic(auto)]
 
-mod poking;
+mod loan;
 
-ghost use Rattle.std.specs.Prelude.{◌≤◌};
+ghost use Rattle.std.specs.Prelude.{◌≡◌, ◌≤◌, length, take};
 
-use head::{BothReply, CHANGE_BYTES, COLUMN_CELLS, Effect, Head, PLACES, Reply, Verdict, Watch};
-pub use poking::{begin, poke};
+use head::{BothReply, CHANGE_BYTES, COLUMN_CELLS, Effect, Head, PLACES, Reply, Watch};
+use lent_tables::{LentTables, LentTablesMut};
+pub use loan::Loan;
+use player_lines::Name;
+use refusals::Refusal;
 
 // What is to be printed of a line: nothing, that it cannot be taken, a reply with bytes, what a preview hands back with
 // bytes, a reply with so many cells of a list, what a quote and look in one hands back with both, a verdict, or the tables.
@@ -19,89 +21,113 @@ pub enum Seen {
     Preview(Effect),
     List(Reply, usize),
     Both(BothReply),
-    Verdict(Verdict),
+    Verdict(Result<bool, Refusal>),
     Tables,
 }
 
-// How many cells of each table are lent, how many bytes of output, or cells to a look and to what is due, and how many cells to the look behind a
-// quote in one.
-#[derive(Clone, Copy)]
-pub struct Loan {
-    pub columns: usize,
-    pub positions: usize,
-    pub lower: usize,
-    pub upper: usize,
-    pub out: usize,
-    pub cells: usize,
-}
-
-// The lesser of what is lent of a buffer and its length.
-pub fn least(lent: usize, length: usize) -> usize
-    ensures { result ≤ length }
+// What is lent of a buffer: its first cells, so many.
+pub fn first<T>(buffer: &mut [T], count: usize) -> &mut [T]
+    requires { count ≤ length buffer.old }
+    ensures { result.now ≡ take count buffer.old }
 {
-    if lent < length { lent } else { length }
+    &mut buffer[..count]
 }
 
-// The head for the next call, the records, what is lent, and what is to be printed.
-#[derive(Clone, Copy)]
+// The four tables.
+#[derive(Drop)]
+pub struct Tables {
+    pub columns: [u32; COLUMN_CELLS],
+    pub positions: [u32; PLACES],
+    pub lower_ends: [u32; PLACES],
+    pub upper_ends: [u32; PLACES],
+}
+
+impl Tables {
+    // What is lent of the tables, to read.
+    pub fn lent(&self, loan: Loan) -> LentTables<'_>
+        ensures columns { result.columns.now ≡ take loan.columns self.now.columns }
+        ensures positions { result.positions.now ≡ take loan.positions self.now.positions }
+        ensures lower_ends { result.lower_ends.now ≡ take loan.lower_ends self.now.lower_ends }
+        ensures upper_ends { result.upper_ends.now ≡ take loan.upper_ends self.now.upper_ends }
+    {
+        LentTables {
+            columns: &self.columns[..loan.columns],
+            positions: &self.positions[..loan.positions],
+            lower_ends: &self.lower_ends[..loan.lower_ends],
+            upper_ends: &self.upper_ends[..loan.upper_ends],
+        }
+    }
+
+    // What is lent of the tables, to write.
+    pub fn lent_mut(&mut self, loan: Loan) -> LentTablesMut<'_>
+        ensures columns { result.columns.now ≡ take loan.columns self.old.columns }
+        ensures positions { result.positions.now ≡ take loan.positions self.old.positions }
+        ensures lower_ends { result.lower_ends.now ≡ take loan.lower_ends self.old.lower_ends }
+        ensures upper_ends { result.upper_ends.now ≡ take loan.upper_ends self.old.upper_ends }
+    {
+        let Tables {
+            columns,
+            positions,
+            lower_ends,
+            upper_ends,
+        } = self;
+        LentTablesMut {
+            columns: &mut columns[..loan.columns],
+            positions: &mut positions[..loan.positions],
+            lower_ends: &mut lower_ends[..loan.lower_ends],
+            upper_ends: &mut upper_ends[..loan.upper_ends],
+        }
+    }
+}
+
+// The head for the next call, the records, the tables, the output, the list that a look writes, and how much of these is lent.
+#[derive(Drop)]
 pub struct State {
     pub head: Head,
     pub records: [Watch; 8],
+    pub tables: Tables,
+    pub out: [u8; CHANGE_BYTES],
+    pub list: [u32; CHANGE_BYTES],
     pub loan: Loan,
-    pub seen: Seen,
 }
 
 impl State {
     // The state before the first line: a head of zeros, no watches, every buffer lent whole.
-    pub fn first() -> State {
+    pub fn new() -> State {
         State {
             head: Head::fresh(0, 0, 0),
             records: [Watch { n: 0, desk: 0 }; 8],
-            loan: Loan {
-                columns: COLUMN_CELLS,
-                positions: PLACES,
-                lower: PLACES,
-                upper: PLACES,
-                out: CHANGE_BYTES,
-                cells: CHANGE_BYTES,
+            tables: Tables {
+                columns: [0; COLUMN_CELLS],
+                positions: [0; PLACES],
+                lower_ends: [0; PLACES],
+                upper_ends: [0; PLACES],
             },
-            seen: Seen::Nothing,
+            out: [0; CHANGE_BYTES],
+            list: [0; CHANGE_BYTES],
+            loan: Loan::whole(),
         }
     }
 
-    // The state with something else to print.
-    pub fn showing(self, seen: Seen) -> State {
-        let head = self.head;
-        let records = self.records;
-        let loan = self.loan;
-        State {
-            head,
-            records,
-            loan,
-            seen,
+    // Takes the head of a reply with bytes.
+    pub fn replied(&mut self, reply: Reply) -> Seen
+        ensures { self.new.head ≡ reply.head }
+    {
+        self.head = reply.head;
+        Seen::Bytes(reply)
+    }
+
+    // Sets a cell of a table, the n of a record or its desk; none where there is no such cell.
+    pub fn poke(&mut self, name: Name, i: usize, n: u32) -> Option<()> {
+        match name {
+            Name::Columns => *self.tables.columns.get_mut(i)? = n,
+            Name::Positions => *self.tables.positions.get_mut(i)? = n,
+            Name::LowerEnds => *self.tables.lower_ends.get_mut(i)? = n,
+            Name::UpperEnds => *self.tables.upper_ends.get_mut(i)? = n,
+            Name::Watches => self.records.get_mut(i)?.n = n,
+            Name::Desks => self.records.get_mut(i)?.desk = n,
+            Name::Out | Name::Cells => return None,
         }
-    }
-
-    // The state after a call that prints this; one that prints nothing was not made.
-    pub fn seeing(self, seen: Seen) -> State {
-        match seen {
-            Seen::Nothing => self,
-            _ => self.showing(seen),
-        }
-    }
-
-    // The state after a reply with bytes: the head is the one that it hands back.
-    pub fn replied(self, reply: Reply) -> State {
-        let head = reply.head;
-        let mut now = self.showing(Seen::Bytes(reply));
-        now.head = head;
-        now
-    }
-
-    // The state with other records.
-    pub fn recorded(self, records: [Watch; 8]) -> State {
-        let mut now = self;
-        now.records = records;
-        now
+        Some(())
     }
 }
