@@ -2,73 +2,82 @@
 // of each.
 #![tactic(auto)]
 
-use head::{CHANGE_BYTES, COLUMN_CELLS, PLACES};
+use head::Head;
 use player_calls::write;
-use player_lines::{Cursor, next_line};
-use player_output::Print;
-use player_print::{print_line, print_tables};
+use player_lines::{Command, Input};
+use player_output::Page;
+use player_print::print_line;
 use player_reads::{read, set};
-use player_state::{State, begin, poke};
+use player_state::{Seen, State};
 use streams::Outlet;
 
-// How many bytes of lines are kept at a time, and how many are gathered before they are written out.
-const PIECE: usize = 65536;
+// The head of its eight numbers.
+fn head_of(numbers: [u32; 8]) -> Head {
+    let [dimensions, capacity, directions, newest, live, held, n1, n2] = numbers;
+    Head {
+        dimensions,
+        capacity,
+        directions,
+        newest,
+        live,
+        held,
+        n1,
+        n2,
+    }
+}
+
+// What is printed of a line that makes no call: nothing where it could be taken.
+fn seen_taken(taken: Option<()>) -> Seen {
+    match taken {
+        Some(()) => Seen::Nothing,
+        None => Seen::Unread,
+    }
+}
+
+// Does what a line asks for, and answers what is to be printed of it.
+fn take_line(state: &mut State, command: Command) -> Seen {
+    match command {
+        Command::Unread => Seen::Unread,
+        Command::Show => Seen::Tables,
+        Command::Lend(name, count) => seen_taken(state.loan.lend(name, count)),
+        Command::Cell(name, i, n) => seen_taken(state.poke(name, i, n)),
+        Command::Head(numbers) => {
+            state.head = head_of(numbers);
+            Seen::Nothing
+        }
+        Command::Open(_) | Command::Quote(_) | Command::Both(..) => write(state, command),
+        Command::Look(_) | Command::Past(..) | Command::Due | Command::Audit => {
+            read(state, command)
+        }
+        _ => set(state, command),
+    }
+}
 
 fn main(rt: HostRuntime) {
-    let mut columns = [0u32; COLUMN_CELLS];
-    let mut positions = [0u32; PLACES];
-    let mut lower = [0u32; PLACES];
-    let mut upper = [0u32; PLACES];
-    let mut out = [0u8; CHANGE_BYTES];
-    let mut list = [0u32; CHANGE_BYTES];
-    let mut lines = [0u8; PIECE];
-    let mut text = [0u8; PIECE];
-    let mut state = State::first();
-    let mut page = Print::first();
-    let mut cursor = Cursor::first();
-    let mut input = rt.stdin();
-    let mut outlet = Outlet {
+    let mut state = State::new();
+    let mut input = Input::new(rt.stdin());
+    let mut page = Page::new(Outlet {
         output: rt.stdout(),
         errors: rt.stderr(),
-    };
+    });
+    let mut number: u32 = 0;
     for _ in 0..u64::MAX {
-        if cursor.over | page.failed {
+        match input.next_line() {
+            Some(command) => {
+                number = number.wrapping_add(1);
+                let seen = take_line(&mut state, command);
+                print_line(&mut page, number, seen, &state);
+            }
+            None => {
+                page.flush();
+                if input.ended {
+                    break;
+                }
+                input.read_on(&mut rt.stderr());
+            }
+        }
+        if page.failed {
             break;
         }
-        cursor = next_line(cursor, &mut lines, &mut input, &mut outlet.errors);
-        let line = cursor.line;
-        let poked = poke(line, &mut columns, &mut positions, &mut lower, &mut upper);
-        state = begin(state, line, poked);
-        state = write(
-            state,
-            line,
-            &mut columns,
-            &mut positions,
-            &mut lower,
-            &mut upper,
-            &mut out,
-            &mut list,
-        );
-        state = set(state, line, &columns, &positions, &lower, &upper, &mut out);
-        state = read(state, line, &columns, &positions, &lower, &upper, &mut list);
-        page = print_line(
-            page,
-            cursor.found,
-            state,
-            &out,
-            &list,
-            &mut text,
-            &mut outlet,
-        );
-        page = print_tables(
-            page,
-            state,
-            &columns,
-            &positions,
-            &lower,
-            &upper,
-            &mut text,
-            &mut outlet,
-        );
     }
 }

@@ -13,9 +13,12 @@ use streams::Outlet;
 // How many bytes the longest frame has.
 const LONGEST_FRAME: usize = 25;
 
-// Names a line that says no message.
-fn name_line<E: Write>(number: u64, errors: &mut E) {
-    let _ = writeln!(errors, "tape_writer: line {number} says no message");
+// Names the line that was taken last, if it says no message.
+fn name_unsaid<E: Write>(writer: &Writer, errors: &mut E) {
+    if writer.unsaid {
+        let number = writer.lines;
+        let _ = writeln!(errors, "tape_writer: line {number} says no message");
+    }
 }
 
 // Writes out what is gathered if there is no room behind it for the longest frame.
@@ -44,9 +47,7 @@ fn write_on<W: Write, E: Write>(
     ensures end_value { result.end ≡ writer.end }
 {
     let now = take_line(with_room(writer, out, outlet), stop, text, out);
-    if now.unsaid {
-        name_line(now.lines, &mut outlet.errors);
-    }
+    name_unsaid(&now, &mut outlet.errors);
     now
 }
 
@@ -68,10 +69,9 @@ fn turn<R: Read, W: Write, E: Write>(
     if (stop < end) | (writer.ended & (writer.place < end)) {
         return write_on(writer, stop, &text[..end], out, outlet);
     }
-    let mut now = flush(writer, out, outlet);
+    let now = flush(writer, out, outlet);
     if now.ended | now.over {
-        now.over = true;
-        return now;
+        return Writer { over: true, ..now };
     }
     refill(now, text, input, &mut outlet.errors)
 }
@@ -96,6 +96,7 @@ fn main(rt: HostRuntime) {
         output: rt.stdout(),
         errors: rt.stderr(),
     };
+    // A `for`, and not a `while`: the input may go on for ever, and a loop without an end is no part of a program here.
     for _ in 0..u64::MAX {
         if writer.over {
             break;

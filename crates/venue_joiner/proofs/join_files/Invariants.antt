@@ -1,11 +1,11 @@
--- At every turn what has come of both tapes and what is gathered lie within their buffers.
+-- At every turn the places lie within what has come of both tapes, that within its buffer, and what is gathered within its own.
 use Rattle.std.proofs.Common.{◌≤◌, length}
 use Rattle.venue_joiner.proofs.join_files.Given as goal
 
-abbrev pub invariant-loop : goal.invariant-loop
-invariant-loop g l =
-    (l.progress.used ≤ length l.out)
-    × (l.progress.first.place ≤ l.progress.first.end)
-    × (l.progress.first.end ≤ length l.first)
-    × (l.progress.second.place ≤ l.progress.second.end)
-    × (l.progress.second.end ≤ length l.second)
+abbrev pub invariant-turns : goal.invariant-turns
+invariant-turns g l =
+    (l.joiner.one.place ≤ l.first.end)
+    × (l.first.end ≤ length l.first.piece)
+    × (l.joiner.two.place ≤ l.second.end)
+    × (l.second.end ≤ length l.second.piece)
+    × (l.joiner.used ≤ length l.out)
