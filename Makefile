@@ -2,7 +2,7 @@
 # What rt prints goes to a log under build/; standard error gets a line for each crate.
 SHELL := /bin/bash
 .SHELLFLAGS := -euo pipefail -c
-.PHONY: test proofs models programs try run host random random-calls rules plants rule-plants yardstick notation citations tapes \
+.PHONY: test proofs models programs try run host random random-calls stopped rules plants rule-plants yardstick notation citations tapes \
   test-slow bench late pieces venues spreadsheet days day-plants drill panel random-panel test-memory install
 
 # where rt leaves the executable of a program
@@ -61,7 +61,7 @@ RUSTC := env -u MAKEFLAGS -u MFLAGS $(IDLE) rustc --edition 2021 -O -D warnings
 
 test: citations
 	@$(MAKE) --no-print-directory -j2 proofs models
-	@$(MAKE) --no-print-directory -j2 host random random-calls late plants pieces notation venues spreadsheet days day-plants drill random-panel
+	@$(MAKE) --no-print-directory -j2 host random random-calls stopped late plants pieces notation venues spreadsheet days day-plants drill random-panel
 	@tools/dearest.sh build/ci.txt
 	@tail -n 1 build/ci.txt | grep -Ex '[0-9]+ passed, 0 failed'
 
@@ -134,6 +134,10 @@ random: build/plain_model $(call made,$(PRINTER))
 # the book player, likewise, against the plain model of the calls, on random lists of calls and any tables
 random-calls: build/random_calls $(call made,$(PLAYER))
 	@build/random_calls '$(PLAYER)' $(SEED) $(LISTS)
+
+# the book player with an output that fails and an input that stays open, silent
+stopped: $(call made,$(PLAYER))
+	@tests/stopped.sh $(PLAYER)
 
 # a book switched on late against one on since the morning, both played by the printer
 late: build/late_book $(PRINTER)

@@ -70,7 +70,7 @@ fn main(rt: HostRuntime) {
             }
             None => {
                 page.flush();
-                if input.ended {
+                if input.ended || page.failed {
                     break;
                 }
                 input.read_on(&mut rt.stderr());
