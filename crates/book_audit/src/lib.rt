@@ -16,11 +16,15 @@ use lent_tables::LentTables;
 use refusals::Refusal;
 use table_cells::torn_rows;
 
-// Whether all of these cells are 0.
+// Whether all of these cells are 0. It is without branches, so that cells can be compared side by side.
 fn only_zeros(cells: &[u32]) -> bool
     ensures { result ≡ list_all (λ x. x == 0) cells.now }
 {
-    cells.iter().all(|cell| *cell == 0)
+    let mut all = true;
+    for cell in cells {
+        all &= *cell == 0;
+    }
+    all
 }
 
 // Whether the cells from one place up to another are 0.

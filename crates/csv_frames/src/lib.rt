@@ -57,6 +57,7 @@ fn behind(file: &[u8], end: usize) -> usize
 }
 
 // Reads the line that begins at a place, if it fits.
+#[inline(always)]
 fn line_at(d: u32, file: &[u8], place: usize) -> Option<Line>
     requires { place < length file.now }
     ensures { LineAt d file.now place result }

@@ -68,6 +68,7 @@ pub fn compare(directions: u32, d: usize, quote: &[u32], cells: &[u32], start: u
 
 // The same, with each of 01's numbers of columns as a constant, so that the loop over them is unrolled: a call at six columns takes 84
 // instructions, one of `compare` 124.
+#[inline(always)]
 pub fn compare_unrolled(
     directions: u32,
     d: usize,

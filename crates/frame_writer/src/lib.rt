@@ -46,22 +46,22 @@ fn lay_quote(kind: u8, columns: [u32; 6], out: &mut [u8])
     }
 }
 
-// The kind of a message's frame; none where the message has no frame, as where its kind has another shape.
+// The kind of a message's frame; none where the message has no frame, as where its kind has another shape. Each shape is asked for by a call of
+// its own, where it is a constant: a shape that is chosen first costs a writer of short lines half as much again.
 #[tactic(auto, using(frame_kinds::proofs::Shapes::open_shape), unfolding(frames::specs::Frames::framed))]
 fn kind_of(message: Message) -> Option<u8>
     ensures { MatchOption result (framed message ≡ false) (λ kind. (framed message ≡ true) × (kind ≡ kind_of message)) }
 {
-    let (shape, kind) = match message {
-        Message::Quote(k) => (Shape::Columns, k),
-        Message::Sized(k, _) => (Shape::Size, k),
-        Message::Change(k, _, _) => (Shape::SizePosition, k),
-        Message::Pair(k, _, _) => (Shape::SizePair, k),
-        Message::Bare(k) => (Shape::Bare, k),
-        Message::Position(k, _) => (Shape::Position, k),
-        Message::Open(_, _, _) => (Shape::Settings, OPEN),
-        Message::EndOfTape | Message::Refused(_) => return None,
-    };
-    has_shape(shape, kind).then_some(kind)
+    match message {
+        Message::Quote(k) => has_shape(Shape::Columns, k).then_some(k),
+        Message::Sized(k, _) => has_shape(Shape::Size, k).then_some(k),
+        Message::Change(k, _, _) => has_shape(Shape::SizePosition, k).then_some(k),
+        Message::Pair(k, _, _) => has_shape(Shape::SizePair, k).then_some(k),
+        Message::Bare(k) => has_shape(Shape::Bare, k).then_some(k),
+        Message::Position(k, _) => has_shape(Shape::Position, k).then_some(k),
+        Message::Open(_, _, _) => Some(OPEN),
+        Message::EndOfTape | Message::Refused(_) => None,
+    }
 }
 
 // How many bytes the frame of a message has; none for a message with no frame.

@@ -94,6 +94,7 @@ impl ComparedRows<'_> {
     }
 
     // The same, with each of 01's numbers of columns as a constant, so that the loop over them is unrolled.
+    #[inline(always)]
     fn dull_columns(self, from: usize) -> bool
         requires { Fits (rows_of self) (from + 64) }
         ensures { result ≡ dull_in (rows_of self.entry) from 64 }
@@ -112,6 +113,7 @@ impl ComparedRows<'_> {
     // How many of the 64 rows below a place are taken for live: all of them in a dense book, where most rows are, else those that are; one
     // where there are fewer rows below it.
     #[tactic(auto, unfolding(crate::specs::Found::taken_live))]
+    #[inline(always)]
     fn taken_live(self, to: usize) -> u32
         requires { to ≤ length self.uppers.now }
         ensures { result ≡ taken_live self.entry.dense self.entry.uppers.now to }
@@ -127,6 +129,7 @@ impl ComparedRows<'_> {
 
     // Goes through the row at a place. Where the rows' ends are sound a retired row is passed over; elsewhere it is once a row over the
     // quote is found.
+    #[inline(always)]
     fn go_through(self, place: usize, places: &mut [u16], found: Found) -> Found
         requires fits { Fits (rows_of self) (suc place) }
         requires room { Room (rows_of self) (suc place) places.old found.at }
@@ -154,6 +157,7 @@ impl ComparedRows<'_> {
     }
 
     // Goes through the rows below a place down to another, whose ends are sound: down to one over the quote.
+    #[inline(always)]
     fn go_down(self, from: usize, to: usize, places: &mut [u16], found: Found) -> Found
         requires from_le_to { from ≤ to }
         requires fits { Fits (rows_of self) to }
@@ -174,6 +178,7 @@ impl ComparedRows<'_> {
 
     // Whether the quote does not retire the row at a place.
     #[tactic(auto, using(crate::proofs::Comparisons::live_zero, crate::proofs::Comparisons::live_not, crate::proofs::Idling::dead_kept, crate::proofs::Idling::live_kept, crate::proofs::Idling::rest_whole))]
+    #[inline(always)]
     fn is_kept(self, place: usize) -> bool
         requires { Fits (rows_of self) (suc place) }
         ensures { result ≡ not (retires (rows_of self.entry) place) }
@@ -191,6 +196,7 @@ impl ComparedRows<'_> {
 
     // Whether the row at a place is seen to say nothing: the quote does not retire it, and if one over the quote is sought, it is none.
     #[tactic(auto, using(crate::proofs::Idling::idle_kept))]
+    #[inline(always)]
     fn is_idle(self, sought: bool, place: usize) -> bool
         requires { Fits (rows_of self) (suc place) }
         ensures { result ≡ true → Idle (rows_of self.entry) sought place }
@@ -211,6 +217,7 @@ impl ComparedRows<'_> {
 
     // The youngest row from a place on and below another that may say something. In one loop with `go_down_any` a quote costs 1.07 to 1.18
     // times the instructions.
+    #[inline(always)]
     fn next_said(self, sought: bool, from: usize, to: usize) -> Option<usize>
         requires from_le_to { from ≤ to }
         requires fits { Fits (rows_of self) to }
@@ -225,6 +232,7 @@ impl ComparedRows<'_> {
     }
 
     // Goes through the rows below a place down to another, whatever their ends; those that say nothing are passed over.
+    #[inline(always)]
     fn go_down_any(self, from: usize, to: usize, places: &mut [u16], found: Found) -> Found
         requires from_le_to { from ≤ to }
         requires fits { Fits (rows_of self) to }
@@ -244,6 +252,7 @@ impl ComparedRows<'_> {
 
     // Goes through the rows from a place on and below another, which are 64 at most: none where none is live and no retired row counts, and
     // where most are taken for live, one by one only if one of the 64 rows below that place is comparable.
+    #[inline(always)]
     fn go_down_block(self, from: usize, to: usize, places: &mut [u16], found: Found) -> Found
         requires from_le_to { (from ≤ to) × (to ≤ from + 64) }
         requires fits { Fits (rows_of self) to }
@@ -269,6 +278,7 @@ impl ComparedRows<'_> {
     // Finds which of the rows from a place on and below another the quote retires, and the youngest of them over it, by blocks of 64 from
     // the youngest row back. Where the rows' ends are sound no row need be gone through beyond the youngest live one over the quote. The
     // blocks are counted down by hand: a `step_by` would give each block's last row, and the first row of the last block apart from it.
+    #[inline(always)]
     pub fn find_rows(self, from: usize, to: usize, places: &mut [u16]) -> Found
         requires from_le_to { from ≤ to }
         requires fits { Fits (rows_of self) to }

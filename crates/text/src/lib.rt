@@ -92,7 +92,9 @@ fn put_field(n: u32, text: &mut [u8]) -> usize
     put_number(n, &mut text[1..]) + 1
 }
 
-// Lays a line at the start of the text: its letter, its numbers and a newline. Returns how many bytes.
+// Lays a line at the start of the text: its letter, its numbers and a newline. Returns how many bytes. In line, so that a line of two numbers is
+// laid without a loop.
+#[inline(always)]
 pub fn put_line(letter: u8, numbers: &[u32], text: &mut [u8]) -> usize
     requires { 2 + 11 * length numbers.now ≤ length text.old }
     ensures { Laid (line letter numbers.now) text.old result text.new }

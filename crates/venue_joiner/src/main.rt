@@ -2,7 +2,7 @@
 // output. It keeps one piece of each tape at a time.
 #![tactic(auto)]
 
-ghost use Rattle.std.specs.Prelude.{◌≡◌, ◌≤◌, length, IfSome};
+ghost use Rattle.std.specs.Prelude.{◌≡◌, ◌≤◌, length};
 
 use refusals::Refusal;
 use std::env::Env;
@@ -120,21 +120,9 @@ fn meaning(refusal: Refusal) -> &'static str {
 }
 
 // Opens a file. One that cannot be opened is named on the stream of errors.
-fn open<'a, R: Files, E: Write>(
-    files: &R,
-    name: &'a [u8],
-    errors: &mut E,
-) -> Option<Source<'a, R::File>>
-    ensures { IfSome result (λ source. source.end ≡ 0) }
-{
+fn open<R: Files, E: Write>(files: &R, name: &[u8], errors: &mut E) -> Option<R::File> {
     match streams::files::open(files, name) {
-        Ok(file) => Some(Source {
-            file,
-            name,
-            piece: [0; PIECE],
-            end: 0,
-            ended: false,
-        }),
+        Ok(file) => Some(file),
         Err(failure) => {
             say_failure(errors, name, &failure);
             None
@@ -142,7 +130,8 @@ fn open<'a, R: Files, E: Write>(
     }
 }
 
-// Opens both files and joins them. A refusal's number and what it means are said on the stream of errors.
+// Opens both files and joins them. A refusal's number and what it means are said on the stream of errors. The sources are made here, where
+// they stay: one that is handed back is copied, piece and all.
 fn join_named<R: Files, W: Write, E: Write>(
     files: &R,
     first_name: &[u8],
@@ -150,11 +139,25 @@ fn join_named<R: Files, W: Write, E: Write>(
     written: Written,
     outlet: &mut Outlet<W, E>,
 ) {
-    let Some(mut first) = open(files, first_name, &mut outlet.errors) else {
+    let Some(first_file) = open(files, first_name, &mut outlet.errors) else {
         return;
     };
-    let Some(mut second) = open(files, second_name, &mut outlet.errors) else {
+    let Some(second_file) = open(files, second_name, &mut outlet.errors) else {
         return;
+    };
+    let mut first = Source {
+        file: first_file,
+        name: first_name,
+        piece: [0; PIECE],
+        end: 0,
+        ended: false,
+    };
+    let mut second = Source {
+        file: second_file,
+        name: second_name,
+        piece: [0; PIECE],
+        end: 0,
+        ended: false,
     };
     if let Err(refusal) = join_files(&mut first, &mut second, written, outlet) {
         let number = refusal.number();

@@ -82,6 +82,7 @@ fn after_stamp(last: u32, stamp: u32, behind: Glimpse) -> Result<Option<Pair>, R
 
 // The stamped quote that a venue's tape has next, at a place, with its last stamp as given; none at the tape's end.
 #[tactic(auto, using(crate::proofs::Glimpses::nexts), unfolding(crate::specs::VenueTapes::ahead_by, crate::specs::VenueTapes::after_stamp, crate::specs::VenueTapes::ahead, crate::specs::VenueTapes::glimpsed))]
+#[inline(always)]
 pub fn next_pair(tape: &[u8], place: usize, last: u32) -> Result<Option<Pair>, Refusal>
     ensures { ahead result ≡ next tape.now place last }
 {
