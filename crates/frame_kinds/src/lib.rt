@@ -53,21 +53,46 @@ pub const STAMP: u8 = 40;
 
 pub const OPEN: u8 = 48;
 
-// The shape of a kind.
+// The shape of a kind: a decision by ranges, from the lowest kinds up. No `match`: by one over the kinds, or over ranges of them, it is compiled
+// to a table of jumps.
 #[tactic(auto, unfolding(crate::specs::Kinds::shape_of, crate::specs::Kinds::shape_in, crate::specs::Kinds::kinds))]
 pub fn shape_of(kind: u8) -> Shape
     ensures { result ≡ shape_of kind }
 {
-    match kind {
-        1..=MAX_COLUMNS => Shape::Columns,
-        LOOK..=UNWATCH_TWO => Shape::Size,
-        PAIR | PAST => Shape::SizePair,
-        UNPAIR => Shape::Bare,
-        LEAVE..=JOIN_TWO => Shape::SizePosition,
-        PAIR_LEAVE | PAIR_JOIN | STAMP => Shape::Position,
-        OPEN => Shape::Settings,
-        _ => Shape::Unknown,
+    if kind == 0 {
+        return Shape::Unknown;
     }
+    if kind <= MAX_COLUMNS {
+        return Shape::Columns;
+    }
+    if kind < LOOK {
+        return Shape::Unknown;
+    }
+    if kind <= UNWATCH_TWO {
+        return Shape::Size;
+    }
+    if kind == UNPAIR {
+        return Shape::Bare;
+    }
+    if kind <= PAST {
+        return Shape::SizePair;
+    }
+    if kind < LEAVE {
+        return Shape::Unknown;
+    }
+    if kind <= JOIN_TWO {
+        return Shape::SizePosition;
+    }
+    if kind <= PAIR_JOIN {
+        return Shape::Position;
+    }
+    if kind == STAMP {
+        return Shape::Position;
+    }
+    if kind == OPEN {
+        return Shape::Settings;
+    }
+    Shape::Unknown
 }
 
 // Whether a kind has this shape.
