@@ -16,11 +16,11 @@ use text::put_line;
 // Where the gathering stands: the place on the tape, how many quotes were taken, whether one had another number of columns, and once it
 // is over how it ended.
 #[derive(Clone, Copy)]
-struct Gathered {
-    place: usize,
-    count: u32,
-    mixed: bool,
-    end: Option<Result<(), Refusal>>,
+pub struct Gathered {
+    pub place: usize,
+    pub count: u32,
+    pub mixed: bool,
+    pub end: Option<Result<(), Refusal>>,
 }
 
 impl Gathered {

@@ -7,7 +7,7 @@ pub const LONGEST_DAY: u32 = 4096;
 // A day: how many columns its quotes have, in which directions, how many quotes there are, and the table that holds them, the quote at
 // position 1 first.
 #[derive(Clone, Copy)]
-pub(crate) struct Day<'a> {
+pub struct Day<'a> {
     pub dimensions: usize,
     pub directions: u32,
     pub count: usize,

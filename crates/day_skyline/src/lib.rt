@@ -10,8 +10,7 @@ ghost use Rattle.refusals.specs.Refusals.{number_of};
 ghost use Rattle.day_skyline.specs.Sheet.{sheet_of, Sheeted};
 ghost use Rattle.day_skyline.specs.Finding.{loan_answer, Written, start_of, over_in, Inside, cut, Apart, Thinned, Halved, merged, AtFront, Part, sheet_from};
 
-use day::Day;
-pub use day::LONGEST_DAY;
+pub use day::{Day, LONGEST_DAY};
 use dominance::compare_unrolled;
 use head::Head;
 use refusals::Refusal;

@@ -6,7 +6,7 @@ mod reader;
 
 pub use frame_kinds::{
     JOIN, JOIN_TWO, LEAVE, LEAVE_TWO, LOOK, OPEN, PAIR, PAIR_JOIN, PAIR_LEAVE, PAST, UNPAIR,
-    UNWATCH, UNWATCH_TWO, WATCH, WATCH_TWO, known_length,
+    UNWATCH, UNWATCH_TWO, WATCH, WATCH_TWO, body_length, known_length,
 };
 pub use places::read_next;
 pub use reader::read_at;

@@ -34,7 +34,7 @@ pub fn first<T>(buffer: &mut [T], count: usize) -> &mut [T]
 }
 
 // The four tables.
-#[derive(Drop)]
+#[derive(Clone, Copy)]
 pub struct Tables {
     pub columns: [u32; COLUMN_CELLS],
     pub positions: [u32; PLACES],
@@ -81,7 +81,7 @@ impl Tables {
 }
 
 // The head for the next call, the records, the tables, the output, the list that a look writes, and how much of these is lent.
-#[derive(Drop)]
+#[derive(Clone, Copy)]
 pub struct State {
     pub head: Head,
     pub records: [Watch; 8],
