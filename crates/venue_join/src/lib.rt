@@ -6,7 +6,6 @@ ghost use Rattle.venue_tapes.specs.VenueTapes.{ahead};
 ghost use Rattle.venue_join.specs.Join.{venue, joint_of, join_at, passed, joint_in, part_in, answer_in, Joined};
 
 use refusals::Refusal;
-use std::mem;
 use venue_tapes::{Pair, next_pair};
 
 // Where a tape stands: its reading place, and the stamp of its last pair, 0 at first.
@@ -57,30 +56,52 @@ pub fn join_at(first: &[u8], second: &[u8], one: Venue, two: Venue) -> Result<Op
     Ok(choose(next_first, next_second))
 }
 
-// The part of a tape from where it stands up to a place where it stands then.
+// The part of a tape that is passed, from where it stood up to where it stands behind its pair.
 #[tactic(auto, unfolding(crate::specs::Join::passed))]
-fn pass<'a>(tape: &'a [u8], venue: &mut Venue, behind: Venue) -> &'a [u8]
-    requires { (venue.old.place ≤ behind.place) × (behind.place ≤ length tape.now) }
-    ensures part { result.now ≡ passed tape.now venue.old behind }
-    ensures moved { venue.new ≡ behind }
+fn pass<'a>(tape: &'a [u8], before: Venue, behind: Venue) -> &'a [u8]
+    requires { (before.place ≤ behind.place) × (behind.place ≤ length tape.now) }
+    ensures { result.now ≡ passed tape.now before behind }
 {
-    let before = mem::replace(venue, behind);
     &tape[before.place..behind.place]
 }
 
 // The next stamped quote of two tapes, both its frames, as a part of the tape that it came from; that tape's place and last stamp are
-// moved. At both ends there is none, and then, as by a refusal, nothing is moved.
+// moved. At both ends there is none, and then, as by a refusal, nothing is moved. Places and last stamps are lent as numbers, each by itself:
+// that is what the join promises its callers to take.
 pub fn join<'a>(
     first: &'a [u8],
     second: &'a [u8],
-    one: &mut Venue,
-    two: &mut Venue,
+    first_place: &mut usize,
+    first_last: &mut u32,
+    second_place: &mut usize,
+    second_last: &mut u32,
 ) -> Result<Option<&'a [u8]>, Refusal>
-    ensures { Joined first.now second.now one.old two.old (part_in result) (answer_in result) one.new two.new }
+    ensures { Joined first.now second.now
+        (venue first_place.old first_last.old)
+        (venue second_place.old second_last.old)
+        (part_in result) (answer_in result)
+        (venue first_place.new first_last.new)
+        (venue second_place.new second_last.new) }
 {
-    match join_at(first, second, *one, *two)? {
-        Some(Step::First(behind)) => Ok(Some(pass(first, one, behind))),
-        Some(Step::Second(behind)) => Ok(Some(pass(second, two, behind))),
+    let one = Venue {
+        place: *first_place,
+        last: *first_last,
+    };
+    let two = Venue {
+        place: *second_place,
+        last: *second_last,
+    };
+    match join_at(first, second, one, two)? {
+        Some(Step::First(behind)) => {
+            *first_place = behind.place;
+            *first_last = behind.last;
+            Ok(Some(pass(first, one, behind)))
+        }
+        Some(Step::Second(behind)) => {
+            *second_place = behind.place;
+            *second_last = behind.last;
+            Ok(Some(pass(second, two, behind)))
+        }
         None => Ok(None),
     }
 }

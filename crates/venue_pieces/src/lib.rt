@@ -84,7 +84,14 @@ fn join_one(joiner: &mut Joiner, first: &[u8], second: &[u8], written: Written, 
     ensures { JoinedOne first.now second.now written joiner.old joiner.new
         out.old out.new }
 {
-    match join(first, second, &mut joiner.one, &mut joiner.two) {
+    match join(
+        first,
+        second,
+        &mut joiner.one.place,
+        &mut joiner.one.last,
+        &mut joiner.two.place,
+        &mut joiner.two.last,
+    ) {
         Ok(Some(part)) => {
             let bytes = &part[left_out(written, part.len())..];
             gather(bytes, joiner.used, out);

@@ -1,4 +1,5 @@
 -- `join` meets its contract: the part is what the chosen tape was moved past.
+use mathlib.Core.Path.{refl}
 use Rattle.venue_join.proofs.Joins.{first_bounds, second_bounds, handed_first, handed_second, handed_none, handed_refusal}
 use Rattle.std.proofs.Common.{rules}
 use Rattle.venue_join.proofs.join.Goals as goal
@@ -13,11 +14,11 @@ pub pass-requires-in-Some-Second : goal.pass-requires-in-Some-Second
 pass-requires-in-Some-Second c = second_bounds _ _ _ _ c.join_at.ensures c.in_ok-behind.was c.in-Some-Second.is c.in-Some-Second.field-0-is
 
 pub returns-in-Some-First : goal.returns-in-Some-First
-returns-in-Some-First c = handed_first _ _ _ _ c.join_at.ensures c.in_ok-behind.was c.in-Some-First.is c.in-Some-First.field-0-is c.pass.ensures.part c.pass.ensures.moved
+returns-in-Some-First c = handed_first _ _ _ _ c.join_at.ensures c.in_ok-behind.was c.in-Some-First.is c.in-Some-First.field-0-is c.pass.ensures refl
 
 pub returns-in-Some-Second : goal.returns-in-Some-Second
 returns-in-Some-Second c =
-    handed_second _ _ _ _ c.join_at.ensures c.in_ok-behind.was c.in-Some-Second.is c.in-Some-Second.field-0-is c.pass-in-Some-Second.ensures.part c.pass-in-Some-Second.ensures.moved
+    handed_second _ _ _ _ c.join_at.ensures c.in_ok-behind.was c.in-Some-Second.is c.in-Some-Second.field-0-is c.pass-in-Some-Second.ensures refl
 
 pub returns-in-None : goal.returns-in-None
 returns-in-None c = handed_none _ _ _ _ c.join_at.ensures c.in_ok-behind.was c.in-None.is
